@@ -128,14 +128,14 @@ impl Awaited {
     }
 }
 
-/// The known received count, where this many insertions are known to be received too.
+/// Returns the known received count, if this many insertions are known to be received too.
 fn known_with(known: usize, required: usize) -> usize
     ensures { result ≡ known_with known required }
 {
     if known < required { required } else { known }
 }
 
-/// The index of the first section of a stream.
+/// Returns the index of the first section of a stream.
 fn first_on(sent: &[Sent], stream: u64) -> Option<usize>
     ensures { result ≡ position (λ s. nat_eq s.stream stream) sent.now }
 {

@@ -62,7 +62,7 @@ impl Model for Arrived {
 }
 
 impl Arrived {
-    /// Whether it can be read now: it was not tried yet, or what it waits for has come.
+    /// Returns whether it can be read now: it was not tried yet, or what it waits for has come.
     fn is_due(&self, inserted: usize) -> bool
         ensures { result ≡ is_due inserted self.now }
     {
@@ -72,14 +72,14 @@ impl Arrived {
         }
     }
 
-    /// Whether it waits.
+    /// Returns whether it waits.
     fn is_waiting(&self) -> bool
         ensures { result ≡ is_waiting self.now }
     {
         self.waits_for.is_some()
     }
 
-    /// Whether it waits on this stream.
+    /// Returns whether it waits on this stream.
     fn waits_on(&self, stream: u64) -> bool
         ensures { result ≡ waits_on stream self.now }
     {
@@ -169,7 +169,7 @@ impl Observer {
         self.decoder_stream.receive(bytes)
     }
 
-    /// A field section of a stream comes.
+    /// Receives a field section of a stream.
     pub fn receive_section(&mut self, stream: u64, section: &[u8]) -> Result<(), AllocError>
         ensures { OnOk result (self.new ≡ with_section self.old stream section.now) }
     {
@@ -182,7 +182,7 @@ impl Observer {
         Ok(())
     }
 
-    /// Reading of a stream is given up: its sections that are not shown are dropped.
+    /// Gives up reading a stream: drops its sections that are not shown.
     pub fn cancel(&mut self, stream: u64)
         ensures { self.new ≡ without_stream self.old stream }
     {
@@ -200,7 +200,7 @@ impl Observer {
         }
     }
 
-    /// The index of the first section that can be read now.
+    /// Returns the index of the first section that can be read now.
     fn due(&self) -> Option<usize>
         ensures { result ≡ position (λ a. is_due (insert_count self.now.table) a) self.now.arrived }
     {
@@ -288,7 +288,7 @@ impl Observer {
         Ok(Shown::BlockedUntil { stream, required })
     }
 
-    /// Whether a section of this stream may wait (RFC 9204, section 2.1.2).
+    /// Returns whether a section of this stream may wait (RFC 9204, section 2.1.2).
     fn may_wait(&self, stream: u64) -> bool
         ensures { result ≡ may_wait self.now.limit self.now.arrived stream }
     {
@@ -363,21 +363,21 @@ impl Observer {
     }
 }
 
-/// Whether a section waits on this stream.
+/// Returns whether a section waits on this stream.
 fn any_waits_on(arrived: &[Arrived], stream: u64) -> bool
     ensures { result ≡ list_any (λ a. waits_on stream a) arrived.now }
 {
     arrived.iter().any(|a| a.waits_on(stream))
 }
 
-/// Whether a section waits, and none of these on its stream.
+/// Returns whether a section waits, and none of these on its stream.
 fn is_last_on_its_stream(first: &Arrived, more: &[Arrived]) -> bool
     ensures { result ≡ (is_waiting first.now && not (list_any (λ a. waits_on first.now.stream a) more.now)) }
 {
     first.is_waiting() && !any_waits_on(more, first.stream)
 }
 
-/// How many streams have a section that waits.
+/// Returns how many streams have a section that waits.
 #[tactic(auto, unfolding(crate::specs::Showing::blocked_streams))]
 fn blocked_streams(arrived: &[Arrived]) -> usize
     ensures { result ≡ blocked_streams arrived.now }
@@ -420,7 +420,7 @@ fn no_decoder_instruction(offset: usize, error: ParseError) -> Result<Option<Sho
     }
 }
 
-/// An instruction that is refused, unless memory was.
+/// Returns an instruction that is refused, or out of memory.
 fn not_applied(offset: usize, line: EncoderLine, error: DecoderError) -> Result<Shown, NoMemory>
     ensures { result ≡ not_applied offset line error }
 {

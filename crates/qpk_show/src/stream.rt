@@ -39,7 +39,7 @@ impl Model for Stream {
 }
 
 impl Stream {
-    /// A stream of which nothing came.
+    /// Returns a stream of which nothing came.
     pub fn new(alloc: Global) -> Stream
         ensures { result ≡ record { received = []; taken = 0; is_refused = false } }
     {
@@ -50,14 +50,14 @@ impl Stream {
         }
     }
 
-    /// How many bytes were taken: the offset of the next line, from 0.
+    /// Returns how many bytes were taken: the offset of the next line, from 0.
     pub fn taken(&self) -> usize
         ensures { result ≡ self.now.taken }
     {
         self.taken
     }
 
-    /// The bytes that are not taken, if some are and they are not refused.
+    /// Returns the bytes that are not taken, if some are and they are not refused.
     pub fn cut(&self) -> Option<Cut>
         ensures { result ≡ cut_of self.now }
     {
