@@ -13,7 +13,7 @@ fn split_at_byte(bytes: &[u8], byte: u8) -> Option<(&[u8], &[u8])>
     Some((&bytes[..index], &bytes[index + 1..]))
 }
 
-/// The index of the first such byte.
+/// Returns the index of the first such byte.
 fn index_of(bytes: &[u8], byte: u8) -> Option<usize>
     ensures { result ≡ position (λ b. b == byte) bytes.now }
 {
@@ -29,7 +29,7 @@ pub fn split_line(text: &[u8]) -> (&[u8], &[u8])
     split_at_byte(text, b'\n').unwrap_or((text, &[]))
 }
 
-/// The name and the value of a line, separated by its first TAB.
+/// Returns the name and the value of a line, separated by its first TAB.
 pub fn split_field(line: &[u8]) -> Option<(&[u8], &[u8])>
     ensures { MatchOption result (field_of_line line.now ≡ None) (λ parts.
         field_of_line line.now ≡ Some (record { name = parts.0.now; value = parts.1.now })) }

@@ -97,7 +97,7 @@ pub fn read_lists(alloc: Global, text: &[u8]) -> Result<Vec<Vec<HeaderField>>, L
     Ok(lists.finish()?)
 }
 
-/// What the line of this number is.
+/// Returns what the line of this number is.
 fn read_line(alloc: Global, line: &[u8], number: usize) -> Result<Line, ListFault>
     ensures { ReadsLine result number (meaning_of_line line.now) }
 {
@@ -112,7 +112,7 @@ fn read_line(alloc: Global, line: &[u8], number: usize) -> Result<Line, ListFaul
 }
 
 impl Lists {
-    /// No lists.
+    /// Returns an empty list.
     fn new(alloc: Global) -> Lists
         ensures { result ≡ record { ended = []; open_list = [] } }
     {

@@ -117,7 +117,7 @@ impl From<dynamic::Error> for Fault {
     }
 }
 
-/// The recording of the lists of a text in QIF: for each list a record of stream 0 with the instructions of the
+/// Returns the recording of the lists of a text in QIF: for each list a record of stream 0 with the instructions of the
 /// encoder, if there are any, and one of the list's stream with its block.
 pub fn encode_lists(
     alloc: Global,
@@ -135,8 +135,8 @@ pub fn encode_lists(
     Ok(recording)
 }
 
-/// The lists of a recording, in QIF, in the order of their streams' numbers, and of one stream in the order of its
-/// records. A block that waits for insertions is kept, and read once they came. An empty recording has no list.
+/// Returns the lists of a recording, in QIF, in the order of their streams' numbers, and of one stream in the order of
+/// its records. A block that waits for insertions is kept, and read once they came. An empty recording has no list.
 pub fn decode_records(
     alloc: Global,
     settings: DecoderSettings,

@@ -46,7 +46,7 @@ pub(super) struct Receiver {
 }
 
 impl Receiver {
-    /// An end to which nothing came.
+    /// Returns an end that has received nothing.
     pub(super) fn new(alloc: Global, settings: DecoderSettings) -> Result<Receiver, Fault> {
         let mut table = DynamicTable::new(alloc);
         table.set_agreed_max(settings.capacity)?;
@@ -62,7 +62,7 @@ impl Receiver {
         })
     }
 
-    /// The record of this number comes.
+    /// Receives the record of this number.
     pub(super) fn receive(
         &mut self,
         alloc: Global,
@@ -107,7 +107,7 @@ impl Receiver {
         Ok(())
     }
 
-    /// A block comes.
+    /// Receives a block.
     fn receive_block(
         &mut self,
         alloc: Global,
@@ -152,7 +152,7 @@ impl Receiver {
         Ok(self.waiting.push(block)?)
     }
 
-    /// All lists in the order of their streams; or what is still missing.
+    /// Returns all lists in the order of their streams; or what is still missing.
     pub(super) fn finish(self) -> Result<Vec<Received>, Fault> {
         let Receiver {
             pending,
@@ -177,7 +177,7 @@ fn sort(lists: &mut Vec<Received>) -> Result<(), AllocError> {
     lists.sort_by_key(|list| (list.stream, list.number))
 }
 
-/// Why the record of this number is refused.
+/// Returns why the record of this number is refused.
 fn refusal(number: usize, e: DecoderError) -> Fault {
     match e {
         DecoderError::Memory => Fault::Memory,

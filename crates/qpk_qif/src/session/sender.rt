@@ -18,7 +18,7 @@ pub(super) struct Sender {
 }
 
 impl Sender {
-    /// An end that sent nothing but its capacity, where that is above 0.
+    /// Returns an end that sent nothing but its capacity, if that is above 0.
     pub(super) fn new(
         alloc: Global,
         settings: EncoderSettings,
