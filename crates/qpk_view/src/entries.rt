@@ -12,7 +12,7 @@ pub(crate) struct Entry<'a> {
     pub(crate) field: &'a HeaderField,
 }
 
-/// The live entries of a table, the newest first.
+/// Returns the live entries of a table, the newest first.
 pub(crate) fn live_entries(table: &ReceivedTable) -> LiveEntries<'_> {
     LiveEntries {
         table,

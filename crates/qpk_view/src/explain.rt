@@ -68,7 +68,7 @@ fn read_text(alloc: Global, text: &[u8]) -> Result<Vec<u8>, Fault> {
     }
 }
 
-/// The fault of a text that is not hexadecimal.
+/// Returns the fault of a text that is not hexadecimal.
 fn no_digits(alloc: Global) -> Result<Fault, Fault> {
     Ok(Fault::Input(String::from_str(alloc, "the bytes are not hexadecimal")?))
 }

@@ -86,7 +86,7 @@ fn onlooker(alloc: Global, settings: Settings) -> Result<Observer, Fault> {
     }
 }
 
-/// The other end.
+/// Returns the other end.
 fn other(end: End) -> End {
     match end {
         End::Client => End::Server,
