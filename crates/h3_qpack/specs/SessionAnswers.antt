@@ -1,4 +1,4 @@
--- What the session theorem says of the answers of the code.
+-- What the session theorem says of the outcomes of the code.
 use Rattle.std.specs.Prelude.{◌≡◌, ◌<◌, ℕ, List, [], ◌∷◌, ◌++◌, Some, Ok, Err}
 use Rattle.qpack_spec.specs.Session as spec
 use Rattle.qpack_spec.specs.Session.{Session, Run, initial_session}
@@ -12,22 +12,22 @@ use Rattle.qpack_codec.specs.declared.error.DecoderError.TheVariants as decoder
 use Rattle.h3_qpack.specs.declared.session.Outcome.{Outcome}
 use Rattle.h3_qpack.specs.declared.session.Outcome.TheVariants as outcome
 
--- no instruction is refused: a delivery to the decoder may want memory, and one to the encoder is heard
+-- no instruction is refused: a delivery to the decoder may run out of memory, and one to the encoder is heard
 abbrev pub IsUnrefused : Outcome → Type 0
 IsUnrefused (outcome.Delivered (Err e)) = e ≡ decoder.Memory
 IsUnrefused (outcome.Heard (Err e)) = ⊥
 IsUnrefused o = Unit {0}
 
--- the error tells the required insert count that was answered by the encode of the stream's next block, which exceeds
--- the insertions received
+-- the error reports the required insert count that the encode of the stream's next block returned, which exceeds the
+-- insertions received
 pub record WaitsFor (events : List (spec.Event × spec.Outcome)) (stream received : ℕ) (e : DecoderError) : Type 0 where
   pub encode : AnsweredEncode
   pub is_next : next_encode stream events ≡ Some encode
   pub exceeds : received < encode.required
   pub tells : e ≡ decoder.MissingRefs encode.required
 
--- a decode behind these events, which lead to v, answers exactly the fields that were handed to the encode of its
--- block, with their size and whether any entry is required; or it wants memory, or waits
+-- a decode after these events, which lead to v, returns exactly the fields that were passed to the encode of its block,
+-- with their size and whether any entry is required; or it runs out of memory, or waits
 abbrev pub IsExact : List (spec.Event × spec.Outcome) → Session → spec.Event → Outcome → Type 0
 IsExact events v (spec.Decode s) (outcome.Decoded (Ok d)) =
     AnswersFields events s (fields_in d.fields.items) d.mem_size d.dyn_ref
@@ -35,13 +35,13 @@ IsExact events v (spec.Decode s) (outcome.Decoded (Err decoder.Memory)) = Unit {
 IsExact events v (spec.Decode s) (outcome.Decoded (Err e)) = WaitsFor events s (insert_count v.decoder) e
 IsExact events v e o = Unit {0}
 
--- whatever events led to the session before it
+-- the outcome is exact after any events that led to the session before it
 abbrev pub IsExactBehind : SessionView → spec.Event → Outcome → Type 0
 IsExactBehind old e o =
     (capacity maximum limit : ℕ) (events : List (spec.Event × spec.Outcome)) (v : Session)
     → Reaches old capacity maximum limit events v → IsExact events v e o
 
--- each answer of a run is so in the session that those before it led to
+-- each outcome of a run is exact in the session that those before it led to
 abbrev pub AreExact : ℕ → ℕ → ℕ → List (spec.Event × spec.Outcome) → List (spec.Event × spec.Outcome) → List Outcome
     → Type 0
 AreExact capacity maximum limit done [] [] = Unit {0}

@@ -11,8 +11,8 @@ use Rattle.qpack_codec.specs.declared.error.EncoderError.TheVariants as encoder
 use Rattle.h3_qpack.specs.declared.session.Outcome.{Outcome}
 use Rattle.h3_qpack.specs.declared.session.Outcome.TheVariants as outcome
 
--- a decode may: in the stream's oldest undecoded block a line, or a string whose payload is not empty, stands whole
--- behind a prefix
+-- a decode may: in the stream's oldest undecoded block a prefix is followed by a whole line, or by a string whose
+-- payload is not empty
 pub record AsksToDecode (s : SessionView) (number : ℕ) : Type 0 where
   pub bytes : List ℕ
   pub is_next : HasBytes (oldest_undecoded (stream_at s.streams number)) bytes
@@ -25,9 +25,8 @@ AsksAtDecoder s =
     (0 < s.decoder.unreported)
     ⊎ AsksToTake s.decoder.table (drop s.encoder_stream_taken (take s.encoder_stream_delivered s.encoder_stream))
 
--- want of memory is answered only where memory is asked for: by these two, by a capacity that the encoder's table
--- takes, never by a delivery to the encoder, and by any other event that is not skipped, since each of them writes
--- bytes
+-- out of memory is returned only if memory is asked for: by these two, by a capacity that the encoder's table takes,
+-- never by a delivery to the encoder, and by any other event that is not skipped, since each of them writes bytes
 abbrev pub IsAskedFor : SessionView → SessionView → spec.Event → Outcome → Type 0
 IsAskedFor old new (spec.Decode number) (outcome.Decoded (Err decoder.Memory)) = AsksToDecode old number
 IsAskedFor old new event (outcome.Delivered (Err decoder.Memory)) = AsksAtDecoder new

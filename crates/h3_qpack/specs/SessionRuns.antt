@@ -11,19 +11,19 @@ use Rattle.h3_qpack.specs.SessionStarts.{start_refusal_of}
 use Rattle.h3_qpack.specs.declared.session.Event.{Event}
 use Rattle.h3_qpack.specs.declared.session.Outcome.{Outcome}
 
--- the steps are these events, each with what it answered, which is of its kind
+-- the steps are these events, each with its outcome, which is of its kind
 abbrev pub AreAnswered : List Event → List Outcome → List (spec.Event × spec.Outcome) → Type 0
 AreAnswered [] [] [] = Unit {0}
 AreAnswered (e ∷ es) (o ∷ os) (step ∷ steps) =
     (step.0 ≡ event_of e) × IsAnswerTo (event_of e) o × Answers o step.1 × AreAnswered es os steps
 AreAnswered es os steps = ⊥
 
--- the headline: what the events answered, each in its kind, is what was handed
+-- the headline: the outcomes of the events, each of its kind, are what was passed
 abbrev pub AnswerWhatWasHanded : List Event → List Outcome → Type 0
 AnswerWhatWasHanded events outcomes =
     (steps : List (spec.Event × spec.Outcome)) × AreAnswered events outcomes steps × AnswersWhatWasHanded steps
 
--- events, each with its answer, lead from the beginning to a session that is shown, and P holds of it
+-- events, each with its outcome, lead from the beginning to a session that is shown, and P holds of it
 pub record Runs (capacity maximum limit : ℕ) (events : List Event) (outcomes : List Outcome) (s : SessionView)
     (P : List (spec.Event × spec.Outcome) → Session → Type 0) : Type 0 where
   pub steps : List (spec.Event × spec.Outcome)
@@ -44,7 +44,7 @@ pub record Continues (events : List Event) (outcomes : List Outcome) (new : Sess
   pub shows : Shows new session
   pub run : spec.Run v steps session
 
--- all events were done, and their outcomes stand behind those before
+-- all events were performed, and their outcomes come after the earlier ones
 abbrev pub PerformsAll : SessionView → SessionView → List Event → List Outcome → List Outcome → Type 0
 PerformsAll old new events outcomes_old outcomes_new =
     (more : List Outcome) × (outcomes_new ≡ outcomes_old ++ more)

@@ -1,4 +1,4 @@
--- How a session begins, and what it tells of its blocks.
+-- How a session begins, and what it shows of its blocks.
 use Rattle.std.specs.Prelude.{◌≡◌, ℕ, List, Option, Some, None, Result, Ok, Err}
 use Rattle.std.specs.Borrow.{Bor}
 use Rattle.qpack_base.specs.Refusals.{IsRefusedFor}
@@ -7,7 +7,7 @@ use Rattle.qpack_table.specs.declared.dynamic.Error.{Error}
 use Rattle.qpack_table.specs.declared.dynamic.Error.TheVariants.{MaximumTableSizeTooLarge, MaxBlockedStreamsTooLarge}
 use Rattle.h3_qpack.specs.Sessions.{StoredBlock, SessionView, Shows}
 
--- why a session does not begin, as an error tells it
+-- why a session does not begin, as an error reports it
 abbrev pub start_refusal_of : Error → Option StartRefusal
 start_refusal_of MaximumTableSizeTooLarge = Some CapacityTooLarge
 start_refusal_of MaxBlockedStreamsTooLarge = Some LimitTooLarge

@@ -1,4 +1,4 @@
--- A session as the code holds it, and how it stands to the session of the definitions (RFC 9204, section 2).
+-- A session as the code keeps it, and how it shows the session of the definitions (RFC 9204, section 2).
 use Rattle.std.specs.Prelude.{◌≡◌, ◌<◌, ◌≤◌, ◌^◌, ◌⊎◌, ◌++◌, [], ◌∷◌, ℕ, Bool, true, not, nat_eq, nat_le, nat_lt}
 use Rattle.std.specs.Prelude.{if◌then◌else◌, IsSome}
 use Rattle.std.specs.Prelude.{List, map, filter, take, length, Option, None, Some, Ok, Err}
@@ -47,7 +47,7 @@ HasBytes (Some b) bytes = bytes ≡ b.bytes
 abbrev pub StoredStream : Type 0
 StoredStream = RequestStream StoredBlock
 
--- so many of a stream's blocks are decoded, and of these so many require an entry
+-- this many of a stream's blocks are decoded, and this many of these require an entry
 pub record CountsDecoded (blocks : List StoredBlock) (decoded dynamic : ℕ) : Type 0 where
   pub within : decoded ≤ length blocks
   pub dynamic_are : dynamic ≡ length (filter stored_requires_entry (take decoded blocks))
@@ -99,12 +99,12 @@ pub record WritesBlock (number : ℕ) (fields : List Field) (encoder encoder' : 
   pub block_fits : length bytes < 2 ^ 63
   pub written_fits : length written' < 2 ^ 63
 
--- none was: nothing changed, or the block was given up behind some of the fields
+-- no block was written: nothing changed, or the block was given up after some of the fields
 pub record GivesUp (fields : List Field) (encoder encoder' : Table) (written written' : List ℕ) : Type 0 where
   pub gives_up : ((encoder' ≡ encoder) × (written' ≡ written)) ⊎ GivesUpBlock fields encoder encoder' written written'
   pub written_fits : length written' < 2 ^ 63
 
--- the same among the streams
+-- a block was written among the streams
 pub record WritesStream (number : ℕ) (fields : List Field) (encoder encoder' : Table) (written written' : List ℕ)
     (old new : List (ℕ × StoredStream)) (required : ℕ) : Type 0 where
   pub stream : StoredStream
@@ -126,7 +126,8 @@ pub record SessionView : Type 0 where
   pub decoder_stream_taken : ℕ
   pub streams : List (ℕ × StoredStream)
 
--- it shows a session of the definitions, which knows besides which fields were handed to the encoder: all else is equal
+-- it shows a session of the definitions, which has besides the fields that were passed to the encoder: all else is
+-- equal
 pub record Shows (s : SessionView) (v : Session) : Type 0 where
   pub encoder : v.encoder ≡ s.encoder
   pub decoder : v.decoder ≡ s.decoder.table
@@ -139,8 +140,8 @@ pub record Shows (s : SessionView) (v : Session) : Type 0 where
   pub decoder_stream_taken : v.decoder_stream_taken ≡ s.decoder_stream_taken
   pub streams : (number : ℕ) → stream_at s.streams number ≡ stored_stream (stream_at v.streams number)
 
--- it shows a session that these events with their answers lead to, from the beginning of this capacity, which is within
--- this maximum capacity, and of this limit
+-- it shows a session that these events with their outcomes lead to, from the beginning of this capacity, which is
+-- within this maximum capacity, and of this limit
 pub record Reaches (s : SessionView) (capacity maximum limit : ℕ) (events : List (spec.Event × spec.Outcome))
     (v : Session) : Type 0 where
   pub within : capacity ≤ maximum
@@ -156,7 +157,7 @@ pub record IsReached (s : SessionView) : Type 0 where
   pub session : Session
   pub reaches : Reaches s capacity maximum limit events session
 
--- ---- events and what they answer
+-- ---- events and their outcomes
 
 -- an event of the definitions
 abbrev pub event_of : Event → spec.Event
@@ -168,18 +169,18 @@ event_of (event.Ack number) = spec.Acknowledge number
 event_of (event.Cancel number) = spec.Cancel number
 event_of (event.SetCapacity capacity) = spec.ChangeCapacity capacity
 
--- an error tells why a stream is refused: its fault, or the refusal of a table
+-- an error reports why a stream is refused: its fault, or the refusal of a table
 abbrev pub TellsStreamFault : Option FormFault → Option TableRefusal → spec.StreamFault → Type 0
 TellsStreamFault told_fault told_refusal (spec.BadBytes fault) = told_fault ≡ Some fault
 TellsStreamFault told_fault told_refusal (spec.BadInstruction refusal) = told_refusal ≡ Some refusal
 
--- an error tells why a block was not decoded
+-- an error reports why a block was not decoded
 abbrev pub TellsUndecoded : DecoderError → spec.Outcome → Type 0
 TellsUndecoded e (spec.MissingReferences required) = e ≡ decoder.MissingRefs required
 TellsUndecoded e (spec.BadBlock fault) = Tells e fault
 TellsUndecoded e o = ⊥
 
--- the answer is this one of the definitions; want of memory is the same everywhere
+-- the outcome is this one of the definitions; out of memory is the same everywhere
 abbrev pub Answers : Outcome → spec.Outcome → Type 0
 Answers (outcome.Encoded (Ok required)) o = o ≡ spec.Encoded required
 Answers (outcome.Encoded (Err e)) o = (e ≡ encoder.Memory) × (o ≡ spec.NoMemory)
@@ -205,7 +206,7 @@ Answers (outcome.CapacitySet (Err e)) o =
     (refusal : TableRefusal) × (o ≡ spec.CapacityRefused refusal) × (hearing.refusal_of e ≡ Some refusal)
 Answers (outcome.Skipped reason) o = o ≡ spec.Skipped reason
 
--- the answer is one of the event's kind, or it tells why the event is skipped
+-- the outcome is one of the event's kind, or it says why the event is skipped
 abbrev pub IsAnswerTo : spec.Event → Outcome → Type 0
 IsAnswerTo event (outcome.Skipped reason) = Unit {0}
 IsAnswerTo (spec.Encode number fields) (outcome.Encoded r) = Unit {0}
@@ -217,7 +218,7 @@ IsAnswerTo (spec.Cancel number) (outcome.Cancelled r) = Unit {0}
 IsAnswerTo (spec.ChangeCapacity capacity) (outcome.CapacitySet r) = Unit {0}
 IsAnswerTo event result = ⊥
 
--- from a session that is shown an event leads, with this answer of its kind, to a session that is shown behind it
+-- from a session that is shown an event leads, with this outcome of its kind, to a session that is shown after it
 pub record Goes (new : SessionView) (event : spec.Event) (result : Outcome) (v : Session) : Type 0 where
   pub answer : spec.Outcome
   pub next : Session
@@ -226,13 +227,13 @@ pub record Goes (new : SessionView) (event : spec.Event) (result : Outcome) (v :
   pub shows : Shows new next
   pub passes : Passes v event answer next
 
--- the same of whichever session is shown before it
+-- an event leads so from every session that is shown before it
 abbrev pub Follows : SessionView → SessionView → spec.Event → Outcome → Type 0
 Follows old new event result = (v : Session) → Shows old v → Goes new event result v
 
 -- ---- the headline
 
--- behind the events so far and this one with its answer, P holds of a session that is shown
+-- after the events so far and this one with its outcome, P holds of a session that is shown
 pub record Holds (new : SessionView) (capacity maximum limit : ℕ) (events : List (spec.Event × spec.Outcome))
     (event : spec.Event) (result : Outcome) (P : List (spec.Event × spec.Outcome) → Session → Type 0) : Type 0 where
   pub answer : spec.Outcome
@@ -241,7 +242,7 @@ pub record Holds (new : SessionView) (capacity maximum limit : ℕ) (events : Li
   pub reaches : Reaches new capacity maximum limit (events ++ (event, answer) ∷ []) next
   pub holds : P (events ++ (event, answer) ∷ []) next
 
--- whatever capacities, limit, events and session reached the session before it
+-- P holds so for any capacities, limit, events and session that reached the session before it
 abbrev pub Keeps : SessionView → SessionView → spec.Event → Outcome
     → (ℕ → ℕ → ℕ → List (spec.Event × spec.Outcome) → Session → Type 0) → Type 0
 Keeps old new event result P =

@@ -1,5 +1,5 @@
-//! QPACK, the header compression of HTTP/3 (RFC 9204). A user lists this crate alone: it hands on the
-//! modules of the crates below under their names.
+//! QPACK, the header compression of HTTP/3 (RFC 9204). Depend on this crate alone: it re-exports the modules of the
+//! crates below under their names.
 #![tactic(auto)]
 
 pub mod session;

@@ -1,5 +1,5 @@
 //! Two ends of a connection, with both streams between them and the blocks of each request stream (RFC 9204, section
-//! 2). Events are given one by one, and each answers what the end that it goes to answers.
+//! 2). Pass events one by one; each returns what the call of its end returns.
 
 ghost use Rattle.std.specs.Prelude.{◌≡◌, ◌<◌, ◌≤◌, ◌⊎◌, ◌^◌, [], length, slice_get, Some, IfOk, IfErr};
 ghost use Rattle.std.specs.List.{AllByRecursion};
@@ -36,9 +36,9 @@ pub enum Event {
     Encode(u64, Vec<HeaderField>),
     /// The oldest undecoded block of a stream is decoded (RFC 9204, section 2.2).
     Decode(u64),
-    /// So many more bytes of the encoder stream come to the decoder, or all that are left.
+    /// Delivers this many more bytes of the encoder stream to the decoder, or all that are left.
     ToDecoder(usize),
-    /// So many more bytes of the decoder stream come to the encoder, or all that are left.
+    /// Delivers this many more bytes of the decoder stream to the encoder, or all that are left.
     ToEncoder(usize),
     /// The oldest decoded block of a stream that requires an entry is acknowledged (RFC 9204, section 4.4.1).
     Ack(u64),
@@ -48,7 +48,7 @@ pub enum Event {
     SetCapacity(usize),
 }
 
-/// What an event answers.
+/// The outcome of an event.
 #[derive(Debug, PartialEq, Drop)]
 pub enum Outcome {
     /// The required insert count of the block, 0 if it references no entry.
@@ -115,10 +115,10 @@ impl Model for Session {
 }
 
 impl Session {
-    /// A session of two empty tables of this capacity in bytes, which is the maximum capacity too, where so many blocks
-    /// may be blocked (RFC 9204, sections 3.2.3 and 2.1.2). A capacity of 2^30 or more is refused
-    /// (`MaximumTableSizeTooLarge`), then a limit of 65,535 or more (`MaxBlockedStreamsTooLarge`). It takes no memory.
-    /// `with_maximum` begins below the maximum capacity.
+    /// Returns a session of two empty tables of this capacity in bytes, which is the maximum capacity too, with this
+    /// limit of blocked blocks (RFC 9204, sections 3.2.3 and 2.1.2). Fails with `MaximumTableSizeTooLarge` if the
+    /// capacity is 2^30 or more, then with `MaxBlockedStreamsTooLarge` if the limit is 65,535 or more. It takes no
+    /// memory. `with_maximum` begins below the maximum capacity.
     pub fn new(alloc: Global, capacity: usize, limit: usize) -> Result<Session, dynamic::Error>
         // It begins as the definition begins, or is refused as that is.
         ensures begins { Begins result (begin_session capacity capacity limit) }
@@ -129,11 +129,11 @@ impl Session {
         Session::with_maximum(alloc, capacity, capacity, limit)
     }
 
-    /// A session of two empty tables of this capacity in bytes, which `Event::SetCapacity` sets up to this maximum
-    /// capacity in bytes, where so many blocks may be blocked (RFC 9204, sections 3.2.2, 3.2.3 and 2.1.2). A connection
-    /// of HTTP/3 begins at capacity 0, and its maximum comes from the decoder's settings. A maximum of 2^30 or more is
-    /// refused, and a capacity above it (`MaximumTableSizeTooLarge`), then a limit of 65,535 or more
-    /// (`MaxBlockedStreamsTooLarge`). It takes no memory.
+    /// Returns a session of two empty tables of this capacity in bytes, with this limit of blocked blocks;
+    /// `Event::SetCapacity` sets the capacity up to this maximum in bytes (RFC 9204, sections 3.2.2, 3.2.3 and 2.1.2).
+    /// A connection of HTTP/3 begins at capacity 0, and its maximum comes from the decoder's settings. Fails with
+    /// `MaximumTableSizeTooLarge` if the maximum is 2^30 or more or the capacity is above it, then with
+    /// `MaxBlockedStreamsTooLarge` if the limit is 65,535 or more. It takes no memory.
     pub fn with_maximum(
         alloc: Global,
         capacity: usize,
@@ -161,35 +161,35 @@ impl Session {
         })
     }
 
-    /// Does what an event says, and tells what came of it. An event outside a lawful session is skipped and changes
-    /// nothing; one that is refused memory can be given again.
+    /// Performs an event, and returns its outcome. An event outside a lawful session is skipped and changes nothing. If
+    /// memory was refused, you can pass the event again.
     pub fn step(&mut self, event: &Event) -> Outcome
-        // It is a step of the definition, from whichever session is shown before it to one that is shown behind it, and
-        // its answer is one of its own kind.
+        // It is a step of the definition, from any session that the one before it shows to one that the one after it
+        // shows, and its outcome is one of its own kind.
         ensures goes { Follows self.old self.new (event_of event.now) result }
-        // It refuses no instruction but for memory.
+        // It refuses no instruction except for memory.
         ensures unrefused { IsUnrefused result }
-        // A decode answers exactly the fields that were handed to the encode of its block, or it wants memory, or tells
-        // the block's required insert count, which exceeds the insertions received.
+        // A decode returns exactly the fields that were passed to the encode of its block, or runs out of memory, or
+        // returns the block's required insert count, which exceeds the insertions received.
         ensures exact { IsExactBehind self.old (event_of event.now) result }
-        // Memory is refused only where it is asked for: by a decode, where in its block a line, or a string whose
-        // payload is not empty, stands whole behind a prefix; by a delivery to the decoder, where insertions are still
-        // to be reported or the next instruction asks for memory; and by what writes bytes. A delivery to the encoder
+        // Memory is refused only if it is asked for: by a decode, if in its block a prefix is followed by a whole line,
+        // or by a string whose payload is not empty; by a delivery to the decoder, if insertions are still to be
+        // reported or the next instruction asks for memory; and by events that write bytes. A delivery to the encoder
         // takes none.
         ensures asks { IsAskedFor self.old self.new (event_of event.now) result }
-        // Whatever events led to the session before it, they and this one with its answer lead to one of which the
+        // For any events that led to the session before it, they and this one with its outcome lead to one of which the
         // four parts of the session theorem hold. (a) The outcomes and the state are a run of the session. Each block
         // and the encoder stream are the rule's. Both tables are those that the instructions make of an empty one, and
         // within their capacity, which is at most the maximum. The blocked blocks are within the limit.
         ensures follows { Keeps self.old self.new (event_of event.now) result
             (λ capacity maximum limit events v. RunsByTheRule capacity maximum limit events v) }
-        // (b) No instruction is refused but for memory.
+        // (b) No instruction is refused except for memory.
         ensures refuses { Keeps self.old self.new (event_of event.now) result
             (λ capacity maximum limit events v. RefusesNothing v) }
-        // (c) A decode that answers fields answers exactly those that were handed to the encode of its block.
+        // (c) A decode that returns fields returns exactly those that were passed to the encode of its block.
         ensures decodes { Keeps self.old self.new (event_of event.now) result
             (λ capacity maximum limit events v. DecodesWhatWasHanded capacity maximum events v) }
-        // (d) Any other answer of a decode is want of memory, or that its block's required insert count is missing,
+        // (d) Any other result of a decode is out of memory, or that its block's required insert count is missing,
         // which exceeds the insertions received; never once the bytes written by the block's end were delivered.
         ensures waits { Keeps self.old self.new (event_of event.now) result
             (λ capacity maximum limit events v. WaitsOnlyForInsertions events v) }
@@ -205,7 +205,7 @@ impl Session {
         let _ = &self.encoder;
     }
 
-    /// How many blocks were encoded for a stream.
+    /// Returns how many blocks were encoded for a stream.
     pub fn blocks(&self, stream: u64) -> usize
         ensures { result ≡ length (stream_at self.now.streams stream).blocks }
     {
@@ -215,7 +215,7 @@ impl Session {
         }
     }
 
-    /// The bytes of a block of a stream, the first being 0, if there are so many.
+    /// Returns the bytes of a block of a stream, the first being 0, or `None` if there are fewer.
     pub fn block(&self, stream: u64, k: usize) -> Option<&[u8]>
         ensures { IsBlock result (slice_get (stream_at self.now.streams stream).blocks k) }
     {
@@ -225,28 +225,28 @@ impl Session {
         }
     }
 
-    /// All bytes of the encoder stream.
+    /// Returns all bytes of the encoder stream.
     pub fn encoder_bytes(&self) -> &[u8]
         ensures { result.now ≡ self.now.encoder_stream }
     {
         &self.encoder_stream
     }
 
-    /// All bytes of the decoder stream.
+    /// Returns all bytes of the decoder stream.
     pub fn decoder_bytes(&self) -> &[u8]
         ensures { result.now ≡ self.now.decoder_stream }
     {
         &self.decoder_stream
     }
 
-    /// The encoder.
+    /// Returns the encoder.
     pub fn encoder(&self) -> &Encoder
         ensures { result.now ≡ self.now.encoder }
     {
         &self.encoder
     }
 
-    /// The decoder.
+    /// Returns the decoder.
     pub fn decoder(&self) -> &Decoder
         ensures { result.now ≡ self.now.decoder }
     {
@@ -254,7 +254,7 @@ impl Session {
     }
 }
 
-/// An empty table of this capacity, under this maximum capacity.
+/// Returns an empty table of this capacity, under this maximum capacity.
 fn empty_table(
     alloc: Global,
     capacity: usize,
@@ -271,39 +271,39 @@ fn empty_table(
     Ok(table)
 }
 
-/// Begins a session and gives it the events in turn; answers the session behind them and what each answered. Refused
-/// are a capacity and a limit that are too great, as `Session::new` refuses them, and want of memory for the answers.
+/// Begins a session and performs the events in turn. Returns the session after them and the outcome of each. Fails as
+/// `Session::new` does if the capacity or the limit is too great, and if there is no memory for the outcomes.
 pub fn run(
     alloc: Global,
     capacity: usize,
     limit: usize,
     events: &[Event],
 ) -> Result<(Session, Vec<Outcome>), dynamic::Error>
-    // On error the session does not begin, or memory is wanted.
+    // On error the session does not begin, or memory runs out.
     ensures err { IfErr result (λ e. RefusesRun e (begin_session capacity capacity limit)) }
-    // The headline, by events and answers alone. Each answer is of its event's kind. On each stream the fields that
-    // were decoded are the first of those that were encoded, in order. No stream is refused, what is skipped is skipped
-    // for its reason, and a decode that answers no fields wants memory or tells the required insert count that its
-    // block's encode answered.
+    // The headline, by events and outcomes alone. Each outcome is of its event's kind. On each stream the fields that
+    // were decoded are the first of those that were encoded, in order. No stream is refused, and what is skipped is
+    // skipped for its reason. A decode that returns no fields runs out of memory or returns the required insert count
+    // that its block's encode returned.
     ensures headline { IfOk result (λ p. AnswerWhatWasHanded events.now p.1.items) }
-    // No instruction is refused but for memory.
+    // No instruction is refused except for memory.
     ensures unrefused { IfOk result (λ p. AllByRecursion IsUnrefused p.1.items) }
-    // Each decode answers exactly the fields that were handed to the encode of its block, or it wants memory, or tells
-    // the block's required insert count, which exceeds the insertions received by then.
+    // Each decode returns exactly the fields that were passed to the encode of its block, or runs out of memory, or
+    // returns the block's required insert count, which exceeds the insertions received by then.
     ensures exact { IfOk result (λ p. Runs capacity capacity limit events.now p.1.items p.0
         (λ steps v. AreExact capacity capacity limit [] steps p.1.items)) }
-    // The events, each with its answer, lead to the session that is answered, and the four parts of the session theorem
-    // hold of it. (a) The outcomes and the state are a run of the session, each block and the encoder stream are the
-    // rule's, the tables within their capacity and the blocked blocks within the limit.
+    // The events, each with its outcome, lead to the session that is returned, and the four parts of the session
+    // theorem hold of it. (a) The outcomes and the state are a run of the session, each block and the encoder stream
+    // are the rule's, the tables within their capacity and the blocked blocks within the limit.
     ensures follows { IfOk result (λ p. Runs capacity capacity limit events.now p.1.items p.0
         (λ steps v. RunsByTheRule capacity capacity limit steps v)) }
-    // (b) No instruction is refused but for memory.
+    // (b) No instruction is refused except for memory.
     ensures refuses { IfOk result (λ p. Runs capacity capacity limit events.now p.1.items p.0
         (λ steps v. RefusesNothing v)) }
-    // (c) A decode that answers fields answers exactly those that were handed to the encode of its block.
+    // (c) A decode that returns fields returns exactly those that were passed to the encode of its block.
     ensures decodes { IfOk result (λ p. Runs capacity capacity limit events.now p.1.items p.0
         (λ steps v. DecodesWhatWasHanded capacity capacity steps v)) }
-    // (d) Any other answer of a decode is want of memory, or that its block's required insert count is missing, which
+    // (d) Any other result of a decode is out of memory, or that its block's required insert count is missing, which
     // exceeds the insertions received; never once the bytes written by the block's end were delivered.
     ensures waits { IfOk result (λ p. Runs capacity capacity limit events.now p.1.items p.0
         (λ steps v. WaitsOnlyForInsertions steps v)) }

@@ -15,12 +15,12 @@ use Rattle.h3_qpack_c.specs.declared.answers.Written.{Written}
 use Rattle.h3_qpack_c.specs.Crossing.{GivesAll}
 use Rattle.h3_qpack_c.specs.Statuses.{blocked, of_line, of_section}
 
--- what is told of a section that has no fields: a status, and where a line was refused
+-- the result for a section without fields: a status, and where a line was rejected
 abbrev pub told_of_refusal : ℤ → ℕ → ℕ → DecodedAlone
 told_of_refusal status number offset =
     record { status = status; fields = 0; len = 0; number = number; offset = offset }
 
--- the fields of a section that was read are copied; of any other nothing is, and why is told
+-- the fields of a section that was read are copied; for any other nothing is copied, and the result says why
 abbrev pub GivesAlone : Result Reading SectionError → List FieldLine → List Given → List Given → List ℕ → List ℕ
     → DecodedAlone → Type 0
 GivesAlone (Ok (Fields required)) fields told_before told_after before after answer =

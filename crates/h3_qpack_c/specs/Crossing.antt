@@ -9,13 +9,13 @@ use Rattle.h3_qpack_c.specs.declared.answers.Written.{Written}
 use Rattle.h3_qpack_c.specs.declared.fields.Field.{Field}
 use Rattle.h3_qpack_c.specs.Statuses.{done, no_memory, no_room, invalid}
 
--- the field line that a lent field is: its lowest flag says that it is never to be indexed (RFC 9204, section 7.1.3)
+-- the field line of a borrowed field: its lowest flag says that it is never to be indexed (RFC 9204, section 7.1.3)
 abbrev pub line_of_lent : Field → FieldLine
 line_of_lent f =
     record { field = record { name = f.name.now; value = f.value.now }; never_indexed = nat_eq (f.flags % 2) 1 }
 
--- what a lent field's flags ask: the lowest that it is never to be indexed, else the fifth that nothing is inserted for
--- it, else the fourth that it is inserted
+-- the wish in a borrowed field's flags: the lowest, that it is never to be indexed; else the fifth, that nothing is
+-- inserted for it; else the fourth, that it is inserted
 abbrev pub wish_of_lent : Field → Wish
 wish_of_lent f =
     if nat_eq (f.flags % 2) 1 then Never
@@ -27,7 +27,7 @@ wish_of_lent f =
 abbrev pub written_over : {A : Type 0} → List A → List A → List A
 written_over front old = front ++ drop (length front) old
 
--- memory behind a call that copies bytes to its front if they fit
+-- memory after a call that copies bytes to its front if they fit
 abbrev pub copied : List ℕ → List ℕ → List ℕ
 copied bytes old = if nat_le (length bytes) (length old) then written_over bytes old else old
 
@@ -35,7 +35,7 @@ copied bytes old = if nat_le (length bytes) (length old) then written_over bytes
 abbrev pub status_of_copy : List ℕ → List ℕ → ℤ
 status_of_copy bytes old = if nat_le (length bytes) (length old) then done else no_room
 
--- what it answers: its status, and how many bytes there are
+-- what the copy returns: its status, and how many bytes there are
 abbrev pub told_of_copy : List ℕ → List ℕ → Written
 told_of_copy bytes old = record { status = status_of_copy bytes old; len = length bytes }
 
@@ -43,12 +43,12 @@ told_of_copy bytes old = record { status = status_of_copy bytes old; len = lengt
 abbrev pub flags_of : FieldLine → ℕ
 flags_of f = if f.never_indexed then 1 else 0
 
--- what is told of a field that is not there
+-- the result for a field that does not exist
 abbrev pub no_such_field : Given
 no_such_field = record { status = invalid; flags = 0; name = 0; value = 0 }
 
--- the field's name and value are copied to the caller's memory, one behind the other, if both fit, and their lengths
--- are told; or there is no such field
+-- the field's name and value are copied to the caller's memory, one after the other, if both fit, and their lengths are
+-- returned; or there is no such field
 abbrev pub Gives : Option FieldLine → List ℕ → List ℕ → Given → Type 0
 Gives None old new told = (told ≡ no_such_field) × (new ≡ old)
 Gives (Some f) old new told =
@@ -60,11 +60,11 @@ Gives (Some f) old new told =
     })
     × (new ≡ copied (f.field.name ++ f.field.value) old)
 
--- a field's name, and its value behind it
+-- a field's name, followed by its value
 abbrev pub text_of_field : FieldLine → List ℕ
 text_of_field f = f.field.name ++ f.field.value
 
--- the names and values of fields, one behind the other
+-- the names and values of fields, one after the other
 abbrev pub text_of : List FieldLine → List ℕ
 text_of [] = []
 text_of (f ∷ fs) = text_of_field f ++ text_of fs
@@ -78,17 +78,17 @@ text_len fs = min (length (text_of fs)) (2 ^ 64 - 1)
 abbrev pub list_size : List FieldLine → ℕ
 list_size fs = min (total_size (fields_of_lines fs)) (2 ^ 64 - 1)
 
--- what is told of a field that is copied
+-- the result for a field that is copied
 abbrev pub told_of_field : FieldLine → Given
 told_of_field f =
     record { status = done; flags = flags_of f; name = length f.field.name; value = length f.field.value }
 
--- whether there is room for what is told of each field, and for their text
+-- whether there is room for an entry of each field, and for their text
 abbrev pub fit : List FieldLine → List Given → List ℕ → Bool
 fit fs told old = nat_le (length fs) (length told) && nat_le (length (text_of fs)) (length old)
 
--- the fields are copied to the caller's memory if all fit, and else none; how many bytes their text has is told, held
--- at the greatest number
+-- the fields are copied to the caller's memory if all fit, and else none is; the length of their text in bytes is
+-- returned, and saturates
 pub record GivesAll (fields : List FieldLine) (told_before told_after : List Given) (before after : List ℕ)
     (answer : Written) : Type 0 where
   pub status_is : answer.status ≡ (if fit fields told_before before then done else no_room)

@@ -32,7 +32,7 @@ IsNew settings s = Begins settings s.end × (s.fields ≡ record { fields = []; 
 abbrev pub KeepsNew : DecoderSettings → Option State → Type 0
 KeepsNew settings kept = (s : State) × (kept ≡ Some s) × IsNew settings s
 
--- what is told of a section that is refused: the status, and where a line was refused
+-- the result for a section that is rejected: the status, and where a line was rejected
 abbrev pub told_of_refusal : DecodingError → Decoding
 told_of_refusal (Section stream (Line number offset e)) =
     record {
@@ -45,7 +45,7 @@ told_of_refusal (Section stream (Line number offset e)) =
     }
 told_of_refusal e = record { status = of_decoding e; fields = 0; len = 0; required = 0; number = 0; offset = 0 }
 
--- what is told of a section that has these fields
+-- the result for a section that has these fields
 abbrev pub told_of_decoding : Result Reading DecodingError → List FieldLine → Decoding
 told_of_decoding (Ok (Fields required)) fields =
     record {
@@ -70,7 +70,7 @@ pub record DecodesTo (old new : State) (stream : ℕ) (bytes : List ℕ) (told :
   pub room : IsRoomWithin old.end.settings.max_section_size old.fields new.fields
   pub told_is : told ≡ told_of_decoding answer new.fields.fields
 
--- what is told of bytes of the encoder stream, of which so many were taken
+-- the result for bytes of the encoder stream, of which this many were consumed
 abbrev pub told_of_receiving : Result ℕ DecodingError → ℕ → Received
 told_of_receiving (Ok total) taken = record { status = done; taken = taken; number = 0; offset = 0 }
 told_of_receiving (Err (EncoderStream place e)) taken =
@@ -98,7 +98,7 @@ pub record ReceivesTo (old new : State) (bytes : List ℕ) (told : Received) : T
   pub fields : new.fields ≡ old.fields
   pub told_is : told ≡ told_of_receiving answer (taken_of old.end.failure answer (length bytes) (length left))
 
--- a stream that can be decoded now is told, and a 1 is answered; or there is none, and a 0 is
+-- a stream that can be decoded now is stored, and 1 is returned; or there is none, and 0 is
 abbrev pub TellsReady : Option ℕ → ℕ → ℕ → ℕ → Type 0
 TellsReady None old new told = (told ≡ 0) × (new ≡ old)
 TellsReady (Some stream) old new told = (told ≡ 1) × (new ≡ stream)

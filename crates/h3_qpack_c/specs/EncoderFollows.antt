@@ -1,4 +1,4 @@
--- What a handle keeps once it was lent.
+-- What a handle keeps once it was borrowed.
 use base.Fml.{Fml}
 use denote.Follow.{follows}
 use Rattle.std.specs.Borrow.{MutBor}
@@ -11,6 +11,6 @@ use Rattle.h3_qpack_c.specs.contracts.encoder.Handle as handle
 abbrev pub with_value : Handle → State → Handle
 with_value h w = record h { value = w }
 
--- once the borrow r ends, what the handle behind h keeps is the last value written through r
+-- once the borrow r ends, what the handle h keeps is the last value written through r
 abbrev pub handle_follows : MutBor Handle → MutBor State → Fml
 handle_follows h r = follows handle.the_row held.the_row h.ghost_name r.ghost_name (with_value h.now)

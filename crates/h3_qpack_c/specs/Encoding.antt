@@ -25,7 +25,7 @@ IsNew settings s = Starts settings s.end × (s.section.items ≡ [])
 abbrev pub KeepsNew : EncoderSettings → Option State → Type 0
 KeepsNew settings kept = (s : State) × (kept ≡ Some s) × IsNew settings s
 
--- what is told of an encoding of fields, of which the section is these bytes, and the caller's memory these
+-- the result of encoding fields whose section is these bytes, with this memory of the caller
 abbrev pub told_of_encoding : Result ℕ EncodingError → List FieldLine → List ℕ → List ℕ → Encoded
 told_of_encoding (Ok required) fields section before =
     record {
@@ -36,8 +36,8 @@ told_of_encoding (Ok required) fields section before =
     }
 told_of_encoding (Err e) fields section before = record { status = of_encoding e; len = 0; required = 0; size = 0 }
 
--- a section is encoded as the end does it, and as the caller wishes; it is copied to the caller's memory if it fits.
--- Refused, there is none
+-- a section is encoded as the end does it, and as the caller wishes; it is copied to the caller's memory if it fits. On
+-- error there is none
 pub record EncodesTo (old new : State) (stream : ℕ) (fields : List FieldLine) (wishes : List Wish) (before after : List ℕ)
     (told : Encoded) : Type 0 where
   pub answer : Result ℕ EncodingError
@@ -52,7 +52,7 @@ pub record TakesStream (old new : State) (before after : List ℕ) (taken : ℕ)
   pub copied_is : after ≡ written_over (take taken old.end.unsent) before
   pub new_is : new ≡ record old { end = record old.end { unsent = drop taken old.end.unsent } }
 
--- what is told of bytes of the decoder stream, of which so many were taken
+-- the result for bytes of the decoder stream, of which this many were consumed
 abbrev pub told_of_hearing : Result ⊤ EncodingError → ℕ → Received
 told_of_hearing (Ok done_) taken = record { status = done; taken = taken; number = 0; offset = 0 }
 told_of_hearing (Err (DecoderStream e)) taken =

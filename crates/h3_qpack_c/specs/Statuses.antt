@@ -1,5 +1,5 @@
--- What calls answer in C: 0, below it what the connection outlives, above it the code that ends it (RFC 9204, section
--- 6, and RFC 9114, section 8.1).
+-- What calls return in C: 0, a number below it if the connection goes on after the error, and the code that ends the
+-- connection above it (RFC 9204, section 6, and RFC 9114, section 8.1).
 use Rattle.std.specs.Prelude.{ℤ, pos, negsuc, Result, Ok, Err, ⊤}
 use Rattle.qpack_ends.specs.declared.encoder.EncodingError.{EncodingError}
 use Rattle.qpack_ends.specs.declared.encoder.EncodingError.TheVariants.{DecoderStream, CapacityTooLarge}
@@ -73,12 +73,12 @@ of_decoding (decoding.TooManyBlocked stream) = pos 0x200
 of_decoding (decoding.NoStream stream) = invalid
 of_decoding decoding.Memory = no_memory
 
--- the status of a call of an encoding end that answers nothing else
+-- the status of a call of an encoding end that returns nothing else
 abbrev pub of_encoding_call : Result ⊤ EncodingError → ℤ
 of_encoding_call (Ok _) = done
 of_encoding_call (Err e) = of_encoding e
 
--- the status of a call of a decoding end that answers nothing else
+-- the status of a call of a decoding end that returns nothing else
 abbrev pub of_decoding_call : Result ⊤ DecodingError → ℤ
 of_decoding_call (Ok _) = done
 of_decoding_call (Err e) = of_decoding e

@@ -1,4 +1,4 @@
--- What a table tells in C.
+-- What a table shows in C.
 use Rattle.std.specs.Prelude.{ℕ, Option}
 use Rattle.std.specs.Option.{option_map}
 use Rattle.qpack_spec.specs.Field.{FieldLine, unmarked}

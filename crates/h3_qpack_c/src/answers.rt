@@ -1,8 +1,8 @@
-//! What calls answer beside a status.
+//! What calls return beside a status.
 
 ghost use Rattle.std.specs.Prelude.{◌≡◌};
 
-/// What encoding answers.
+/// The result of encoding.
 #[repr(C)]
 #[derive(Drop)]
 pub struct Encoded {
@@ -23,7 +23,7 @@ pub struct Written {
     pub len: usize,
 }
 
-/// What receiving bytes of a stream answers.
+/// The result of receiving bytes of a stream.
 #[repr(C)]
 #[derive(Drop)]
 pub struct Received {
@@ -36,7 +36,7 @@ pub struct Received {
     pub offset: u64,
 }
 
-/// What decoding answers.
+/// The result of decoding.
 #[repr(C)]
 #[derive(Drop)]
 pub struct Decoding {
@@ -53,7 +53,7 @@ pub struct Decoding {
     pub offset: u64,
 }
 
-/// What is told of a field.
+/// The result for one field.
 #[repr(C)]
 #[derive(Drop)]
 pub struct Given {
@@ -64,7 +64,7 @@ pub struct Given {
     pub value: usize,
 }
 
-/// What decoding without an end answers.
+/// The result of decoding without an end.
 #[repr(C)]
 #[derive(Drop)]
 pub struct DecodedAlone {

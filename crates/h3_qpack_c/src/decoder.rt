@@ -1,4 +1,4 @@
-//! The decoding end behind a handle.
+//! The decoding end of a handle.
 
 ghost use Rattle.h3_qpack_c.specs.declared.decoder.State.{State};
 ghost use Rattle.std.specs.Prelude.{◌≡◌, ◌<◌, ◌≤◌, ◌^◌, length, slice_get, IfOk, IfErr, [], ℕ};
@@ -54,7 +54,7 @@ impl Model for Handle {
 }
 
 impl Handle {
-    /// The end that a handle keeps.
+    /// Returns the end that a handle keeps.
     fn into_box(self, alloc: Global) -> Box<State>
         ensures { result.value ≡ self.value }
     {
@@ -63,7 +63,7 @@ impl Handle {
     }
 }
 
-/// An end at which nothing happened yet.
+/// Returns an end at which nothing happened yet.
 fn begin(alloc: Global, settings: DecoderSettings) -> Result<State, SettingsError>
     ensures ok { IfOk result (IsNew settings) }
     ensures err { IfErr result (FailsSettings settings) }
@@ -124,7 +124,7 @@ pub extern "C" fn h3q_decoder_decode(handle: &mut Handle, stream: u64, section: 
     answer
 }
 
-/// The same, of what a handle keeps.
+/// Decodes as `h3q_decoder_decode` does, given what the handle keeps.
 fn decode(state: &mut State, stream: u64, section: &[u8]) -> Decoding
     ensures { DecodesTo state.old state.new stream section.now result }
 {
@@ -138,7 +138,7 @@ fn decode(state: &mut State, stream: u64, section: &[u8]) -> Decoding
     }
 }
 
-/// What is told of a section that was read.
+/// Returns the result for a section that was read.
 fn decoded(status: i32, fields: usize, len: usize, required: usize) -> Decoding
     ensures { result ≡ record {
       status = status;
@@ -159,7 +159,7 @@ fn decoded(status: i32, fields: usize, len: usize, required: usize) -> Decoding
     }
 }
 
-/// What is told of a section that is refused.
+/// Returns the result for a section that is rejected.
 fn refused(error: &DecodingError) -> Decoding
     ensures { result ≡ told_of_refusal error.now }
 {
@@ -181,7 +181,7 @@ fn refused(error: &DecodingError) -> Decoding
     }
 }
 
-/// Copies the name and the value of a field of the section that was decoded last to the caller's memory, one behind the
+/// Copies the name and the value of a field of the section that was decoded last to the caller's memory, one after the
 /// other, if both fit.
 #[unsafe(no_mangle)]
 pub extern "C" fn h3q_decoder_field(handle: &mut Handle, index: usize, out: &mut [u8]) -> Given
@@ -196,8 +196,8 @@ pub extern "C" fn h3q_decoder_field(handle: &mut Handle, index: usize, out: &mut
     answer
 }
 
-/// Copies the fields of the section that was decoded last to the caller's memory, if there is room for what is told of
-/// each, and for their names and values one behind the other.
+/// Copies the fields of the section that was decoded last to the caller's memory, if there is room for an entry of
+/// each, and for their names and values one after the other.
 #[unsafe(no_mangle)]
 pub extern "C" fn h3q_decoder_fields(
     handle: &mut Handle,
@@ -222,7 +222,7 @@ pub extern "C" fn h3q_decoder_read(handle: &mut Handle, bytes: &[u8]) -> Receive
     answer
 }
 
-/// The same, of what a handle keeps.
+/// Receives as `h3q_decoder_read` does, given what the handle keeps.
 fn read(state: &mut State, bytes: &[u8]) -> Received
     ensures { ReceivesTo state.old state.new bytes.now result }
 {
@@ -250,7 +250,7 @@ fn taken(
     }
 }
 
-/// What is told of bytes of the encoder stream, of which so many were taken.
+/// Returns the result for bytes of the encoder stream, of which this many were consumed.
 fn received(answer: &Result<usize, DecodingError>, taken: usize) -> Received
     ensures { result ≡ told_of_receiving answer.now taken }
 {
@@ -276,7 +276,7 @@ fn received(answer: &Result<usize, DecodingError>, taken: usize) -> Received
     }
 }
 
-/// How many insertions were ever received.
+/// Returns how many insertions were ever received.
 #[unsafe(no_mangle)]
 pub extern "C" fn h3q_decoder_insert_count(handle: &mut Handle) -> usize
     ensures same { handle.new.value ≡ handle.old.value }
@@ -287,7 +287,7 @@ pub extern "C" fn h3q_decoder_insert_count(handle: &mut Handle) -> usize
     count
 }
 
-/// How many streams are blocked.
+/// Returns how many streams are blocked.
 #[unsafe(no_mangle)]
 pub extern "C" fn h3q_decoder_blocked(handle: &mut Handle) -> usize
     ensures same { handle.new.value ≡ handle.old.value }
@@ -298,8 +298,8 @@ pub extern "C" fn h3q_decoder_blocked(handle: &mut Handle) -> usize
     blocked
 }
 
-/// Tells a blocked stream of which the section can be decoded now, if there is one: of those, the one that waited for
-/// the fewest insertions.
+/// Stores a blocked stream whose section can now be decoded, if there is one, and returns whether there is. If there
+/// are several, it is the one that waited for the fewest insertions.
 #[unsafe(no_mangle)]
 pub extern "C" fn h3q_decoder_next_ready(handle: &mut Handle, stream: &mut u64) -> u32
     ensures same { handle.new.value ≡ handle.old.value }
@@ -317,7 +317,7 @@ pub extern "C" fn h3q_decoder_next_ready(handle: &mut Handle, stream: &mut u64) 
     ready
 }
 
-/// Takes as many bytes of the decoder stream as the caller's memory has room for, and answers their number.
+/// Takes as many bytes of the decoder stream as the caller's memory has room for, and returns their number.
 #[unsafe(no_mangle)]
 pub extern "C" fn h3q_decoder_stream(handle: &mut Handle, out: &mut [u8]) -> usize
     ensures { TakesStream handle.old.value handle.new.value out.old out.new result }
@@ -327,7 +327,7 @@ pub extern "C" fn h3q_decoder_stream(handle: &mut Handle, out: &mut [u8]) -> usi
     taken
 }
 
-/// The same, of what a handle keeps.
+/// Takes bytes as `h3q_decoder_stream` does, given what the handle keeps.
 fn take_stream(state: &mut State, out: &mut [u8]) -> usize
     ensures { TakesStream state.old state.new out.old out.new result }
 {
@@ -336,7 +336,7 @@ fn take_stream(state: &mut State, out: &mut [u8]) -> usize
     taken
 }
 
-/// How many bytes of the decoder stream are to be taken.
+/// Returns how many bytes of the decoder stream are to be taken.
 #[unsafe(no_mangle)]
 pub extern "C" fn h3q_decoder_stream_len(handle: &mut Handle) -> usize
     ensures same { handle.new.value ≡ handle.old.value }
@@ -357,7 +357,7 @@ pub extern "C" fn h3q_decoder_cancel(handle: &mut Handle, stream: u64) -> i32
     status
 }
 
-/// The same, of what a handle keeps.
+/// Cancels as `h3q_decoder_cancel` does, given what the handle keeps.
 fn cancel(state: &mut State, stream: u64) -> i32
     ensures { CancelsTo state.old state.new stream result }
 {

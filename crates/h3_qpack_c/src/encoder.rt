@@ -1,4 +1,4 @@
-//! The encoding end behind a handle.
+//! The encoding end of a handle.
 
 ghost use Rattle.h3_qpack_c.specs.declared.encoder.State.{State};
 ghost use Rattle.std.specs.Prelude.{◌≡◌, ◌<◌, ◌≤◌, ◌^◌, pos, length, map, IfOk, IfErr, ℤ};
@@ -47,7 +47,7 @@ impl Model for Handle {
 }
 
 impl Handle {
-    /// The end that a handle keeps.
+    /// Returns the end that a handle keeps.
     fn into_box(self, alloc: Global) -> Box<State>
         ensures { result.value ≡ self.value }
     {
@@ -56,7 +56,7 @@ impl Handle {
     }
 }
 
-/// An end at which nothing happened yet.
+/// Returns an end at which nothing happened yet.
 fn begin(alloc: Global, settings: EncoderSettings) -> Result<State, SettingsError>
     ensures ok { IfOk result (IsNew settings) }
     ensures err { IfErr result (λ e. (e ≡ CapacityTooLarge) × (2 ^ 30 ≤ settings.max_capacity)) }
@@ -68,8 +68,8 @@ fn begin(alloc: Global, settings: EncoderSettings) -> Result<State, SettingsErro
     })
 }
 
-/// Makes an encoding end for a peer that sent these settings, its maximum capacity in bytes, below 2^30, and its limit
-/// of blocked streams; with the capacity that is wanted, and how many sections may wait for acknowledgments.
+/// Makes an encoding end for a peer that sent these settings: its maximum capacity in bytes, below 2^30, and its limit
+/// of blocked streams. The end's own settings are its capacity, and how many sections may wait for acknowledgments.
 #[unsafe(no_mangle)]
 pub extern "C" fn h3q_encoder_new(
     alloc: Global,
@@ -127,7 +127,7 @@ pub extern "C" fn h3q_encoder_encode(
     answer
 }
 
-/// The same, of what a handle keeps.
+/// Encodes as `h3q_encoder_encode` does, given what the handle keeps.
 fn encode(state: &mut State, stream: u64, fields: &[Field], section: &mut [u8]) -> Encoded
     ensures { EncodesTo state.old state.new stream (map line_of_lent fields.now) (map wish_of_lent fields.now) section.old
         section.new result }
@@ -164,7 +164,7 @@ pub extern "C" fn h3q_encoder_section(handle: &mut Handle, section: &mut [u8]) -
     answer
 }
 
-/// Takes as many bytes of the encoder stream as the caller's memory has room for, and answers their number.
+/// Takes as many bytes of the encoder stream as the caller's memory has room for, and returns their number.
 #[unsafe(no_mangle)]
 pub extern "C" fn h3q_encoder_stream(handle: &mut Handle, out: &mut [u8]) -> usize
     ensures { TakesStream handle.old.value handle.new.value out.old out.new result }
@@ -174,7 +174,7 @@ pub extern "C" fn h3q_encoder_stream(handle: &mut Handle, out: &mut [u8]) -> usi
     taken
 }
 
-/// The same, of what a handle keeps.
+/// Takes bytes as `h3q_encoder_stream` does, given what the handle keeps.
 fn take_stream(state: &mut State, out: &mut [u8]) -> usize
     ensures { TakesStream state.old state.new out.old out.new result }
 {
@@ -183,7 +183,7 @@ fn take_stream(state: &mut State, out: &mut [u8]) -> usize
     taken
 }
 
-/// How many bytes of the encoder stream are to be taken.
+/// Returns how many bytes of the encoder stream are to be taken.
 #[unsafe(no_mangle)]
 pub extern "C" fn h3q_encoder_stream_len(handle: &mut Handle) -> usize
     ensures same { handle.new.value ≡ handle.old.value }
@@ -204,7 +204,7 @@ pub extern "C" fn h3q_encoder_read(handle: &mut Handle, bytes: &[u8]) -> Receive
     answer
 }
 
-/// The same, of what a handle keeps.
+/// Receives as `h3q_encoder_read` does, given what the handle keeps.
 fn read(state: &mut State, bytes: &[u8]) -> Received
     ensures { HearsTo state.old state.new bytes.now result }
 {
@@ -213,7 +213,7 @@ fn read(state: &mut State, bytes: &[u8]) -> Received
     heard(&answer, bytes.len().saturating_sub(cursor.remaining()))
 }
 
-/// What is told of bytes of the decoder stream, of which so many were taken.
+/// Returns the result for bytes of the decoder stream, of which this many were consumed.
 fn heard(answer: &Result<(), EncodingError>, taken: usize) -> Received
     ensures { result ≡ told_of_hearing answer.now taken }
 {
@@ -253,7 +253,7 @@ pub extern "C" fn h3q_encoder_set_peer_settings(
     status
 }
 
-/// The same, of what a handle keeps.
+/// Takes settings as `h3q_encoder_set_peer_settings` does, given what the handle keeps.
 fn set_peer_settings(state: &mut State, max_capacity: usize, max_blocked: usize) -> i32
     ensures { TakesPeerTo state.old state.new max_capacity max_blocked result }
 {
@@ -273,7 +273,7 @@ pub extern "C" fn h3q_encoder_set_capacity(handle: &mut Handle, capacity: usize)
     status
 }
 
-/// The same, of what a handle keeps.
+/// Sets a capacity as `h3q_encoder_set_capacity` does, given what the handle keeps.
 fn set_capacity(state: &mut State, capacity: usize) -> i32
     ensures { SetsCapacityTo state.old state.new capacity result }
 {
@@ -283,7 +283,7 @@ fn set_capacity(state: &mut State, capacity: usize) -> i32
     }
 }
 
-/// How many streams may be blocked.
+/// Returns how many streams may be blocked.
 #[unsafe(no_mangle)]
 pub extern "C" fn h3q_encoder_blocked(handle: &mut Handle) -> usize
     ensures same { handle.new.value ≡ handle.old.value }

@@ -17,7 +17,7 @@ const INSERT: u8 = 8;
 /// The flag of a field for which nothing is to be inserted.
 const REUSE: u8 = 16;
 
-/// A field that is lent: its name, its value, and its flags. The lowest says that it is never to be indexed (RFC 9204,
+/// A borrowed field: its name, its value, and its flags. The lowest flag says that it is never to be indexed (RFC 9204,
 /// section 7.1.3), the fourth that it is to be inserted, and the fifth that nothing is to be inserted for it.
 #[repr(C)]
 #[derive(Clone, Copy)]
@@ -71,7 +71,7 @@ pub(crate) fn write(bytes: &[u8], out: &mut [u8]) -> Written
     Written { status: DONE, len }
 }
 
-/// Copies as many bytes to the front of a caller's memory as it has room for, and answers their number.
+/// Copies as many bytes to the front of a caller's memory as it has room for, and returns their number.
 pub(crate) fn copy_front(bytes: &[u8], out: &mut [u8]) -> usize
     ensures many { result ≡ min (length bytes.now) (length out.old) }
     ensures copied { out.new ≡ written_over (take (min (length bytes.now) (length out.old)) bytes.now) out.old }
@@ -90,7 +90,7 @@ fn copy_over(bytes: &[u8], out: &mut [u8])
     front.copy_from_slice(bytes);
 }
 
-/// What is told of a field that is not there.
+/// Returns the result for a field that does not exist.
 pub(crate) fn no_field() -> Given
     ensures { result ≡ no_such_field }
 {
@@ -102,7 +102,7 @@ pub(crate) fn no_field() -> Given
     }
 }
 
-/// Copies the name and the value of a field to a caller's memory, one behind the other, if both fit.
+/// Copies the name and the value of a field to a caller's memory, one after the other, if both fit.
 pub(crate) fn give(field: &FieldLine, out: &mut [u8]) -> Given
     ensures { Gives (Some (line_of field.now)) out.old out.new result }
 {
@@ -121,7 +121,7 @@ pub(crate) fn give(field: &FieldLine, out: &mut [u8]) -> Given
     }
 }
 
-/// What is told of a field whose name and value are copied.
+/// Returns the result for a field whose name and value are copied.
 fn told_of(field: &FieldLine) -> Given
     ensures { result ≡ told_of_field (line_of field.now) }
 {
@@ -133,8 +133,8 @@ fn told_of(field: &FieldLine) -> Given
     }
 }
 
-/// Copies the fields of a section to a caller's memory, if there is room for what is told of each, and for their names
-/// and values one behind the other. It answers how many bytes these have, at most 2^64 - 1.
+/// Copies the fields of a section to a caller's memory, if there is room for an entry of each, and for their names and
+/// values one after the other. Returns how many bytes the names and values have, at most 2^64 - 1.
 pub(crate) fn give_all(section: &FieldSection, told: &mut [Given], out: &mut [u8]) -> Written
     ensures { GivesAll section.now.fields told.old told.new out.old out.new result }
 {
@@ -160,7 +160,7 @@ pub(crate) fn list_size(fields: &[Field]) -> usize
     size
 }
 
-/// How many bytes the names and values have, at most 2^64 - 1.
+/// Returns how many bytes the names and values have, at most 2^64 - 1.
 pub(crate) fn text_len(section: &FieldSection) -> usize
     ensures { result ≡ crossing.text_len section.now.fields }
 {
@@ -191,7 +191,7 @@ fn put_all(section: &FieldSection, told: &mut [Given], out: &mut [u8])
     }
 }
 
-/// Copies the name and the value of a field to memory, from a place on, and answers where they end.
+/// Copies the name and the value of a field to memory, from a place on, and returns where they end.
 fn put(field: &FieldLine, at: usize, out: &mut [u8]) -> usize
     requires { at + length (text_of_field (line_of field.now)) ≤ length out.old }
     ensures end { result ≡ at + length (text_of_field (line_of field.now)) }

@@ -1,5 +1,5 @@
-//! QPACK (RFC 9204) for programs in C, and in whatever calls C: the exports behind `include/h3_qpack.h`, which says
-//! what each asks of its caller. An end of a connection lives behind a handle, which each call is lent.
+//! QPACK (RFC 9204) for programs in C, and in any language that calls C: the exports of `include/h3_qpack.h`, which
+//! says what each requires of its caller. Each call borrows the handle of an end of a connection.
 #![tactic(auto)]
 
 ghost use Rattle.std.specs.Prelude.{◌≡◌};
@@ -12,7 +12,7 @@ mod stateless;
 mod statuses;
 mod tables;
 
-/// The version of this interface: 65,536 for each breaking change, 1 for each addition.
+/// Returns the version of this interface: 65,536 for each breaking change, 1 for each addition.
 #[unsafe(no_mangle)]
 pub extern "C" fn h3q_version() -> u32
     ensures { result ≡ 65536 }

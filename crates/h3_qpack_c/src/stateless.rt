@@ -70,7 +70,7 @@ pub extern "C" fn h3q_decode_stateless(
     tell(&answer, &fields, told, out)
 }
 
-/// What is told of a section that was read, or is refused; the fields of one that was read are copied.
+/// Returns the result for a section that was read, and copies its fields; or the result for one that is rejected.
 fn tell(
     answer: &Result<Reading, SectionError>,
     fields: &FieldSection,
@@ -102,7 +102,7 @@ fn tell(
     }
 }
 
-/// What is told of a section that has no fields: a status, and where a line was refused.
+/// Returns the result for a section without fields: a status, and where a line was rejected.
 fn refused(status: i32, number: u64, offset: u64) -> DecodedAlone
     ensures { result ≡ told_of_refusal status number offset }
 {

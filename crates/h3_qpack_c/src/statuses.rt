@@ -1,5 +1,5 @@
-//! What calls answer: 0, below it what the connection outlives, above it the code that ends it (RFC 9204,
-//! section 6, and RFC 9114, section 8.1).
+//! What calls return: 0, a number below it if the connection goes on after the error, and the code that ends the
+//! connection above it (RFC 9204, section 6, and RFC 9114, section 8.1).
 
 ghost use Rattle.std.specs.Prelude.{◌≡◌};
 ghost use Rattle.h3_qpack_c.specs.Statuses.{of_encoding, of_decoding, of_section, of_line};
@@ -12,7 +12,7 @@ pub(crate) const DONE: i32 = 0;
 /// No memory was left; the call can be made again.
 pub(crate) const NO_MEMORY: i32 = -1;
 
-/// The caller's memory is too small; the lengths tell how much is wanted.
+/// The caller's memory is too small; the lengths say how much is needed.
 pub(crate) const NO_ROOM: i32 = -2;
 
 /// The section waits for insertions.
@@ -39,7 +39,7 @@ pub(crate) const DECODER_STREAM_ERROR: i32 = 0x202;
 /// H3_SETTINGS_ERROR (RFC 9114, section 8.1).
 pub(crate) const SETTINGS_ERROR: i32 = 0x109;
 
-/// The status of an error of an encoding end.
+/// Returns the status of an error of an encoding end.
 pub(crate) fn status_of_encoding(error: &EncodingError) -> i32
     ensures { result ≡ of_encoding error.now }
 {
@@ -54,7 +54,7 @@ pub(crate) fn status_of_encoding(error: &EncodingError) -> i32
     }
 }
 
-/// The status of an error of a decoding end.
+/// Returns the status of an error of a decoding end.
 pub(crate) fn status_of_decoding(error: &DecodingError) -> i32
     ensures { result ≡ of_decoding error.now }
 {
@@ -67,7 +67,7 @@ pub(crate) fn status_of_decoding(error: &DecodingError) -> i32
     }
 }
 
-/// The status of an error of a section.
+/// Returns the status of an error of a section.
 pub(crate) fn status_of_section(error: &SectionError) -> i32
     ensures { result ≡ of_section error.now }
 {
@@ -79,7 +79,7 @@ pub(crate) fn status_of_section(error: &SectionError) -> i32
     }
 }
 
-/// The status of an error of a line.
+/// Returns the status of an error of a line.
 pub(crate) fn status_of_line(error: &LineError) -> i32
     ensures { result ≡ of_line error.now }
 {

@@ -1,4 +1,4 @@
-//! What a table tells of its entries.
+//! What a table shows of its entries.
 
 ghost use Rattle.std.specs.Prelude.{◌≡◌, length, nat_lt};
 ghost use Rattle.qpack_spec.specs.Field.{total_size};

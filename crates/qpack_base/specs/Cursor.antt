@@ -2,12 +2,12 @@
 use Rattle.std.specs.Prelude.{◌≡◌, ℕ, List, [], ◌∷◌, ◌++◌, Result, Ok, Err}
 use Rattle.qpack_base.specs.declared.coding.UnexpectedEnd.{UnexpectedEnd}
 
--- the bytes that are left of a list of so many
+-- the bytes that are left of a list of this many
 pub record CursorView : Type 0 where
   pub rest : List ℕ
   pub total : ℕ
 
--- the text at the front was passed, and nothing else
+-- the cursor moved past the text at the front, and no further
 abbrev pub MovesPast : List ℕ → CursorView → CursorView → Type 0
 MovesPast encoding old new = (old.rest ≡ encoding ++ new.rest) × (new.total ≡ old.total)
 
@@ -16,6 +16,6 @@ abbrev pub ReadsByte : CursorView → Result ℕ UnexpectedEnd → CursorView �
 ReadsByte old (Ok b) new = MovesPast (b ∷ []) old new
 ReadsByte old (Err e) new = (old.rest ≡ []) × (e ≡ record { 0 = 1 }) × (new ≡ old)
 
--- how reading a value relates what was left, the answer, and what is left
+-- how reading a value relates what was left, the result, and what is left
 abbrev pub Reads : Type 0 → Type 1
 Reads T = CursorView → Result T UnexpectedEnd → CursorView → Type 0

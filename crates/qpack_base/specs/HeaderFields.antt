@@ -17,15 +17,15 @@ use Rattle.qpack_base.specs.declared.field.HeaderField.{HeaderField}
 abbrev pub field_of : HeaderField → Field
 field_of f = record { name = cow_slice_items f.name; value = cow_slice_items f.value }
 
--- the name, the value and the mark, lent
+-- the name, the value and the mark, borrowed
 abbrev pub line_of : LentLine → FieldLine
 line_of f = record { field = record { name = f.name.now; value = f.value.now }; never_indexed = f.never_indexed }
 
--- the fields behind references
+-- the fields that references point to
 abbrev pub fields_behind : List (Bor HeaderField) → List Field
 fields_behind fs = map (λ f. field_of f.now) fs
 
--- the iterator gives so many fields and ends, and P holds of their list
+-- the iterator gives this many fields and ends, and P holds of their list
 abbrev pub DrainsFields : {S : Type 0} → (S → Option (Bor HeaderField) → S → Type 0) → S → (List Field → Type 0)
     → Type 0
 DrainsFields steps it P = (fs : List (Bor HeaderField)) × Drains steps it fs × P (fields_behind fs)

@@ -1,4 +1,4 @@
--- What it means that an error is told.
+-- What it means that an error is reported.
 use Rattle.std.specs.Prelude.{◌≡◌, Option, Some, None, Result, Err}
 
 -- what was read is refused for this reason, of which there is one

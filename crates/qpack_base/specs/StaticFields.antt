@@ -30,7 +30,7 @@ is_value_of value (Some f) = bytes_eq value f.value
 abbrev pub has_value_at : List ℕ → ℕ → Bool
 has_value_at value index = is_value_of value (slice_get static_table index)
 
--- names of one length: each stands with all its positions, and no name of that length in the static table is missing
+-- names of one length: each has all its positions, and no name of that length in the static table is missing
 pub record AreNamesOfLength (n : ℕ) (names : List (List ℕ × List ℕ)) : Type 0 where
   pub indexes : All (λ e. e.1 ≡ indexes_with_name e.0) names
   pub complete : (k : ℕ) (f : Field) → IsStaticAt k f → length f.name ≡ n
@@ -40,7 +40,7 @@ pub record AreNamesOfLength (n : ℕ) (names : List (List ℕ × List ℕ)) : Ty
 pub record AreNamesBetween (first limit : ℕ) (rows : List (List (List ℕ × List ℕ))) : Type 0 where
   pub at : (n : ℕ) → first ≤ n → n < limit → AreNamesOfLength n (slice_index_or rows (n - first) [])
 
--- the names and positions behind references
+-- the names and positions that references point to
 abbrev pub names_at : List (Bor (List ℕ) × Bor (List ℕ)) → List (List ℕ × List ℕ)
 names_at names = map (λ e. (e.0.now, e.1.now)) names
 

@@ -1,4 +1,4 @@
--- What readers of string literals answer.
+-- What readers of string literals return.
 use Rattle.std.specs.Prelude.{◌≡◌, ◌≢◌, ℕ, ◌%◌, List, [], ◌++◌, Option, Some, None, Result, Ok, Err, ◌==◌}
 use Rattle.std.specs.Prelude.{if◌then◌else◌, ◌≤◌, length}
 use Rattle.std.specs.Global.{Vec}
@@ -27,27 +27,27 @@ IsWhole (Err EndsEarly) = ⊥
 IsWhole (Err LengthOverflows) = ⊥
 IsWhole (Err (BadHuffman fault)) = Unit {0}
 
--- the fault of a string that an error stands for; none for want of memory and for what is never answered (RFC 9204,
--- section 4.1.2)
+-- the fault of a string that an error reports; none for out of memory and for what is never returned (RFC 9204, section
+-- 4.1.2)
 abbrev pub string_fault_of : Error → Option StringFault
 string_fault_of UnexpectedEnd = Some EndsEarly
 string_fault_of (Integer integer.Overflow) = Some LengthOverflows
 string_fault_of (HuffmanDecoding e) = Some (BadHuffman (huffman_fault_of e))
 string_fault_of e = None
 
--- the error is the fault that was read, or want of memory for a whole payload that is not empty
+-- the error is the fault that was read, or out of memory for a whole payload that is not empty
 abbrev pub FailsString : Error → Result (ℕ × List ℕ × List ℕ) StringFault → Type 0
 FailsString Memory read = IsWhole read
 FailsString e read = IsRefusedFor read (string_fault_of e)
 
--- the answer is the value that was read, under some flags, and the cursor stands behind it; or it is the fault
+-- the result is the value that was read, under some flags, and the cursor is after it; or it is the fault
 abbrev pub ReadsString : CursorView → CursorView → Result (Vec ℕ) Error → Result (ℕ × List ℕ × List ℕ) StringFault
     → Type 0
 ReadsString old new (Ok v) read = ((flags : ℕ) × (read ≡ Ok (flags, v.items, new.rest))) × (new.total ≡ old.total)
 ReadsString old new (Err e) read = FailsString e read
 
--- the value that was read, under some flags, is appended, and the cursor stands behind it; or it is the fault, and the
--- text is as before
+-- the value that was read, under some flags, is appended, and the cursor is after it; or it is the fault, and the text
+-- is unchanged
 abbrev pub AppendsString : {A : Type 0} → CursorView → CursorView → AnyVec ℕ A → AnyVec ℕ A → Result (Unit {0}) Error
     → Result (ℕ × List ℕ × List ℕ) StringFault → Type 0
 AppendsString old new text_old text_new (Ok u) read = ((flags : ℕ) × (value : List ℕ)
@@ -63,7 +63,8 @@ abbrev pub TakesMemory : Result (List ℕ) HuffmanFault → Type 0
 TakesMemory (Ok value) = value ≢ []
 TakesMemory (Err fault) = Unit {0}
 
--- the same of a payload alone, of which memory may be refused to a text that is not empty
+-- the value of a payload alone is appended; or it is the fault, or memory was refused, which it is not for an empty
+-- text
 abbrev pub AppendsText : {A : Type 0} → AnyVec ℕ A → AnyVec ℕ A → Result (Unit {0}) Error → Result (List ℕ) HuffmanFault
     → Type 0
 AppendsText old new (Ok u) read = (value : List ℕ) × (read ≡ Ok value) × (new.items ≡ old.items ++ value)
@@ -71,10 +72,10 @@ AppendsText old new (Err (HuffmanDecoding e)) read = (read ≡ Err (huffman_faul
 AppendsText old new (Err Memory) read = TakesMemory read × (new.items ≡ old.items)
 AppendsText old new (Err e) read = ⊥
 
--- ---- values of at most so many bytes
+-- ---- values of at most this many bytes
 
--- the value that was read, under some flags, is appended if it has at most so many bytes, and its length is answered;
--- the cursor stands behind it. Or it is the fault, and the text is as before
+-- the value that was read, under some flags, is appended if it has at most this many bytes, and its length is returned;
+-- the cursor is after it. Or it is the fault, and the text is unchanged
 abbrev pub AppendsStringWithin : {A : Type 0} → ℕ → CursorView → CursorView → AnyVec ℕ A → AnyVec ℕ A → Result ℕ Error
     → Result (ℕ × List ℕ × List ℕ) StringFault → Type 0
 AppendsStringWithin most old new text_old text_new (Ok len) read = ((flags : ℕ) × (value : List ℕ)
@@ -83,12 +84,12 @@ AppendsStringWithin most old new text_old text_new (Ok len) read = ((flags : ℕ
 AppendsStringWithin most old new text_old text_new (Err e) read =
     FailsString e read × (text_new.items ≡ text_old.items)
 
--- the value that was read, if any was, has at most so many bytes
+-- the value that was read, if any was, has at most this many bytes
 abbrev pub FitsStringWithin : ℕ → Result (ℕ × List ℕ × List ℕ) StringFault → Type 0
 FitsStringWithin most (Ok x) = length x.1 ≤ most
 FitsStringWithin most (Err fault) = Unit {0}
 
--- the same of a payload alone
+-- the value of a payload alone is appended if it has at most this many bytes; or it is the fault, or memory was refused
 abbrev pub AppendsTextWithin : {A : Type 0} → ℕ → AnyVec ℕ A → AnyVec ℕ A → Result ℕ Error
     → Result (List ℕ) HuffmanFault → Type 0
 AppendsTextWithin most old new (Ok len) read = (value : List ℕ) × (read ≡ Ok value) × (len ≡ length value)
@@ -98,25 +99,25 @@ AppendsTextWithin most old new (Err (HuffmanDecoding e)) read =
 AppendsTextWithin most old new (Err Memory) read = TakesMemory read × (new.items ≡ old.items)
 AppendsTextWithin most old new (Err e) read = ⊥
 
--- the text, if the payload means any, has at most so many bytes
+-- the text, if the payload means any, has at most this many bytes
 abbrev pub FitsWithin : ℕ → Result (List ℕ) HuffmanFault → Type 0
 FitsWithin most (Ok value) = length value ≤ most
 FitsWithin most (Err fault) = Unit {0}
 
 -- ---- reading by cases
 
--- the answer is the value, and what moves moved; or memory was refused
+-- the result is the value, and what moves moved; or memory was refused
 abbrev pub GivesValue : Result (Vec ℕ) Error → List ℕ → Type 0 → Type 0
 GivesValue (Ok v) value moved = (v.items ≡ value) × moved
 GivesValue (Err Memory) value moved = Unit {0}
 GivesValue (Err e) value moved = ⊥
 
--- the answer is that the payload means nothing, for this fault
+-- the result is that the payload is malformed, for this fault
 abbrev pub IsFaulty : Result (Vec ℕ) Error → HuffmanFault → Type 0
 IsFaulty (Err (HuffmanDecoding e)) fault = huffman_fault_of e ≡ fault
 IsFaulty result fault = ⊥
 
--- the same; or memory was refused
+-- the result is that the payload is malformed, for this fault; or memory was refused
 abbrev pub GivesFault : Result (Vec ℕ) Error → HuffmanFault → Type 0
 GivesFault (Err Memory) fault = Unit {0}
 GivesFault result fault = IsFaulty result fault

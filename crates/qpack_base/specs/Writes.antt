@@ -11,6 +11,6 @@ pub record Writes {A E : Type 0} (encoding : List ℕ) (old new : Vec ℕ A) (r 
   pub still : vec_len old + length encoding ≤ vec_capacity old → vec_capacity new ≡ vec_capacity old
   pub capacity : vec_capacity old ≤ vec_capacity new
 
--- the bytes if there are at most so many of them, else none
+-- the bytes if there are at most this many of them, else none
 abbrev pub kept_within : ℕ → List ℕ → List ℕ
 kept_within most bytes = if nat_le (length bytes) most then bytes else []

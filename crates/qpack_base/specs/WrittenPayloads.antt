@@ -3,7 +3,7 @@ use Rattle.std.specs.Prelude.{◌≡◌, ℕ, ◌+◌, ◌*◌, ◌<◌, ◌≤�
 use Rattle.qpack_spec.specs.Huffman.{bits_of, bits_of_bytes, bits_of_text, ones, AreBytes}
 use Rattle.qpack_base.specs.declared.prefix_string.encoding.Pending.{Pending}
 
--- the bytes appended are so many of the number's lowest bits
+-- the bytes appended are this many of the number's lowest bits
 pub record AddsBits (count loaded : ℕ) (old new : List ℕ) : Type 0 where
   pub bytes : List ℕ
   pub are : AreBytes bytes
@@ -26,7 +26,7 @@ pub record HasAdded (whole : List ℕ) (left number : ℕ) (old new : List ℕ) 
   pub items : new ≡ old ++ bytes
   pub bits : bits_of_bytes bytes ++ bits_of left number ≡ whole
 
--- the codes of the text stand behind the bits, as far as 64 bits hold them (RFC 7541, Appendix B)
+-- the codes of the text follow the bits, as far as 64 bits hold them (RFC 7541, Appendix B)
 pub record AddsCodes (text : List ℕ) (old new : Pending) : Type 0 where
   pub count : new.count ≡ old.count + length (bits_of_text text)
   pub most : new.count ≤ old.count + 30 * length text

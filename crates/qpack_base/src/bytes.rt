@@ -1,10 +1,10 @@
-//! Byte strings held against each other.
+//! Comparison of byte strings.
 
 ghost use Rattle.std.specs.Prelude.{◌≡◌, ◌-◌, ◌<◌, length, take, drop};
 ghost use Rattle.std.specs.Str.{bytes_eq};
 
-/// Whether two byte strings are equal. Eight bytes are held against eight, which for short strings is faster than `==`
-/// of slices, and the last eight first, in which most strings of one length differ.
+/// Returns whether two byte strings are equal. Compares eight bytes at a time, which for short strings is faster than
+/// `==` of slices, and the last eight first, in which most strings of one length differ.
 pub fn same(a: &[u8], b: &[u8]) -> bool
     ensures { result ≡ bytes_eq a.now b.now }
 {
@@ -23,7 +23,7 @@ pub fn same(a: &[u8], b: &[u8]) -> bool
     same_fronts(a, b)
 }
 
-/// The same of strings of one length, whose last eight bytes are equal.
+/// Returns whether two strings of one length, whose last eight bytes are equal, are equal.
 #[inline(always)]
 fn same_fronts(a: &[u8], b: &[u8]) -> bool
     requires len { length a.now ≡ length b.now }
@@ -45,7 +45,8 @@ fn same_fronts(a: &[u8], b: &[u8]) -> bool
     true
 }
 
-/// The same of strings of one length, which are fewer than eight bytes: the first four and the last four, or each.
+/// Returns whether two strings of one length below eight are equal: compares the first four bytes and the last four, or
+/// each.
 #[inline(always)]
 fn same_short(a: &[u8], b: &[u8]) -> bool
     requires len { length a.now ≡ length b.now }
@@ -64,7 +65,7 @@ fn same_short(a: &[u8], b: &[u8]) -> bool
     same_last(a, b)
 }
 
-/// The same of strings of one length, of four to seven bytes, whose first four are equal.
+/// Returns whether two strings of one length, of four to seven bytes and with equal first four, are equal.
 #[inline(always)]
 fn same_last(a: &[u8], b: &[u8]) -> bool
     requires len { length a.now ≡ length b.now }
@@ -81,7 +82,7 @@ fn same_last(a: &[u8], b: &[u8]) -> bool
     u32::from_le_bytes(*x) == u32::from_le_bytes(*y)
 }
 
-/// The same of strings of one length, byte by byte.
+/// Returns whether two strings of one length are equal, byte by byte.
 #[inline(always)]
 fn same_each(a: &[u8], b: &[u8]) -> bool
     requires { length a.now ≡ length b.now }

@@ -10,7 +10,7 @@ use std::alloc::{AllocError, AllocFailed, Allocator};
 use std::marker::Model;
 use thiserror::Error as ThisError;
 
-/// The bytes ended before the value did: so many more were wanted, and nothing was read.
+/// The bytes ended before the value did: this many more were needed, and nothing was read.
 #[derive(Clone, Copy, Debug, PartialEq, Eq, ThisError)]
 #[error("unexpected end")]
 pub struct UnexpectedEnd(pub usize);
@@ -32,7 +32,7 @@ impl<T: Drop> From<AllocFailed<T>> for NoMemory {
     }
 }
 
-/// What reading a value answers.
+/// The result of reading a value.
 pub type Result<T> = std::result::Result<T, UnexpectedEnd>;
 
 /// A position in a byte slice, from which reading goes on.
@@ -51,7 +51,7 @@ impl<'a> Model for Cursor<'a> {
 }
 
 impl<'a> Cursor<'a> {
-    /// A cursor at the front of a slice.
+    /// Returns a cursor at the front of a slice.
     pub fn new(bytes: &'a [u8]) -> Cursor<'a>
         ensures rest { result.rest ≡ bytes.now }
         ensures total { result.total ≡ length bytes.now }
@@ -72,21 +72,21 @@ impl<'a> Cursor<'a> {
         }
     }
 
-    /// How many bytes are left.
+    /// Returns how many bytes are left.
     pub fn remaining(&self) -> usize
         ensures { result ≡ length self.now.rest }
     {
         self.rest.len()
     }
 
-    /// The bytes that are left.
+    /// Returns the bytes that are left.
     pub fn chunk(&self) -> &'a [u8]
         ensures { result.now ≡ self.now.rest }
     {
         self.rest
     }
 
-    /// How many bytes were passed.
+    /// Returns how many bytes were passed.
     pub fn position(&self) -> usize
         ensures { result + length self.now.rest ≡ self.now.total }
     {
@@ -108,7 +108,7 @@ impl<'a> Cursor<'a> {
 pub trait Decode: Sized {
     ghost use Rattle.qpack_base.specs.Cursor.{Reads};
 
-    /// What is read, and where the cursor stands then.
+    /// What is read, and where the cursor is then.
     ghost decode_gives: { Reads Self };
 
     /// Reads a value at the cursor.
@@ -189,7 +189,7 @@ impl<A: Allocator> BufMutExt for Vec<u8, A> {
     }
 }
 
-/// Makes room for so many more bytes. Where it is free already, nothing changes and no memory is taken.
+/// Makes room for this many more bytes. If it is free already, nothing changes and no memory is taken.
 pub(crate) fn make_room<A: Allocator>(
     buf: &mut Vec<u8, A>,
     additional: usize,
@@ -236,8 +236,8 @@ pub fn make_room_within<T, A: Allocator>(
     Ok(())
 }
 
-/// Appends the bytes if they are at most `most`, and makes no room past so many more. Returns how many they are. On
-/// error the vector is as before.
+/// Appends the bytes if they are at most `most`, and makes no room beyond `most` more. Returns how many they are. On
+/// error the vector is unchanged.
 pub fn append_within<A: Allocator>(
     bytes: &[u8],
     most: usize,
@@ -261,7 +261,8 @@ pub fn append_within<A: Allocator>(
     Ok(len)
 }
 
-/// The vector with the bytes behind it, for which there is room. It is passed by value, so that it stays in registers.
+/// Returns the vector with the bytes appended, for which there is room. It is passed by value, so that it stays in
+/// registers.
 fn extended<A: Allocator>(mut buf: Vec<u8, A>, bytes: &[u8]) -> (Vec<u8, A>, ())
     requires { vec_len buf + length bytes.now ≤ vec_capacity buf }
     ensures items { result.0.items ≡ buf.items ++ bytes.now }

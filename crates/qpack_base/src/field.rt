@@ -25,7 +25,7 @@ pub struct HeaderField {
 }
 
 impl HeaderField {
-    /// The field of two byte vectors.
+    /// Returns the field of two byte vectors.
     pub fn new(name: Vec<u8>, value: Vec<u8>) -> HeaderField
         ensures { field_of result ≡ record { name = name.items; value = value.items } }
     {
@@ -35,7 +35,7 @@ impl HeaderField {
         }
     }
 
-    /// A copy of two byte slices.
+    /// Copies two byte slices into a field.
     pub fn from_pair(alloc: Global, name: &[u8], value: &[u8]) -> Result<HeaderField, NoMemory>
         ensures { IfOk result (λ field. field_of field ≡ record { name = name.now; value = value.now }) }
     {
@@ -44,14 +44,14 @@ impl HeaderField {
         Ok(HeaderField::new(name, value))
     }
 
-    /// The size of the field in a table, in bytes, at most 2^64 - 1 (RFC 9204, section 3.2.1).
+    /// Returns the size of the field in a table, in bytes, at most 2^64 - 1 (RFC 9204, section 3.2.1).
     pub fn mem_size(&self) -> usize
         ensures { result ≡ min (field_size (field_of self.now)) (2 ^ 64 - 1) }
     {
         self.as_line().mem_size()
     }
 
-    /// The field as a line that lends its name and its value, and that may be indexed.
+    /// Borrows the field as a line that may be indexed.
     #[inline(always)]
     pub fn as_line(&self) -> FieldLine<'_>
         ensures { line_of result ≡ unmarked (field_of self.now) }
@@ -59,7 +59,7 @@ impl HeaderField {
         FieldLine::new(self.name.as_slice(), self.value.as_slice())
     }
 
-    /// The field with another value.
+    /// Returns the field with another value.
     pub fn with_value(&self, value: Vec<u8>) -> Result<HeaderField, NoMemory>
         ensures { IfOk result (λ field. field_of field ≡
             record { name = (field_of self.now).name; value = value.items }) }
@@ -70,14 +70,14 @@ impl HeaderField {
         })
     }
 
-    /// The name and the value.
+    /// Returns the name and the value.
     pub fn into_inner(self) -> (CowSlice<'static, u8>, CowSlice<'static, u8>)
         ensures { result ≡ (self.name, self.value) }
     {
         (self.name, self.value)
     }
 
-    /// The name, a TAB and the value as text, with U+FFFD for what is no UTF-8.
+    /// Returns the name, a TAB and the value as text, with U+FFFD for what is no UTF-8.
     pub fn to_text(&self, alloc: Global) -> Result<String, NoMemory>
         ensures { IfOk result (λ text. string_bytes text ≡ text_of (field_of self.now)) }
     {
@@ -89,7 +89,7 @@ impl HeaderField {
     }
 }
 
-/// A field line (RFC 9110, section 5): a field that is lent, and whether it is to stay a literal wherever it is sent on
+/// A field line (RFC 9110, section 5): a borrowed field, and whether it is to stay a literal wherever it is sent on
 /// (RFC 9204, section 7.1.3).
 #[derive(Clone, Copy, Debug, PartialEq, Drop)]
 pub struct FieldLine<'a> {
@@ -102,7 +102,7 @@ pub struct FieldLine<'a> {
 }
 
 impl<'a> FieldLine<'a> {
-    /// The line of a field that may be indexed.
+    /// Returns the line of a field that may be indexed.
     #[inline(always)]
     pub fn new(name: &'a [u8], value: &'a [u8]) -> FieldLine<'a>
         ensures { line_of result ≡ unmarked (record { name = name.now; value = value.now }) }
@@ -114,7 +114,7 @@ impl<'a> FieldLine<'a> {
         }
     }
 
-    /// The line of a field that is never to be indexed.
+    /// Returns the line of a field that is never to be indexed.
     #[inline(always)]
     pub fn never_indexed(name: &'a [u8], value: &'a [u8]) -> FieldLine<'a>
         ensures { line_of result ≡
@@ -127,7 +127,7 @@ impl<'a> FieldLine<'a> {
         }
     }
 
-    /// The size of the field in a table, in bytes, at most 2^64 - 1 (RFC 9204, section 3.2.1).
+    /// Returns the size of the field in a table, in bytes, at most 2^64 - 1 (RFC 9204, section 3.2.1).
     pub fn mem_size(&self) -> usize
         ensures { result ≡ min (field_size (line_of self.now).field) (2 ^ 64 - 1) }
     {
@@ -146,7 +146,7 @@ impl fmt::Display for HeaderField {
     }
 }
 
-/// What `==` answers: whether the two names and the two values are the same bytes, however each is held.
+/// Returns what `==` returns: whether the two names and the two values are the same bytes, however each is stored.
 pub fn equality_is_of_bytes(field: &HeaderField, other: &HeaderField) -> bool
     ensures operator { result ≡ ⟦<HeaderField as PartialEq>⟧.eq field.now other.now }
     ensures bytes { IsTrue result ↔ (field_of field.now ≡ field_of other.now) }
@@ -154,8 +154,8 @@ pub fn equality_is_of_bytes(field: &HeaderField, other: &HeaderField) -> bool
     field == other
 }
 
-/// What `cmp` answers: the order of the names, then that of the values, each byte by byte. Fields that are equal,
-/// and no others, tie.
+/// Returns what `cmp` returns: the order of the names, then that of the values, each byte by byte. Only equal fields
+/// tie.
 pub fn order_is_of_bytes(field: &HeaderField, other: &HeaderField) -> Ordering
     ensures operator { result ≡ ⟦<HeaderField as Ord>⟧.cmp field.now other.now }
     ensures bytes { result ≡ field_cmp (field_of field.now) (field_of other.now) }
@@ -164,9 +164,9 @@ pub fn order_is_of_bytes(field: &HeaderField, other: &HeaderField) -> Ordering
     field.cmp(other)
 }
 
-/// Feeds a field to a hasher and another to a second one, whatever hashers they are, and answers whether the
-/// fields are equal. A hasher is fed the bytes of the name and of the value, each behind their number, however
-/// they are held: so equal fields hash alike.
+/// Feeds one field to a hasher and another to a second one, whatever hashers they are, and returns whether the fields
+/// are equal. A hasher gets the length and the bytes of the name, then those of the value, however they are stored: so
+/// equal fields hash alike.
 pub fn equal_fields_hash_alike<H: Hasher>(
     field: &HeaderField,
     other: &HeaderField,

@@ -15,7 +15,7 @@ pub enum ParseError {
     /// An integer is too large, or the bytes end within it.
     #[error("could not parse integer: {0}")]
     Integer(prefix_int::Error),
-    /// A string means nothing, or the bytes end within it.
+    /// A string is malformed, or the bytes end within it.
     #[error("could not parse string: {0}")]
     String(prefix_string::Error),
     /// The first bits are those of another form: the flags above the prefix, or the whole first byte.

@@ -35,7 +35,7 @@ impl From<coding::UnexpectedEnd> for Error {
     }
 }
 
-/// The further bytes that are read behind a full prefix, at most.
+/// The most further bytes that are read after a full prefix.
 const MOST_GROUPS: u8 = 9;
 
 /// Reads the integer at the cursor, with a prefix of `size` bits: the flags, which are the bits above
@@ -53,7 +53,7 @@ pub fn decode(size: u8, buf: &mut Cursor) -> Result<(u8, u64), Error>
         (result ≡ Ok (flags, value)) × MovesPast encoding buf.old buf.new }
     ensures overflow { (result ≡ Err Overflow) ↔ Begins (OverflowsInteger size) buf.old.rest }
     ensures truncated { (result ≡ Err Truncated) ↔ TruncatesInteger size buf.old.rest }
-    // The same, as reading from left to right.
+    // The clauses above as one function, which reads from left to right.
     ensures exact { ReadsInteger buf.old buf.new result (integer_at size buf.old.rest) }
 {
     read(size, buf)
@@ -118,7 +118,7 @@ pub fn encode<A: Allocator>(
     Ok(())
 }
 
-/// The same of a value that fills the prefix.
+/// Appends the spelling as `encode` does, for a value that fills the prefix.
 #[inline(never)]
 fn encode_long<A: Allocator>(
     size: u8,
@@ -136,7 +136,7 @@ fn encode_long<A: Allocator>(
     Ok(())
 }
 
-/// The same into the free room.
+/// Appends the spelling as `encode` does, into the free room.
 #[inline(always)]
 pub(crate) fn put<A: Allocator>(size: u8, flags: u8, value: u64, buf: &mut Vec<u8, A>)
     requires least { 1 ≤ size }
@@ -151,7 +151,7 @@ pub(crate) fn put<A: Allocator>(size: u8, flags: u8, value: u64, buf: &mut Vec<u
     }
 }
 
-/// The same of a value that fills the prefix.
+/// Appends the spelling as `put` does, for a value that fills the prefix.
 #[inline(never)]
 #[tactic(auto, unfolding(qpack_spec::specs::Integer::written_integer))]
 fn put_long<A: Allocator>(size: u8, flags: u8, value: u64, buf: &mut Vec<u8, A>)
@@ -167,7 +167,8 @@ fn put_long<A: Allocator>(size: u8, flags: u8, value: u64, buf: &mut Vec<u8, A>)
     put_groups(value - most, buf);
 }
 
-/// The shortest spelling of a value, under the flags, which are cut to the bits above the prefix, if it is one byte.
+/// Returns the shortest spelling of a value, under the flags, which are cut to the bits above the prefix, if it is one
+/// byte.
 #[inline(always)]
 #[tactic(auto, unfolding(qpack_spec::specs::Integer::written_integer))]
 pub(crate) fn short(size: u8, flags: u8, value: u64) -> Option<u8>
@@ -182,7 +183,7 @@ pub(crate) fn short(size: u8, flags: u8, value: u64) -> Option<u8>
     Some(first_byte(size, flags, value))
 }
 
-/// The same, if it is two bytes.
+/// Returns the shortest spelling of a value, under the flags, as `short` has it, if it is two bytes.
 #[inline(always)]
 #[tactic(auto, unfolding(qpack_spec::specs::Integer::written_integer), using(crate::proofs::WrittenGroups::written_steps))]
 pub(crate) fn paired(size: u8, flags: u8, value: u64) -> Option<(u8, u8)>
@@ -197,7 +198,7 @@ pub(crate) fn paired(size: u8, flags: u8, value: u64) -> Option<(u8, u8)>
     Some((first_byte(size, flags, most), (value - most) as u8))
 }
 
-/// The prefix under the flags, which are cut to the bits above it.
+/// Returns the prefix under the flags, which are cut to the bits above it.
 #[inline(always)]
 fn first_byte(size: u8, flags: u8, prefix: u64) -> u8
     requires least { 1 ≤ size }
@@ -209,7 +210,7 @@ fn first_byte(size: u8, flags: u8, prefix: u64) -> u8
     (high + prefix) as u8
 }
 
-/// How many bytes the shortest spelling of the value has, with a prefix of `size` bits.
+/// Returns how many bytes the shortest spelling of the value has, with a prefix of `size` bits.
 #[tactic(auto, unfolding(qpack_spec::specs::Integer::written_integer))]
 pub(crate) fn encoded_len(size: u8, value: u64) -> usize
     requires least { 1 ≤ size }
@@ -232,7 +233,7 @@ fn power(bits: u8) -> u64
     1 << bits
 }
 
-/// How many groups of seven bits the value takes.
+/// Returns how many groups of seven bits the value takes.
 #[tactic(auto, using(crate::proofs::WrittenGroups::written_steps))]
 fn groups_len(value: u64) -> usize
     ensures len { result ≡ length (written_groups 9 value) }

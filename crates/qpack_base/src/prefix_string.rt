@@ -46,13 +46,13 @@ pub enum Error {
     /// The length overflows.
     #[error("could not parse integer: {0}")]
     Integer(prefix_int::Error),
-    /// The coded payload means nothing.
+    /// The coded payload is malformed.
     #[error("Huffman decode failed: {0:?}")]
     HuffmanDecoding(HuffmanDecodingError),
-    /// Kept from the original, and never answered: a refused growth is `Memory`.
+    /// Kept from the original, and never returned: a refused growth is `Memory`.
     #[error("Huffman encode failed: {0:?}")]
     HuffmanEncoding(HuffmanEncodingError),
-    /// Kept from the original, and never answered: no number is narrowed.
+    /// Kept from the original, and never returned: no number is narrowed.
     #[error("number in buffer wrong size")]
     BufSize,
     /// No memory was left.
@@ -118,9 +118,8 @@ struct Payload<'a> {
     bytes: &'a [u8],
 }
 
-/// Reads the string at the cursor, with a prefix of `size` bits, plain or coded. Memory is asked for
-/// only where a payload that is not empty stands whole at the cursor. Where the string is refused,
-/// the cursor's position is unspecified.
+/// Reads the string at the cursor, with a prefix of `size` bits, plain or coded. Asks for memory only if the payload is
+/// whole and not empty. On error the cursor's position is unspecified.
 pub fn decode(alloc: Global, size: u8, buf: &mut Cursor) -> Result<Vec<u8>, Error>
     requires least { 2 ≤ size }
     requires most { size ≤ 8 }
@@ -134,14 +133,14 @@ pub fn decode(alloc: Global, size: u8, buf: &mut Cursor) -> Result<Vec<u8>, Erro
     ensures overflow { (result ≡ Err (BadLength Overflow)) ↔
         Begins (λ encoding. RefusesString size encoding LengthOverflows) buf.old.rest }
     ensures truncated { (result ≡ Err Truncated) ↔ TruncatesString size buf.old.rest }
-    // A coded payload that means nothing is refused for its fault, unless memory is refused.
+    // A malformed coded payload is rejected for its fault, unless memory is refused.
     ensures faulty { (fault : HuffmanFault) → IsFaulty result fault →
         Begins (λ encoding. RefusesString size encoding (BadHuffman fault)) buf.old.rest }
     ensures refused { (fault : HuffmanFault) →
         Begins (λ encoding. RefusesString size encoding (BadHuffman fault)) buf.old.rest → GivesFault result fault }
     // Memory is refused only to a whole payload.
     ensures memory { result ≡ Err NoRoom → Begins (HoldsPayload size) buf.old.rest }
-    // The same, as reading from left to right.
+    // The clauses above as one function, which reads from left to right.
     ensures exact { ReadsString buf.old buf.new result (string_at size buf.old.rest) }
 {
     read(alloc, size, buf)
@@ -159,7 +158,7 @@ pub fn decode_onto<A: Allocator>(
     requires most { size ≤ 8 }
     // The value that is read is appended, and the cursor moves past exactly its string.
     ensures exact { AppendsString buf.old buf.new text.old text.new result (string_at size buf.old.rest) }
-    // Memory is refused only where there was less room than any payload of the bytes that are left may want.
+    // Memory is refused only if there was less room than any payload of the bytes that are left may need.
     ensures memory { result ≡ Err NoRoom →
         vec_capacity text.old < vec_len text.old + (length buf.old.rest / 5 * 8 + 6) }
     ensures capacity { vec_capacity text.old ≤ vec_capacity text.new }
@@ -180,10 +179,10 @@ pub fn decode_within<A: Allocator>(
     requires greatest { size ≤ 8 }
     // The value that is read is appended if it is no longer, and the cursor moves past exactly its string.
     ensures exact { AppendsStringWithin most buf.old buf.new text.old text.new result (string_at size buf.old.rest) }
-    // Memory is refused only where there was less room than any payload of the bytes that are left may want,
+    // Memory is refused only if there was less room than any payload of the bytes that are left may need,
     ensures memory { result ≡ Err NoRoom →
         vec_capacity text.old < vec_len text.old + (length buf.old.rest / 5 * 8 + 6) }
-    // and only to a value that would be appended, or to a payload that means nothing.
+    // and only to a value that would be appended, or to a malformed payload.
     ensures fits { result ≡ Err NoRoom → FitsStringWithin most (string_at size buf.old.rest) }
     ensures capacity { vec_capacity text.old ≤ vec_capacity text.new }
     ensures within { vec_capacity text.new ≤ max (vec_capacity text.old) (vec_len text.old + most) }
@@ -209,7 +208,7 @@ pub fn encode<A: Allocator>(
     Ok(append(size, flags, value, buf)?)
 }
 
-/// The same, with an error that comes back in a register. In line, the size of the prefix is known.
+/// Appends the literal as `encode` does, with an error that fits a register. Inlined, it knows the size of the prefix.
 #[inline(always)]
 fn append<A: Allocator>(
     size: u8,
@@ -227,7 +226,8 @@ fn append<A: Allocator>(
     append_measured(size, flags, value, buf)
 }
 
-/// Whether there is room for two bytes and the payload of this text, which has at most four bytes for each of the text.
+/// Returns whether there is room for two bytes and the payload of this text, which has at most four bytes for each of
+/// the text.
 #[inline(always)]
 fn has_ample_room<A: Allocator>(value: &[u8], buf: &Vec<u8, A>) -> bool
     ensures { IsTrue result → vec_len buf.now + 4 * length value.now + 2 ≤ vec_capacity buf.now }
@@ -258,8 +258,8 @@ fn append_unmeasured<A: Allocator>(size: u8, flags: u8, value: &[u8], buf: &mut 
     false
 }
 
-/// Appends the literal, if its length stands in one byte: that byte is written again when the payload stands behind
-/// it. Else the vector is as before.
+/// Appends the literal, if its length takes one byte: that byte is written again once the payload is after it.
+/// Otherwise the vector is unchanged.
 #[inline(always)]
 #[tactic(auto, unfolding(qpack_spec::specs::Text::written_string))]
 fn append_short<A: Allocator>(size: u8, flags: u8, value: &[u8], buf: &mut Vec<u8, A>) -> bool
@@ -282,7 +282,7 @@ fn append_short<A: Allocator>(size: u8, flags: u8, value: &[u8], buf: &mut Vec<u
     true
 }
 
-/// The same, if its length takes two bytes.
+/// Appends the literal as `append_short` does, if its length takes two bytes.
 #[inline(always)]
 #[tactic(auto, unfolding(qpack_spec::specs::Text::written_string))]
 fn append_paired<A: Allocator>(size: u8, flags: u8, value: &[u8], buf: &mut Vec<u8, A>) -> bool
@@ -329,7 +329,7 @@ fn append_measured<A: Allocator>(
     Ok(())
 }
 
-/// The string at the cursor, in a vector of its own.
+/// Returns the string at the cursor, in a new vector.
 fn read(alloc: Global, size: u8, buf: &mut Cursor) -> Result<Vec<u8>, Error>
     requires least { 2 ≤ size }
     requires most { size ≤ 8 }
@@ -341,7 +341,7 @@ fn read(alloc: Global, size: u8, buf: &mut Cursor) -> Result<Vec<u8>, Error>
     Ok(value)
 }
 
-/// Passes the string at the cursor, and answers its payload.
+/// Moves past the string at the cursor, and returns its payload.
 #[inline(always)]
 #[tactic(auto, unfolding(qpack_spec::specs::Text::string_at))]
 fn take_payload<'a>(size: u8, buf: &mut Cursor<'a>) -> Result<Payload<'a>, Error>
@@ -414,7 +414,7 @@ fn push_plain<A: Allocator>(payload: &[u8], text: &mut Vec<u8, A>) -> Result<(),
     Ok(text.extend_from_slice(payload)?)
 }
 
-/// Makes room for so many more bytes. An empty text, which may be all that its vector is for, is given no more.
+/// Makes room for this many more bytes. An empty text, which may be the only use of its vector, gets exactly that.
 fn make_text_room<A: Allocator>(text: &mut Vec<u8, A>, additional: usize) -> Result<(), NoMemory>
     ensures items { text.new.items ≡ text.old.items }
     ensures len { vec_len text.new ≡ vec_len text.old }
@@ -440,8 +440,8 @@ fn read_text<A: Allocator>(payload: &[u8], text: &mut Vec<u8, A>) -> Result<(), 
     Ok(push_text(payload, text)?)
 }
 
-/// The same if the text has at most `most` bytes. Returns how many it has. It is counted first where a payload of this
-/// length may mean more.
+/// Appends the text as `read_text` does, if it has at most `most` bytes. Returns how many it has. Counts them first if
+/// a payload of this length may mean more.
 fn read_text_within<A: Allocator>(
     payload: &[u8],
     most: usize,
@@ -470,14 +470,14 @@ fn read_text_within<A: Allocator>(
     Ok(len)
 }
 
-/// No fewer bytes than any payload of this length means, since no code has fewer than five bits.
+/// Returns an upper bound of the bytes that a payload of this length means, since no code has fewer than five bits.
 fn longest_text(payload: &[u8]) -> usize
     ensures { result ≡ length payload.now / 5 * 8 + 6 }
 {
     payload.len() / 5 * 8 + 6
 }
 
-/// How many bytes the text has that a coded payload means.
+/// Returns how many bytes the text has that a coded payload means.
 fn text_len(payload: &[u8]) -> Result<usize, HuffmanDecodingError>
     ensures ok { IfOk result (λ len. (value : List ℕ) × (text_of_bits (bits_of_bytes payload.now) ≡ Ok value) ×
         (len ≡ length value)) }
@@ -493,8 +493,8 @@ fn text_len(payload: &[u8]) -> Result<usize, HuffmanDecodingError>
     Ok(len)
 }
 
-/// Appends the text that a coded payload means into the free room, which is enough for the longest. Where it means
-/// nothing, the text is as before.
+/// Appends the text that a coded payload means into the free room, which is enough for the longest. If the payload is
+/// malformed the text is unchanged.
 fn push_text<A: Allocator>(
     payload: &[u8],
     text: &mut Vec<u8, A>,

@@ -39,7 +39,7 @@ pub enum StaticMatch {
 pub struct StaticTable;
 
 impl StaticTable {
-    /// The field at an index, from 0 to 98, borrowed for 'static.
+    /// Returns the field at an index, from 0 to 98, borrowed for 'static.
     pub fn get(index: usize) -> Result<HeaderField, Error>
         ensures found { IfOk result (λ field. IsStaticAt index (field_of field)) }
         ensures unknown { IfErr result (λ e. (e ≡ Unknown index) × (length static_table ≤ index)) }
@@ -53,7 +53,7 @@ impl StaticTable {
         })
     }
 
-    /// The equal field, or else the first one with the name, in one search.
+    /// Returns the equal field, or else the first one with the name, in one search.
     #[inline(always)]
     pub fn lookup(name: &[u8], value: &[u8]) -> Option<StaticMatch>
         ensures { result ≡ match_of (static_index (field name.now value.now)) (static_name_index name.now) }
@@ -66,7 +66,7 @@ impl StaticTable {
         }
     }
 
-    /// The index of the equal field.
+    /// Returns the index of the equal field.
     pub fn find(field: &HeaderField) -> Option<usize>
         ensures found { IfSome result (IsLeastStatic (λ f. f ≡ field_of field.now)) }
         ensures none { IfNone result (NoStatic (λ f. f ≡ field_of field.now)) }
@@ -75,14 +75,14 @@ impl StaticTable {
         StaticTable::find_line(&field.as_line())
     }
 
-    /// The same of a field that is lent.
+    /// Returns the index of a borrowed field, as `find` does.
     pub fn find_line(field: &FieldLine<'_>) -> Option<usize>
         ensures { result ≡ static_index (line_of field.now).field }
     {
         index_of_value(indexes_of(field.name), field.value)
     }
 
-    /// The least index of a field with the name.
+    /// Returns the least index of a field with the name.
     pub fn find_name(name: &[u8]) -> Option<usize>
         ensures found { IfSome result (IsLeastStatic (λ f. f.name ≡ name.now)) }
         ensures none { IfNone result (NoStatic (λ f. f.name ≡ name.now)) }
@@ -92,7 +92,7 @@ impl StaticTable {
     }
 }
 
-/// All indexes with this name, rising.
+/// Returns all indexes with this name, rising.
 fn indexes_of(name: &[u8]) -> &'static [usize]
     ensures { result.now ≡ indexes_with_name name.now }
 {
@@ -102,14 +102,14 @@ fn indexes_of(name: &[u8]) -> &'static [usize]
     entry.1
 }
 
-/// The entry with this name.
+/// Returns the entry with this name.
 fn entry_of(names: &'static [Name], name: &[u8]) -> Option<&'static Name>
     ensures { option_copied result ≡ find (λ e. bytes_eq name.now e.0.now) names.now }
 {
     names.iter().find(|entry| same(name, entry.0))
 }
 
-/// The first of the indexes whose field has this value.
+/// Returns the first of the indexes whose field has this value.
 #[inline(always)]
 fn index_of_value(indexes: &[usize], value: &[u8]) -> Option<usize>
     ensures { result ≡ find (λ index. has_value_at value.now index) indexes.now }
@@ -120,7 +120,7 @@ fn index_of_value(indexes: &[usize], value: &[u8]) -> Option<usize>
         .find(|&index| has_value(index, value))
 }
 
-/// Whether the field at the index has this value.
+/// Returns whether the field at the index has this value.
 #[inline(always)]
 fn has_value(index: usize, value: &[u8]) -> bool
     ensures { result ≡ has_value_at value.now index }
@@ -128,8 +128,8 @@ fn has_value(index: usize, value: &[u8]) -> bool
     row(index).is_some_and(|row| is_value(value, row.1))
 }
 
-/// Whether two values are equal. Most differ in length, and their bytes are looked at in a call of its own, so that a
-/// look for a value stays in line.
+/// Returns whether two values are equal. Most differ in length; the comparison of bytes is a call of its own, so that a
+/// search for a value stays inlined.
 #[inline(always)]
 fn is_value(value: &[u8], known: &[u8]) -> bool
     ensures { result ≡ bytes_eq value.now known.now }
@@ -140,7 +140,7 @@ fn is_value(value: &[u8], known: &[u8]) -> bool
     same_bytes(value, known)
 }
 
-/// The same of values of one length.
+/// Returns whether two values of one length are equal.
 #[inline(never)]
 fn same_bytes(value: &[u8], known: &[u8]) -> bool
     ensures { result ≡ bytes_eq value.now known.now }

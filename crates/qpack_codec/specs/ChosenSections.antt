@@ -27,8 +27,8 @@ pub record AddsChosen (fields : List FieldLine) (old : Table) (base : ℕ) (new 
   pub adds : AddsLines fields (chosen_fields base (draft_at old) fields choices) new lines_old lines_new written_old
       written_new
 
--- memory was refused after some of the field lines: but for what is referenced, the table is the one after them under
--- some choices, and exactly their instructions were written
+-- memory was refused after some of the field lines: except for references, the table is the one after them under some
+-- choices, and exactly their instructions were written
 pub record StopsAmongChosen (fields : List FieldLine) (old : Table) (base : ℕ) (new : Table) (written_old written_new :
     List ℕ) : Type 0 where
   pub many : ℕ
@@ -42,7 +42,7 @@ pub record StopsAmongChosen (fields : List FieldLine) (old : Table) (base : ℕ)
 -- ---- a block
 
 -- the block of the field lines was written under some choices, and is not ended: its bytes, its instructions and the
--- table after its lines are those of the choices, and what is answered is its required insert count
+-- table after its lines are those of the choices, and its required insert count is returned
 pub record DraftsChosen (fields : List FieldLine) (old new : Table) (block_old block_new written_old written_new :
     List ℕ) (required : ℕ) : Type 0 where
   pub choices : List Chosen
@@ -52,7 +52,7 @@ pub record DraftsChosen (fields : List FieldLine) (old new : Table) (block_old b
   pub written : written_new ≡ written_old ++ written_encoder_instructions (chosen_rule old fields choices).instructions
 
 -- the block of the field lines was written under some choices: its bytes, its instructions and the table after it are
--- those of the choices, and what is answered is its required insert count (section 2.1.2)
+-- those of the choices, and its required insert count is returned (section 2.1.2)
 pub record EncodesChosen (stream : ℕ) (fields : List FieldLine) (old new : Table) (block_old block_new written_old
     written_new : List ℕ) (required : ℕ) : Type 0 where
   pub choices : List Chosen
@@ -80,7 +80,7 @@ pub record AddsByChooser {K W : Type 0} (chooses : Chooses K W) (l : FieldLine) 
   pub adds : AddsLines (l ∷ []) (chosen_field base (draft_at old) l choice) new lines_old lines_new written_old
       written_new
 
--- the same of field lines, one after the other
+-- field lines were added under a chooser's choices, one after the other
 pub record AddsAlong {K W : Type 0} (chooses : Chooses K W) (fields : List FieldLine) (wishes : List W) (old : Table)
     (base : ℕ) (new : Table) (before after : K) (lines_old lines_new written_old written_new : List ℕ) : Type 0 where
   pub adds : AddsChosen fields old base new lines_old lines_new written_old written_new

@@ -17,12 +17,12 @@ use Rattle.qpack_spec.specs.Marked.{marked_rule, written_marked_lines, written_m
 use Rattle.qpack_base.specs.HeaderFields.{DrainsFields}
 use Rattle.qpack_base.specs.declared.field.HeaderField.{HeaderField}
 
--- the iterator gives so many items and ends, and P holds of the list of the field lines that they lend
+-- the iterator gives this many items and ends, and P holds of the list of the field lines borrowed from them
 abbrev pub DrainsLinesOf : {S H : Type 0} → (H → FieldLine) → (S → Option H → S → Type 0) → S
     → (List FieldLine → Type 0) → Type 0
 DrainsLinesOf {H = H} line steps it P = (items : List H) × Drains steps it items × P (map line items)
 
--- the written instruction of an insertion's answer, if it has one
+-- the written instruction of an insertion's result, if it has one
 abbrev pub written_insertion : Field → Insertion → List ℕ
 written_insertion f (Duplicated relative post_base absolute) = written_encoder_instruction (Duplicate relative)
 written_insertion f (InsertedWithStaticName post_base index absolute) =
@@ -45,7 +45,7 @@ AreAlike (Err e) (Err f) = Unit {0}
 abbrev pub instructions_room : List Field → ℕ
 instructions_room fs = 4 * total_size fs
 
--- what was appended to a vector takes so many bytes at most, and with free room for these the vector was not grown
+-- at most this many bytes were appended to a vector, and with free room for these the vector did not grow
 pub record GrowsWithin {A : Type 0} (room : ℕ) (old new : Vec ℕ A) : Type 0 where
   pub longer : vec_len new ≤ vec_len old + room
   pub still : vec_len old + room ≤ vec_capacity old → vec_capacity new ≡ vec_capacity old
@@ -59,7 +59,7 @@ GrowsForLinesOf line steps it old new =
     GrowsWithin 0 old new
     ⊎ DrainsLinesOf line steps it (λ ls. GrowsWithin (instructions_room (fields_of_lines ls)) old new)
 
--- the same of references to fields
+-- how far the vector grows for an iterator of references to fields
 abbrev pub GrowsForFields : {S A : Type 0} → (S → Option (Bor HeaderField) → S → Type 0) → S → Vec ℕ A → Vec ℕ A
     → Type 0
 GrowsForFields steps it old new =
@@ -81,8 +81,8 @@ pub record Adds (d : Draft) (new : Table) (lines_old lines_new written_old writt
   pub lines : lines_new ≡ lines_old ++ written_lines d.lines
   pub written : written_new ≡ written_old ++ written_encoder_instructions d.instructions
 
--- memory was refused: but for what is referenced, the table is as before, and no instruction was written; or the table
--- is the draft's, and exactly its instructions were written
+-- memory was refused: except for references, the table is unchanged, and no instruction was written; or the table is
+-- the draft's, and exactly its instructions were written
 abbrev pub StopsAdding : Draft → Table → Table → List ℕ → List ℕ → Type 0
 StopsAdding d old new written_old written_new =
     ((without_references new ≡ without_references old) × (written_new ≡ written_old))
@@ -105,8 +105,8 @@ pub record AddsLines (ls : List FieldLine) (d : Draft) (new : Table) (lines_old 
   pub lines : lines_new ≡ lines_old ++ written_marked_lines ls d.lines
   pub written : written_new ≡ written_old ++ written_encoder_instructions d.instructions
 
--- memory was refused behind some of the field lines: but for what is referenced, the table is as behind them, and
--- exactly their instructions were written
+-- memory was refused after some of the field lines: except for references, the table is the one after them, and exactly
+-- their instructions were written
 pub record StopsAmong (fields : List FieldLine) (old : Table) (base : ℕ) (new : Table) (written_old written_new :
     List ℕ) : Type 0 where
   pub many : ℕ
@@ -117,7 +117,7 @@ pub record StopsAmong (fields : List FieldLine) (old : Table) (base : ℕ) (new 
 -- ---- a block
 
 -- the block of the field lines was written, and is not ended: its bytes and its instructions are the rule's, the table
--- is the rule's behind its lines, and what is answered is its required insert count
+-- is the rule's after its lines, and its required insert count is returned
 pub record DraftsBlock (fields : List FieldLine) (old new : Table) (block_old block_new written_old written_new :
     List ℕ) (required : ℕ) : Type 0 where
   pub required_is : required ≡ required_insert_count (marked_rule old fields)
@@ -126,7 +126,7 @@ pub record DraftsBlock (fields : List FieldLine) (old new : Table) (block_old bl
   pub written : written_new ≡ written_old ++ written_encoder_instructions (marked_rule old fields).instructions
 
 -- the block of the field lines was written: its bytes and its instructions are the rule's, the table is the rule's
--- behind the block, and what is answered is its required insert count
+-- after the block, and its required insert count is returned
 pub record EncodesLines (stream : ℕ) (fields : List FieldLine) (old new : Table) (block_old block_new written_old
     written_new : List ℕ) (required : ℕ) : Type 0 where
   pub required_is : required ≡ required_insert_count (marked_rule old fields)
@@ -134,7 +134,7 @@ pub record EncodesLines (stream : ℕ) (fields : List FieldLine) (old new : Tabl
   pub block : block_new ≡ block_old ++ written_marked_block fields (block_of old (marked_rule old fields))
   pub written : written_new ≡ written_old ++ written_encoder_instructions (marked_rule old fields).instructions
 
--- the block was given up behind some of the field lines: their insertions stand and were written, and nothing is
+-- the block was given up after some of the field lines: their insertions stay and were written, and nothing is
 -- referenced
 pub record GivesUpLines (fields : List FieldLine) (old new : Table) (written_old written_new : List ℕ) : Type 0 where
   pub many : ℕ
@@ -142,7 +142,7 @@ pub record GivesUpLines (fields : List FieldLine) (old new : Table) (written_old
   pub written : written_new
       ≡ written_old ++ written_encoder_instructions (marked_rule old (take many fields)).instructions
 
--- memory was refused: before the field lines were gathered, and then nothing was inserted; or behind some of them
+-- memory was refused: before the field lines were gathered, and then nothing was inserted; or after some of them
 abbrev pub StopsEncodingLinesOf : {S H : Type 0} → (H → FieldLine) → (S → Option H → S → Type 0) → S → Table → Table
     → List ℕ → List ℕ → Type 0
 StopsEncodingLinesOf line steps it old new written_old written_new =
@@ -151,8 +151,8 @@ StopsEncodingLinesOf line steps it old new written_old written_new =
 
 -- ---- a block of fields none of which is marked
 
--- the block of the fields was written: its bytes and its instructions are the rule's, the table is the rule's behind
--- the block, and what is answered is its required insert count
+-- the block of the fields was written: its bytes and its instructions are the rule's, the table is the rule's after the
+-- block, and its required insert count is returned
 pub record EncodesBlock (stream : ℕ) (fields : List Field) (old new : Table) (block_old block_new written_old
     written_new : List ℕ) (required : ℕ) : Type 0 where
   pub required_is : required ≡ required_insert_count (rule old fields)
@@ -160,13 +160,13 @@ pub record EncodesBlock (stream : ℕ) (fields : List Field) (old new : Table) (
   pub block : block_new ≡ block_old ++ written_block (block_of old (rule old fields))
   pub written : written_new ≡ written_old ++ written_encoder_instructions (rule old fields).instructions
 
--- the block was given up behind some of the fields: their insertions stand and were written, and nothing is referenced
+-- the block was given up after some of the fields: their insertions stay and were written, and nothing is referenced
 pub record GivesUpBlock (fields : List Field) (old new : Table) (written_old written_new : List ℕ) : Type 0 where
   pub many : ℕ
   pub table : new ≡ without_references (rule old (take many fields)).table
   pub written : written_new ≡ written_old ++ written_encoder_instructions (rule old (take many fields)).instructions
 
--- memory was refused: before the fields were gathered, and then nothing was inserted; or behind some of the fields
+-- memory was refused: before the fields were gathered, and then nothing was inserted; or after some of the fields
 abbrev pub StopsEncoding : {S : Type 0} → (S → Option (Bor HeaderField) → S → Type 0) → S → Table → Table → List ℕ
     → List ℕ → Type 0
 StopsEncoding steps it old new written_old written_new =

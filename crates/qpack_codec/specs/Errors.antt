@@ -14,7 +14,7 @@ use Rattle.qpack_codec.specs.declared.error.DecoderError.TheVariants as decoder
 use Rattle.qpack_codec.specs.declared.error.EncoderError.{EncoderError}
 use Rattle.qpack_codec.specs.declared.error.EncoderError.TheVariants as encoder
 
--- ---- the decoder's; want of memory stays what it is, whatever it was wrapped in
+-- ---- the decoder's; out of memory stays itself, whatever it was wrapped in
 
 -- a line or a prefix that can't be read
 abbrev pub decoder_error_of_parse : ParseError → DecoderError
@@ -45,7 +45,7 @@ decoder_error_of_string string.UnexpectedEnd = decoder.UnexpectedEnd
 decoder_error_of_string string.Memory = decoder.Memory
 decoder_error_of_string e = decoder.InvalidString e
 
--- ---- the encoder's; here too want of memory stays what it is
+-- ---- the encoder's; here too out of memory stays itself
 
 -- a refusal of the dynamic table
 abbrev pub encoder_error_of_table : TableError → EncoderError

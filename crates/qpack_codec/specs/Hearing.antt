@@ -15,12 +15,12 @@ use Rattle.qpack_codec.specs.declared.error.EncoderError.{EncoderError}
 use Rattle.qpack_codec.specs.declared.error.EncoderError.TheVariants.{Insertion, InvalidInteger, Memory}
 use Rattle.qpack_codec.specs.Taking.{TakesNextOf, EndsTakingOf}
 
--- the fault of bytes that an error tells
+-- the fault of bytes that an error reports
 abbrev pub form_fault_of : EncoderError → Option FormFault
 form_fault_of (InvalidInteger e) = Some (BadInteger (integer_fault_of e))
 form_fault_of e = None
 
--- the refusal of the table that an error tells
+-- the refusal of the table that an error reports
 abbrev pub refusal_of : EncoderError → Option TableRefusal
 refusal_of (Insertion e) = tables.refusal_of e
 refusal_of e = None
@@ -42,14 +42,14 @@ pub data StopsHearing (t : Table) (rest left : List ℕ) (e : EncoderError) : Ty
       → SpellsDecoderInstruction encoding r
       → apply_decoder_instruction t r ≡ Err refusal → refusal_of e ≡ Some refusal → StopsHearing t rest left e
 
--- an instruction is taken, or none stands whole, or it is not taken
+-- an instruction is applied, or none is whole, or it is not applied
 abbrev pub HearsNext : Table → Table → List ℕ → List ℕ → Result Bool EncoderError → Type 0
 HearsNext old new rest left r =
     TakesNextOf decoder_instruction_form apply_decoder_instruction StopsHearing old new rest left r
 
--- ---- all instructions that stand whole
+-- ---- all whole instructions
 
--- behind those that were taken none stands whole, or one is not taken
+-- after those that were applied none is whole, or one is not applied
 abbrev pub EndsHearing : Table → List ℕ → List ℕ → Result ⊤ EncoderError → Type 0
 EndsHearing t rest left r = EndsTakingOf decoder_instruction_form StopsHearing t rest left r
 

@@ -32,7 +32,7 @@ pub record DecoderView : Type 0 where
   pub table : Table
   pub unreported : ℕ
 
--- the refusal of the table that an error tells
+-- the refusal of the table that an error reports
 abbrev pub refusal_of : DecoderError → Option TableRefusal
 refusal_of (DynamicTable (BadRelativeIndex relative)) = Some (NoEntry relative)
 refusal_of (DynamicTable MaxTableSizeReached) = Some DoesNotFit
@@ -64,7 +64,7 @@ FindsField t i (Ok field) = IsSome (field_to_insert t i) × (apply_encoder_instr
 FindsField t i (Err Memory) = IsSome (field_to_insert t i)
 FindsField t i (Err e) = IsRefusedFor (apply_encoder_instruction t i) (refusal_of e)
 
--- memory may be asked for: a string of the next instruction stands whole, or a field is to be inserted
+-- memory may be asked for: a string of the next instruction is whole, or a field is to be inserted
 abbrev pub AsksToTake : Table → List ℕ → Type 0
 AsksToTake t rest =
     AsksForMemory encoder_instruction_form rest
@@ -88,12 +88,12 @@ pub data Stops (t : Table) (rest left : List ℕ) (e : DecoderError) : Type 0 wh
 abbrev pub TakesOne : Table → Table → List ℕ → List ℕ → Type 0
 TakesOne old new rest left = TakesOneOf encoder_instruction_form apply_encoder_instruction old new rest left
 
--- an instruction is taken, or none stands whole, or it is not taken
+-- an instruction is applied, or none is whole, or it is not applied
 abbrev pub TakesNext : Table → Table → List ℕ → List ℕ → Result Bool DecoderError → Type 0
 TakesNext old new rest left r =
     TakesNextOf encoder_instruction_form apply_encoder_instruction Stops old new rest left r
 
--- an instruction that was answered so is passed: it was applied, or the table refuses what it asks for
+-- the cursor moves past an instruction with this result: it was applied, or the table rejects what it asks for
 abbrev pub is_passed_for : Option TableRefusal → Bool
 is_passed_for None = false
 is_passed_for (Some refusal) = is_consumed refusal
@@ -102,9 +102,9 @@ abbrev pub is_passed : Result ⊤ DecoderError → Bool
 is_passed (Ok done) = true
 is_passed (Err e) = is_passed_for (refusal_of e)
 
--- ---- all instructions that stand whole
+-- ---- all whole instructions
 
--- behind those that were taken none stands whole, or one is not taken
+-- after those that were applied none is whole, or one is not applied
 abbrev pub EndsTaking : Table → List ℕ → List ℕ → Result ⊤ DecoderError → Type 0
 EndsTaking t rest left r = EndsTakingOf encoder_instruction_form Stops t rest left r
 
@@ -120,7 +120,7 @@ TakesInstructions old new bytes left r =
 abbrev pub to_report : DecoderView → Table → ℕ
 to_report d t = d.unreported + (insert_count t - insert_count d.table)
 
--- what reports so many insertions: an increment for each of their pieces
+-- what reports this many insertions: an increment for each of their pieces
 abbrev pub written_report : ℕ → List ℕ
 written_report many = written_decoder_instructions (increments (pieces_of many))
 
@@ -128,8 +128,8 @@ written_report many = written_decoder_instructions (increments (pieces_of many))
 abbrev pub HasRoomToReport : {A : Type 0} → DecoderView → Table → Vec ℕ A → Type 0
 HasRoomToReport d t write = vec_len write + length (written_report (to_report d t)) ≤ vec_capacity write
 
--- how a call ends behind the instructions that it took: all its insertions are reported, and those of calls before that
--- were not, and the total is answered; or it is refused, writes nothing, and keeps them all to be reported
+-- how a call ends after the instructions that it applied: all its insertions are reported, with those of earlier calls
+-- that were not, and the total is returned; or it fails, writes nothing, and keeps them all to be reported
 abbrev pub EndsReceiving : DecoderView → DecoderView → Result ⊤ DecoderError → List ℕ → List ℕ → Result ℕ DecoderError
     → Type 0
 EndsReceiving old new (Ok done) written_old written_new (Ok total) =
@@ -141,7 +141,7 @@ EndsReceiving old new (Ok done) written_old written_new (Err e) =
 EndsReceiving old new (Err e) written_old written_new r =
     (r ≡ Err e) × (new.unreported ≡ to_report old new.table) × (written_new ≡ written_old)
 
--- bytes of the encoder stream are received, behind which these are left, and these are written for the decoder stream
+-- bytes of the encoder stream are received, after which these are left, and these are written for the decoder stream
 pub record Receives (old new : DecoderView) (bytes left written_old written_new : List ℕ) (r : Result ℕ DecoderError)
     : Type 0 where
   pub taken : Result ⊤ DecoderError

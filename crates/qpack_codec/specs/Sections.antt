@@ -1,4 +1,4 @@
--- What decoding a field section under a table answers (RFC 9204, sections 2.2.1 and 4.5).
+-- What decoding a field section under a table returns (RFC 9204, sections 2.2.1 and 4.5).
 use Rattle.std.specs.Prelude.{◌≡◌, ℕ, List, Option, None, Some, Result, Ok, Err}
 use Rattle.qpack_spec.specs.Bytes.{◌>>=◌}
 use Rattle.qpack_spec.specs.Field.{Field, total_size}
@@ -27,7 +27,7 @@ use Rattle.qpack_codec.specs.declared.error.DecoderError.TheVariants.{InvalidInt
 use Rattle.qpack_codec.specs.declared.error.DecoderError.TheVariants.{Memory}
 use Rattle.qpack_codec.specs.declared.decoder.sections.Fields.{Fields as ReadFields}
 
--- the fault of bytes that an error tells
+-- the fault of bytes that an error reports
 abbrev pub form_fault_of : DecoderError → Option FormFault
 form_fault_of (InvalidInteger e) = Some (BadInteger (integer_fault_of e))
 form_fault_of (InvalidString string.UnexpectedEnd) = Some (BadString EndsEarly)
@@ -35,8 +35,8 @@ form_fault_of (InvalidString (string.Integer integer.Overflow)) = Some (BadStrin
 form_fault_of (InvalidString (string.HuffmanDecoding e)) = Some (BadString (BadHuffman (huffman_fault_of e)))
 form_fault_of e = None
 
--- the error tells this fault: one of the bytes; a prefix out of range is told as an integer that is too large, a base
--- below 0 as itself; an index, as the table tells it
+-- the error reports this fault: one of the bytes; a prefix out of range is reported as an integer that is too large, a
+-- base below 0 as itself; an index, as the table reports it
 abbrev pub Tells : DecoderError → Fault → Type 0
 Tells e (BadForm fault) = form_fault_of e ≡ Some fault
 Tells e (BadPrefix OutOfRange) = e ≡ InvalidInteger integer.Overflow
@@ -46,13 +46,13 @@ Tells e (AboveWindow position) = e ≡ DynamicTable (BadIndex position)
 Tells e (BehindBase post_base) = e ≡ DynamicTable (BadPostbaseIndex post_base)
 Tells e (NotStatic index) = e ≡ InvalidStaticIndex index
 
--- the error tells why there are no fields: entries are missing, or a fault
+-- the error reports why there are no fields: entries are missing, or a fault
 abbrev pub TellsReading : DecoderError → Reading → Type 0
 TellsReading e (Fields fs is_dynamic) = ⊥
 TellsReading e (Missing required) = e ≡ MissingRefs required
 TellsReading e (Faulty fault) = Tells e fault
 
--- the answer is what the section means: its fields with the sum of their sizes, and whether any entry is required; or
+-- the result is what the section means: its fields with the sum of their sizes, and whether any entry is required; or
 -- why there are none; or memory was refused
 abbrev pub DecodesSection : Result Decoded DecoderError → Reading → Type 0
 DecodesSection (Ok d) read =
@@ -63,7 +63,7 @@ DecodesSection (Err e) read = TellsReading e read
 
 -- ---- the parts of a section
 
--- the error tells the fault that was read
+-- the error reports the fault that was read
 abbrev pub TellsFault : {A : Type 0} → DecoderError → Result A Fault → Type 0
 TellsFault e (Ok x) = ⊥
 TellsFault e (Err fault) = Tells e fault
@@ -78,11 +78,11 @@ abbrev pub GivesLineField : Result HeaderField DecoderError → Result Field Fau
 GivesLineField (Ok f) read = read ≡ Ok (field_of f)
 GivesLineField (Err e) read = FailsWith e read
 
--- the field of the line at the front of the bytes, and the bytes behind it
+-- the field of the line at the front of the bytes, and the bytes after it
 abbrev pub line_field_at : Window → ℕ → List ℕ → Result (Field × List ℕ) Fault
 line_field_at w base bytes = or_bad_form (form_at line_form bytes) >>= λ r. line_field w base r.0 >>= λ f. Ok (f, r.1)
 
--- a line that was read, and where the cursor stands
+-- a line that was read, and where the cursor is
 abbrev pub ReadsField : CursorView → CursorView → Result HeaderField DecoderError → Result (Field × List ℕ) Fault
     → Type 0
 ReadsField old new (Ok f) read = (read ≡ Ok (field_of f, new.rest)) × (new.total ≡ old.total)

@@ -1,4 +1,4 @@
--- What the stateless calls answer, as the definitions of sections read alone have it.
+-- What the stateless calls return, by the definitions of sections read alone.
 use Rattle.std.specs.Prelude.{◌≡◌, ◌≢◌, ℕ, zero, List, [], ◌∷◌, map, Option, None, Some, Result, Ok, Err, false}
 use Rattle.std.specs.Prelude.{if◌then◌else◌, nat_lt}
 use Rattle.qpack_spec.specs.Bytes.{◌>>=◌}
@@ -28,7 +28,7 @@ use Rattle.qpack_codec.specs.declared.error.DecoderError.TheVariants.{Memory}
 abbrev pub fields_in : List HeaderField → List Field
 fields_in fs = map field_of fs
 
--- the fault that an error tells, where reading a section alone can answer it
+-- the fault that an error reports, if reading a section alone can return it
 abbrev pub fault_of : DecoderError → Option StatelessFault
 fault_of (MissingRefs zero) = Some NamesEntry
 fault_of (HeaderTooLong sum) = Some (TooLong sum)
@@ -40,7 +40,7 @@ fault_of (InvalidString (string.HuffmanDecoding e)) =
 fault_of (InvalidStaticIndex index) = Some (BadSection (NotStatic index))
 fault_of e = None
 
--- the error tells the fault that was read, or want of memory
+-- the error reports the fault that was read, or out of memory
 abbrev pub FailsStateless : {A : Type 0} → DecoderError → Result A StatelessFault → Type 0
 FailsStateless Memory read = Unit {0}
 FailsStateless e read = ReadAs read (fault_of e)
@@ -58,40 +58,40 @@ IsFinished old new = (new.rest ≡ []) × (new.total ≡ old.total)
 
 -- ---- the same by cases
 
--- the error tells this fault, or want of memory
+-- the error reports this fault, or out of memory
 abbrev pub Tells : DecoderError → StatelessFault → Type 0
 Tells e fault = FailsStateless {A = List Field} e (Err fault)
 
--- the answer is these fields, or memory was refused
+-- the result is these fields, or memory was refused
 abbrev pub GivesFields : Result Decoded DecoderError → List Field → Type 0
 GivesFields (Ok d) fs = fields_in d.fields.items ≡ fs
 GivesFields (Err e) fs = e ≡ Memory
 
--- the answer is this fault, or memory was refused
+-- the result is this fault, or memory was refused
 abbrev pub GivesFault : Result Decoded DecoderError → StatelessFault → Type 0
 GivesFault (Ok d) fault = ⊥
 GivesFault (Err e) fault = Tells e fault
 
--- the answer's fields are what the bytes mean, with their size, and nothing is required
+-- the fields of the result are what the bytes mean, with their size, and nothing is required
 abbrev pub FindsFields : ℕ → List ℕ → Decoded → Type 0
 FindsFields limit bytes d =
     MeansStateless limit bytes (fields_in d.fields.items)
     × (d.mem_size ≡ saturated_size (total_size (fields_in d.fields.items)))
     × (d.dyn_ref ≡ false)
 
--- the error tells why the bytes mean nothing, or memory was refused
+-- the error reports why the bytes mean nothing, or memory was refused
 abbrev pub FindsFault : ℕ → List ℕ → DecoderError → Type 0
 FindsFault limit bytes e = (e ≢ Memory) → (fault : StatelessFault) × Tells e fault × StopsStateless limit bytes fault
 
 -- ---- a line alone
 
--- the field of the line at the front, and the bytes behind it; a post-base line is told by its first byte
+-- the field of the line at the front, and the bytes after it; a post-base line is known by its first byte
 abbrev pub stateless_field_at : ℕ → List ℕ → Result (Field × List ℕ) StatelessFault
 stateless_field_at b bytes =
     if nat_lt b 32 then Err NamesEntry
     else (or_bad_bytes (form_at line_form (b ∷ bytes)) >>= λ r. stateless_field r.0 >>= λ f. Ok (f, r.1))
 
--- a line that was read, and where the cursor stands
+-- a line that was read, and where the cursor is
 abbrev pub ReadsStatelessField : CursorView → CursorView → Result HeaderField DecoderError
     → Result (Field × List ℕ) StatelessFault → Type 0
 ReadsStatelessField old new (Ok f) read = (read ≡ Ok (field_of f, new.rest)) × (new.total ≡ old.total)

@@ -14,7 +14,7 @@ pub record TakesOneOf {L : Type 0} (form_of : ℕ → Option (Form L)) (apply : 
   pub spells : Spells L form_of encoding instruction
   pub applies : apply old instruction ≡ Ok new
 
--- an instruction is taken, or none stands whole, or it is not taken; then the table is as before
+-- an instruction is applied, or none is whole, or it is not applied; then the table is unchanged
 abbrev pub TakesNextOf : {L E : Type 0} → (ℕ → Option (Form L)) → (Table → L → Result Table TableRefusal)
     → (Table → List ℕ → List ℕ → E → Type 0)
     → Table → Table → List ℕ → List ℕ → Result Bool E → Type 0
@@ -22,7 +22,7 @@ TakesNextOf form_of apply Stops old new rest left (Ok true) = TakesOneOf form_of
 TakesNextOf form_of apply Stops old new rest left (Ok false) = Truncates form_of rest × (left ≡ rest) × (new ≡ old)
 TakesNextOf form_of apply Stops old new rest left (Err e) = Stops old rest left e × (new ≡ old)
 
--- behind those that were taken none stands whole, or one is not taken
+-- after those that were applied none is whole, or one is not applied
 abbrev pub EndsTakingOf : {L E : Type 0} → (ℕ → Option (Form L)) → (Table → List ℕ → List ℕ → E → Type 0)
     → Table → List ℕ → List ℕ → Result ⊤ E → Type 0
 EndsTakingOf form_of Stops t rest left (Ok done) = Truncates form_of rest × (left ≡ rest)

@@ -64,7 +64,7 @@ impl<I: EntryIndex> Model for Decoder<I> {
 impl<I: EntryIndex> From<DynamicTable<I>> for Decoder<I> {
     ghost from_gives = { λ t d. d ≡ record { table = t; unreported = 0 } };
 
-    /// A decoder over a table, the insertions of which are reported.
+    /// Returns a decoder over a table, the insertions of which are reported.
     fn from(table: DynamicTable<I>) -> Decoder<I> {
         Decoder {
             table,
@@ -74,7 +74,7 @@ impl<I: EntryIndex> From<DynamicTable<I>> for Decoder<I> {
 }
 
 impl<I: EntryIndex> Decoder<I> {
-    /// The table.
+    /// Returns the table.
     pub fn table(&self) -> &DynamicTable<I>
         ensures { result.now ≡ self.now.table }
     {
@@ -89,27 +89,26 @@ impl<I: EntryIndex> Decoder<I> {
     /// line its bytes (`InvalidInteger`, `InvalidString`) and its index (`DynamicTable`, `InvalidStaticIndex`). On
     /// error the cursor's position is unspecified.
     pub fn decode_header(&self, buf: &mut Cursor) -> Result<Decoded, DecoderError>
-        // What is answered is what the section means under the table, or why it means nothing: the first fault in
-        // reading order.
+        // Returns what the section means under the table, or the first fault in reading order.
         ensures exact { DecodesSection result (reading_of_bytes (window self.now.table) buf.old.rest) }
         // A section that is read is read to its end.
         ensures finished { OnOk result (IsFinished buf.old buf.new) }
-        // Memory is refused only behind a prefix, and there only behind a line or a string whose payload is not empty.
+        // Memory is refused only if a prefix is followed by a whole line, or by a string whose payload is not empty.
         ensures memory { result ≡ Err Memory → AsksSectionForMemory buf.old.rest }
     {
         read_section(&self.table, buf)
     }
 
-    /// Takes the bytes of the encoder stream that the cursor has left, and answers how many insertions were ever made
-    /// (RFC 9204, sections 4.2 and 4.3). Each instruction that stands whole is applied to the table; a rest that
-    /// is truncated is left in the cursor, to be offered again with what follows it. Then the insertions are reported
-    /// in `write`, for the decoder stream, by increments of 64 and one of the rest (section 4.4.3).
+    /// Takes the bytes of the encoder stream that are left at the cursor, and returns how many insertions were ever
+    /// made (RFC 9204, sections 4.2 and 4.3). It applies each whole instruction to the table, and leaves a truncated
+    /// rest at the cursor; pass that rest again with the bytes that follow it. Then it reports the insertions in
+    /// `write`, for the decoder stream, by increments of 64 and one of the rest (section 4.4.3).
     ///
-    /// An instruction may be refused: its bytes (`InvalidInteger`, `InvalidString`), an index that names nothing
-    /// (`InvalidStaticIndex`, `DynamicTable`), a field or a capacity that the table refuses (`DynamicTable`; then,
-    /// and only then, the cursor is moved past it), or its memory. Those before it stay applied, nothing is
-    /// written, and the next call that is not refused reports their insertions. With free room for the increments no
-    /// memory is taken for them, and the vector is not grown.
+    /// Rejects an instruction with malformed bytes (`InvalidInteger`, `InvalidString`), with an index that has no entry
+    /// (`InvalidStaticIndex`, `DynamicTable`), or with a field or a capacity that the table rejects (`DynamicTable`;
+    /// the cursor moves past it then, and in no other case). Fails with `Memory` if memory runs out. The instructions
+    /// before it stay applied, nothing is written, and the next call that succeeds reports their insertions. With free
+    /// room for the increments it takes no memory for them, and the vector does not grow.
     pub fn on_encoder_recv<A: Allocator>(
         &mut self,
         buf: &mut Cursor,

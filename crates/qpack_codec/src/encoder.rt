@@ -55,7 +55,7 @@ impl<D: WritesSections> Model for Encoder<D> {
 impl From<DynamicTable> for Encoder {
     ghost from_gives = { λ t e. e ≡ t };
 
-    /// An encoder over a table.
+    /// Returns an encoder over a table.
     fn from(table: DynamicTable) -> Encoder {
         Encoder {
             table: EncoderTable { table },
@@ -64,24 +64,24 @@ impl From<DynamicTable> for Encoder {
 }
 
 impl Encoder {
-    /// An encoder over an empty table, of capacity 0 and with no block that may be blocked.
+    /// Returns an encoder over an empty table, of capacity 0 and with no block that may be blocked.
     pub fn new(alloc: Global) -> Encoder
         ensures { result ≡ empty_table 0 None 0 }
     {
         Encoder::from(DynamicTable::new(alloc))
     }
 
-    /// The table.
+    /// Returns the table.
     pub fn table(&self) -> &DynamicTable
         ensures { result.now ≡ self.now }
     {
         &self.table.table
     }
 
-    /// Takes the bytes of the decoder stream that the cursor has left (RFC 9204, section 4.4). Each instruction that
-    /// stands whole is applied to the table: an acknowledgment releases the oldest unacknowledged block of its stream,
-    /// a cancellation every one, and an increment raises the known received count. A rest that is truncated is left in
-    /// the cursor, to be offered again with what follows it. It takes no memory.
+    /// Takes the bytes of the decoder stream that are left at the cursor (RFC 9204, section 4.4). It applies each whole
+    /// instruction to the table: an acknowledgment releases the oldest unacknowledged block of its stream, a
+    /// cancellation every one, and an increment raises the known received count. It leaves a truncated rest at the
+    /// cursor; pass that rest again with the bytes that follow it. It takes no memory.
     ///
     /// An instruction may be refused: its bytes (`InvalidInteger`), or an acknowledgment of a stream that has no
     /// unacknowledged block (`Insertion(UnknownStreamId)`; then, and only then, the cursor is moved past it). Those
@@ -94,7 +94,7 @@ impl Encoder {
         take_instructions(&mut self.table.table, buf)
     }
 
-    /// Sets the capacity of the table in bytes, and writes the instruction that tells the decoder (RFC 9204,
+    /// Sets the capacity of the table in bytes, and writes the instruction that announces it to the decoder (RFC 9204,
     /// sections 3.2.3 and 4.3.1), as `set_dynamic_table_size` does.
     pub fn set_capacity<A: Allocator>(
         &mut self,
@@ -112,15 +112,14 @@ impl Encoder {
 }
 
 impl<D: WritesSections> Encoder<D> {
-    /// Encodes a field section for a stream (RFC 9204, section 2.1). Appended are the block, to the one vector, and the
-    /// instructions of what is inserted, to the other; answered is the block's required insert count, 0 if it
-    /// references no entry. For each field the first is taken that applies: an equal static field, the newest equal
-    /// entry that stood at the block's start, an insertion, and a literal.
+    /// Encodes a field section for a stream (RFC 9204, section 2.1). Appends the block to one vector, and the
+    /// instructions of its insertions to the other. Returns the block's required insert count, which is 0 if it
+    /// references no entry. For each field it takes the first of these that applies: an equal static field, the newest
+    /// equal entry that was live at the block's start, an insertion, and a literal.
     ///
-    /// On error, which is want of memory alone, the block is as before. The insertions that were made stand, their
-    /// instructions are written, and nothing more is referenced: the call can be made again. A block's vector with free
-    /// room for it is not grown, nor is that of the instructions with four bytes of free room for each byte of the
-    /// fields' sizes.
+    /// On error, which is `Memory` only, the block is unchanged. The insertions that were made stay, their instructions
+    /// are written, and nothing more is referenced: you can call again. A block's vector with free room for it does not
+    /// grow, nor does that of the instructions with four bytes of free room for each byte of the fields' sizes.
     pub fn encode<'a, A: Allocator, B: Allocator, T: Iterator<Item = &'a HeaderField> + Drop>(
         &mut self,
         stream_id: u64,

@@ -30,13 +30,13 @@ pub enum EncoderError {
     /// The dynamic table refused what it was asked for.
     #[error("dynamic table insertion: {0:?}")]
     Insertion(dynamic::Error),
-    /// A string is bad; kept from the original, and never answered.
+    /// A string is bad; kept from the original, and never returned.
     #[error("could not parse string: {0}")]
     InvalidString(prefix_string::Error),
     /// An integer of an instruction is too large, or the bytes end within it.
     #[error("could not parse integer: {0}")]
     InvalidInteger(prefix_int::Error),
-    /// First bits are no instruction's; kept from the original, and never answered.
+    /// First bits are no instruction's; kept from the original, and never returned.
     #[error("got unkown decoder instruction: {0}")]
     UnknownDecoderInstruction(u8),
     /// No memory was left.
@@ -104,10 +104,10 @@ pub enum DecoderError {
     /// An integer of the prefix or of a line is too large, or the bytes end within it.
     #[error("invalid integer: {0}")]
     InvalidInteger(prefix_int::Error),
-    /// A string means nothing, or the bytes end within it.
+    /// A string is malformed, or the bytes end within it.
     #[error("invalid string: {0:?}")]
     InvalidString(prefix_string::Error),
-    /// An index of the dynamic table references no live entry; kept from the original, and never answered.
+    /// An index of the dynamic table references no live entry; kept from the original, and never returned.
     #[error("invalid dynamic index: {0:?}")]
     InvalidIndex(vas::Error),
     /// The dynamic table refused what it was asked for, or has no entry of an index.
@@ -116,23 +116,23 @@ pub enum DecoderError {
     /// No field of the static table has this index.
     #[error("unknown static index: {0}")]
     InvalidStaticIndex(usize),
-    /// First bits are no line's; kept from the original, and never answered.
+    /// First bits are no line's; kept from the original, and never returned.
     #[error("unknown instruction code: 0x{0}")]
     UnknownPrefix(u8),
-    /// Entries of the dynamic table are named that were not received: so many insertions are required,
-    /// or 0 where none could ever be received.
+    /// The section references entries of the dynamic table that were not received: it requires this many insertions, or
+    /// 0 if they could never be received.
     #[error("missing {0} refs to decode bloc")]
     MissingRefs(usize),
     /// The base is below 0; it is held at the least number.
     #[error("out of bounds base index: {0}")]
     BadBaseIndex(isize),
-    /// Kept from the original, and never answered: a block that is cut ends within an integer or a string.
+    /// Kept from the original, and never returned: a block that is cut ends within an integer or a string.
     #[error("unexpected end")]
     UnexpectedEnd,
     /// The sizes of the fields up to one of them sum to this, which passes the limit.
     #[error("header too long")]
     HeaderTooLong(u64),
-    /// Kept from the original, and never answered: no number is narrowed.
+    /// Kept from the original, and never returned: no number is narrowed.
     #[error("number in buffer wrong size")]
     BufSize,
     /// No memory was left.

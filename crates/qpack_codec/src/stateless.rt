@@ -34,9 +34,8 @@ pub(crate) mod field_lines;
 
 pub use crate::stateless::field_lines::encode_section_stateless;
 
-/// Appends the block of the fields that is written without a dynamic table to the vector, and
-/// answers the sum of their sizes, at most 2^64 - 1. On error, which is want of memory alone,
-/// the vector is as before.
+/// Appends the block of the fields, written without a dynamic table, to the vector. Returns the sum of their sizes, at
+/// most 2^64 - 1. On error, which is `Memory` only, the vector is unchanged.
 pub fn encode_stateless<'a, A: Allocator, T: Iterator<Item = &'a HeaderField> + Drop>(
     block: &mut Vec<u8, A>,
     fields: T,
@@ -81,26 +80,26 @@ fn append_stateless<'a, A: Allocator, T: Iterator<Item = &'a HeaderField> + Drop
     Ok(size)
 }
 
-/// Decodes the block that the cursor has left without a dynamic table, up to a sum of sizes. The
-/// block's prefix is read, and means nothing here.
+/// Decodes the bytes left at the cursor as a block without a dynamic table, up to a sum of sizes. It reads the block's
+/// prefix, and ignores its values.
 pub fn decode_stateless(
     alloc: Global,
     buf: &mut Cursor,
     max_size: u64,
 ) -> Result<Decoded, DecoderError>
-    // What is answered is what the bytes mean, within the limit.
+    // It returns what the bytes mean, within the limit.
     ensures found { IfOk result (FindsFields max_size buf.old.rest) }
-    // What they mean is answered, unless memory is refused.
+    // If they mean fields it returns them, unless memory is refused.
     ensures only { (fields : List Field) → MeansStateless max_size buf.old.rest fields → GivesFields result fields }
-    // A refusal tells why they mean nothing: the first fault in reading order.
+    // An error is the reason why they mean nothing: the first fault in reading order.
     ensures refused { IfErr result (FindsFault max_size buf.old.rest) }
-    // And why they mean nothing is told, unless memory is refused.
+    // If they mean nothing it returns why, unless memory is refused.
     ensures told { (fault : StatelessFault) → StopsStateless max_size buf.old.rest fault → GivesFault result fault }
     // A block that is read is read to its end.
     ensures finished { OnOk result (IsFinished buf.old buf.new) }
-    // Memory is refused only behind a prefix, and there only behind a line or a string whose payload is not empty.
+    // Memory is refused only if a prefix is followed by a whole line, or by a string whose payload is not empty.
     ensures memory { result ≡ Err Memory → AsksSectionForMemory buf.old.rest }
-    // The same, as reading from left to right.
+    // The clauses above as one function, which reads from left to right.
     ensures exact { DecodesStateless result (stateless_reading max_size buf.old.rest) }
 {
     read_stateless(alloc, buf, max_size)
@@ -162,7 +161,7 @@ fn read_stateless_field(
     }
 }
 
-/// The field that a line means without a dynamic table.
+/// Returns the field that a line means without a dynamic table.
 #[tactic(auto, unfolding(qpack_spec::specs::Reading::static_field))]
 fn stateless_field_of_line(line: BlockLine) -> Result<HeaderField, DecoderError>
     ensures { GivesStatelessField result (stateless_field (line_of line)) }

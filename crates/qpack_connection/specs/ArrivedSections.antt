@@ -5,8 +5,8 @@ use Rattle.qpack_spec.specs.Table.{insert_count}
 use Rattle.qpack_connection.specs.Connections.{Connection, IsNew, Call, Encode, Receive, Step, Run}
 use Rattle.qpack_connection.specs.TwoEndsHeadline.{Fits, AllFit}
 
--- once a call that receives bytes of the encoder stream answers, and all bytes were received that had been written when
--- a section was encoded, all insertions are there that it requires, whatever was written since
+-- once a call that receives bytes of the encoder stream succeeds, and all bytes were received that had been written
+-- when a section was encoded, all insertions are there that it requires, whatever was written since
 abbrev pub SectionsArrive : Type 0
 SectionsArrive =
     (before since : List Call) (first old sent now new : Connection) (s : ℕ) (fields : List FieldLine)

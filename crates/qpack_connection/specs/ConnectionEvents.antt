@@ -1,4 +1,4 @@
--- The events of a connection of two ends: which call of an end each is, with its answer, and what becomes of the
+-- The events of a connection of two ends: which call of an end each is, with its result, and what becomes of the
 -- connection (RFC 9204, sections 2 and 4).
 use Rattle.std.specs.Prelude.{◌≡◌, ◌<◌, ◌^◌, ◌+◌, ℕ, nat_lt, if◌then◌else◌, List, [], ◌∷◌, ◌++◌, length}
 use Rattle.std.specs.Prelude.{Option, None, Some, Result, Ok, Err}
@@ -26,8 +26,8 @@ use Rattle.qpack_connection.specs.TwoEndsHeadline.{Fits, AllFit}
 
 -- ---- what is kept
 
--- the connection of two ends of which each has kept all bytes that it wrote, so many of each stream being received, and
--- of these request streams
+-- the connection of two ends of which each has kept all bytes that it wrote, this many of each stream being received,
+-- and of these request streams
 abbrev pub connection_of : EncodingEnd → DecodingEnd → ℕ → ℕ → List (ℕ × RequestStream SentSection) → Connection
 connection_of e d encoder_received decoder_received streams =
     record {
@@ -79,7 +79,7 @@ abbrev pub HasBytes : Option SentSection → List ℕ → Type 0
 HasBytes None bytes = ⊥
 HasBytes (Some k) bytes = bytes ≡ k.bytes
 
--- the stream behind its oldest undecoded section, which required so many insertions, and was acknowledged if it
+-- the stream after its oldest undecoded section, which required this many insertions, and was acknowledged if it
 -- required any (section 4.4.1)
 abbrev pub decoded_with : ℕ → RequestStream SentSection → RequestStream SentSection
 decoded_with required st =
@@ -88,7 +88,7 @@ decoded_with required st =
       acknowledged = st.acknowledged + (if nat_lt 0 required then 1 else 0);
     }
 
--- the stream behind a section that was encoded, if it was
+-- the stream after a section that was encoded, if it was
 abbrev pub sent_with : List FieldLine → List ℕ → Result ℕ EncodingError → RequestStream SentSection
     → RequestStream SentSection
 sent_with fields section (Ok required) st =
@@ -106,7 +106,7 @@ pub record Sends (s : ℕ) (fields : List FieldLine) (e e' : EncodingEnd) (old n
   pub short : length section < 2 ^ 63
   pub written_short : length e'.unsent < 2 ^ 63
 
--- the same among the streams
+-- a section was sent, or not, on one of the streams
 pub record SendsAmong (s : ℕ) (fields : List FieldLine) (e e' : EncodingEnd)
     (old new : List (ℕ × RequestStream SentSection)) (answer : Result ℕ EncodingError) : Type 0 where
   pub stream : RequestStream SentSection
@@ -133,7 +133,7 @@ skip_of c e = None
 
 -- ---- what an event makes of a connection
 
--- the call that an answer tells of, of an event of its kind
+-- the call that an outcome reports, of an event of its kind
 abbrev pub call_of : Outcome → Event → Option Call
 call_of (outcome.Encoded answer) (event.Encode s fields) = Some (Encode s (lines_of fields.items) answer)
 call_of (outcome.Encoded answer) e = None
@@ -150,7 +150,7 @@ call_of (outcome.Cancelled answer) e = None
 call_of (outcome.Skipped why) e = None
 call_of outcome.NoRoom e = None
 
--- a call is made, which fits, and what is behind it is shown
+-- a call is made, which fits, and the connection after it is shown
 pub record Makes (call : Call) (old new : Connection) : Type 0 where
   pub next : Connection
   pub step : Step call old next
@@ -169,13 +169,13 @@ KeepsOf (event.Cancel s) = Unit {0}
 KeepsOf e = ⊥
 
 -- what an event makes of the connection: it is skipped, for this reason, and nothing changes; or there was no memory
--- for what is kept of it, and nothing changes; or a call is made, and its answer is this
+-- for what is kept of it, and nothing changes; or a call is made, and its result is this
 abbrev pub Goes : Connection → Connection → Event → Outcome → Type 0
 Goes old new e (outcome.Skipped why) = (skip_of old e ≡ Some why) × (new ≡ old)
 Goes old new e outcome.NoRoom = (skip_of old e ≡ None) × KeepsOf e × Shows new old
 Goes old new e o = (skip_of old e ≡ None) × MakesOne (call_of o e) old new
 
--- events in turn, each with its answer
+-- events in turn, each with its outcome
 abbrev pub GoesAll : List Event → List Outcome → Connection → Connection → Type 0
 GoesAll [] [] old new = new ≡ old
 GoesAll (e ∷ es) (o ∷ os) old new = (now : Connection) × Goes old now e o × GoesAll es os now new

@@ -11,21 +11,21 @@ use Rattle.qpack_connection.specs.ConnectionEvents.{Shows, BeginsWith, call_of, 
 use Rattle.qpack_ends.specs.Decoders.{FailsSettings}
 use Rattle.qpack_connection.specs.TwoEndsHeadline.{Answers, AllFit, AllAnswer}
 
--- a call is made, and answers as the theorem has it
+-- a call is made, and returns what the theorem says
 pub record MakesSo (call : Call) (old new : Connection) : Type 0 where
   pub makes : Makes call old new
   pub answers : Answers call old makes.next makes.step
 
--- an event that is a call, with its answer, answers as the theorem has it
+-- an event that is a call, with its outcome, returns what the theorem says
 abbrev pub AnswersEvent : Connection → Connection → Event → Outcome → Type 0
 AnswersEvent old new e o = IfSome (call_of o e) (λ call. MakesSo call old new)
 
--- all events were done, and what they answered stands behind what was there before
+-- all events were performed, and their outcomes come after the earlier ones
 abbrev pub StepsAll : Connection → Connection → List Event → List Outcome → List Outcome → Type 0
 StepsAll old new events before behind =
     (more : List Outcome) × (behind ≡ before ++ more) × GoesAll events more old new
 
--- events in turn, each with its answer, lead here from a new connection of these settings
+-- events in turn, each with its outcome, lead here from a new connection of these settings
 abbrev pub GoesFrom : ConnectionSettings → List Event → List Outcome → Connection → Type 0
 GoesFrom settings events outcomes c =
     (first : Connection) × BeginsWith settings first × GoesAll events outcomes first c
@@ -35,20 +35,20 @@ abbrev pub RefusesRun : ConnectionSettings → RunError → Type 0
 RefusesRun settings (Settings e) = FailsSettings settings.decoder e
 RefusesRun settings Memory = Unit {0}
 
--- the calls behind one more, if there is one
+-- the calls after one more, if there is one
 abbrev pub behind_call : Option Call → List Call → List Call
 behind_call None calls = calls
 behind_call (Some call) calls = call ∷ calls
 
--- the calls that events with their answers are
+-- the calls that events with their outcomes are
 abbrev pub calls_of : List Event → List Outcome → List Call
 calls_of [] os = []
 calls_of (e ∷ es) [] = []
 calls_of (e ∷ es) (o ∷ os) = behind_call (call_of o e) (calls_of es os)
 
 -- the theorem of two ends of events from a new connection of these settings on: the calls that they are, with their
--- answers, lead to a connection that is shown, each answers as the theorem has it, and between them it holds what the
--- theorem says
+-- results, lead to a connection that is shown, each returns what the theorem says, and after them the connection has
+-- the theorem's properties
 pub record AnswerWhatWasHanded (settings : ConnectionSettings) (events : List Event) (outcomes : List Outcome)
     (s : Connection) : Type 0 where
   pub first : Connection

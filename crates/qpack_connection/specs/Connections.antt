@@ -30,25 +30,25 @@ pub record Wire : Type 0 where
   pub written : List ℕ
   pub received : ℕ
 
--- the bytes that come next, so many of them or all
+-- the bytes that come next, this many of them or all
 abbrev pub next_of : ℕ → Wire → List ℕ
 next_of many w = take many (drop w.received w.written)
 
--- the stream behind more bytes that were written, or received
+-- the stream after more bytes that were written, or received
 abbrev pub behind_written : List ℕ → Wire → Wire
 behind_written more w = record w { written = w.written ++ more }
 
 abbrev pub behind_received : ℕ → Wire → Wire
 behind_received many w = record w { received = w.received + many }
 
--- a section that was written: the fields that were handed to its encode, its bytes, and its required insert count,
--- which was answered
+-- a section that was written: the fields that were passed to its encode, its bytes, and its required insert count,
+-- which was returned
 pub record SentSection : Type 0 where
   pub fields : List FieldLine
   pub bytes : List ℕ
   pub required : ℕ
 
--- the two ends, whose bytes are sent behind each call; the encoder stream and the decoder stream; and the request
+-- the two ends, whose bytes are sent after each call; the encoder stream and the decoder stream; and the request
 -- streams
 pub record Connection : Type 0 where
   pub encoder : EncodingEnd
@@ -70,7 +70,7 @@ pub record IsNew (c : Connection) : Type 0 where
   pub decoder_stream : c.decoder_stream ≡ record { written = []; received = 0 }
   pub streams : c.streams ≡ []
 
--- the connection behind a call of an end, of which all bytes are sent
+-- the connection after a call of an end, of which all bytes are sent
 abbrev pub with_encoder : EncodingEnd → Connection → Connection
 with_encoder e c =
     record c {
@@ -87,7 +87,7 @@ with_decoder d c =
 
 -- ---- calls of the encoding end
 
--- the connection behind a section that was encoded, if it was
+-- the connection after a section that was encoded, if it was
 abbrev pub with_section : ℕ → List FieldLine → List ℕ → Result ℕ EncodingError → Connection → Connection
 with_section s fields section (Ok required) c =
     let st = stream_at c.streams s in
@@ -141,7 +141,7 @@ pub record ReceivesOn (old new : Connection) (many : ℕ) (answer : Result ℕ D
     encoder_stream = behind_received (length (next_of many old.encoder_stream) - length left) old.encoder_stream;
   }
 
--- the connection behind the oldest section of a stream that was not decoded, if it is now; one that requires insertions
+-- the connection after the oldest section of a stream that was not decoded, if it is now; one that requires insertions
 -- is acknowledged (section 4.4.1)
 abbrev pub with_reading : ℕ → Result Reading DecodingError → Connection → Connection
 with_reading s (Ok (reading.Fields required)) c =
@@ -155,7 +155,7 @@ with_reading s (Ok (reading.Fields required)) c =
 with_reading s (Ok (reading.Blocked required)) c = c
 with_reading s (Err e) c = c
 
--- the oldest section of a stream that was not decoded is handed to the decoder, if the stream isn't cancelled
+-- the oldest section of a stream that was not decoded is passed to the decoder, if the stream isn't cancelled
 pub record DecodesOn (old new : Connection) (s : ℕ) (fields : List FieldLine) (answer : Result Reading DecodingError) :
     Type 0 where
   pub live : (stream_at old.streams s).cancelled ≡ false
@@ -167,7 +167,7 @@ pub record DecodesOn (old new : Connection) (s : ℕ) (fields : List FieldLine) 
   pub memory : answer ≡ Err decoding.Memory → AsksToDecode old.decoder s section.bytes
   pub new_is : new ≡ with_reading s answer (with_decoder decoder old)
 
--- the connection behind a stream that was cancelled, if it was
+-- the connection after a stream that was cancelled, if it was
 abbrev pub with_cancelled : ℕ → Result ⊤ DecodingError → Connection → Connection
 with_cancelled s (Ok done) c =
     record c { streams = with_stream c.streams s (record (stream_at c.streams s) { cancelled = true }) }
@@ -182,7 +182,7 @@ pub record CancelsOn (old new : Connection) (s : ℕ) (answer : Result ⊤ Decod
 
 -- ---- steps
 
--- a call of one of the ends, and what it answers
+-- a call of one of the ends, and its result
 pub data Call : Type 0 where
   Encode : (stream : ℕ) (fields : List FieldLine) (answer : Result ℕ EncodingError) → Call
   SetCapacity : (capacity : ℕ) (answer : Result ⊤ EncodingError) → Call

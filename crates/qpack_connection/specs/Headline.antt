@@ -1,12 +1,12 @@
--- THE HEADLINE of two ends: what the events of a connection answer, by events and outcomes alone. No table, no byte of
--- a stream and no rule of the compression occurs in it.
+-- THE HEADLINE of two ends: the outcomes of the events of a connection, by events and outcomes alone. No table, no byte
+-- of a stream and no rule of the compression occurs in it.
 --
--- How to read it. Events are done one by one, and each has an outcome; `Event` and `Outcome` are those of the code.
--- What they say up to some event is kept in one record, `SoFar`:
---   * of each stream the sections that were handed to encodes and not decoded yet, in order, each with its fields,
---     their marks, and the required insert count that its encode answered; and whether the stream was cancelled;
---   * how many insertions the decoding end last answered that it received, whether its last delivery answered that, and
---     the greatest required insert count that an encode answered; and whether an encode was done;
+-- How to read it. Events are performed one by one, and each has an outcome; `Event` and `Outcome` are those of the
+-- code. What they say up to some event is kept in one record, `SoFar`:
+--   * of each stream the sections that were passed to encodes and not decoded yet, in order, each with its fields,
+--     their marks, and the required insert count that its encode returned; and whether the stream was cancelled;
+--   * how many insertions the decoding end last returned that it received, whether its last delivery returned that, and
+--     the greatest required insert count that an encode returned; and whether an encode was done;
 --   * which streams wait.
 -- `Answers` says what the outcome of an event may be, by what was kept before it. `after` is what is kept after it.
 -- `EventsAnswerWhatWasHanded`, at the end, asks that of each event in turn, and that no more streams wait than may.
@@ -34,18 +34,18 @@ use Rattle.qpack_connection.specs.OwnedLines.{lines_of}
 
 -- ---- what events and outcomes say, up to here
 
--- a section that was handed to an encode: its fields, with their marks, and the required insert count that was answered
+-- a section that was passed to an encode: its fields, with their marks, and the required insert count that was returned
 pub record HandedSection : Type 0 where
   pub fields : List FieldLine
   pub required : ℕ
 
--- a stream: the sections that were handed and are not decoded, in order, and whether it was cancelled
+-- a stream: the sections that were passed and are not decoded, in order, and whether it was cancelled
 pub record HandedStream : Type 0 where
   pub sections : List HandedSection
   pub cancelled : Bool
 
--- each stream; how many insertions the decoding end last answered that it received; whether the last delivery answered
--- that number; the greatest required insert count that an encode answered; whether an encode was done; and the streams
+-- each stream; how many insertions the decoding end last returned that it received; whether the last delivery returned
+-- that number; the greatest required insert count that an encode returned; whether an encode was done; and the streams
 -- that wait, each with the required insert count of its section
 pub record SoFar : Type 0 where
   pub streams : ℕ → HandedStream
@@ -76,7 +76,7 @@ abbrev pub others : ℕ → List BlockedStream → List BlockedStream
 others s waiting = filter (λ w. not (nat_eq w.stream s)) waiting
 
 -- what is kept after an event with this outcome. A section is added at the end, and goes from the front once it is
--- decoded. A stream waits from the answer that says so until enough insertions are answered, or its section is decoded
+-- decoded. A stream waits from the outcome that says so until enough insertions are returned, or its section is decoded
 -- or refused, or the stream is cancelled. After a delivery for which memory was refused no stream is known to wait
 abbrev pub after : Event → Outcome → SoFar → SoFar
 after (event.Encode s fields) (outcome.Encoded (Ok required)) h =
@@ -107,10 +107,10 @@ after (event.Cancel s) (outcome.Cancelled (Ok done)) h =
     }
 after e o h = h
 
--- ---- what an event answers
+-- ---- the outcome of an event
 
--- an encode answers a required insert count, or that memory was refused; or that no stream has the number, exactly
--- where none has
+-- an encode returns a required insert count, or that memory was refused; or that the stream number is invalid, exactly
+-- if it is
 abbrev pub AnswersEncode : ℕ → Result ℕ EncodingError → Type 0
 AnswersEncode s (Ok required) = s < 2 ^ 62
 AnswersEncode s (Err encoding.Memory) = s < 2 ^ 62
@@ -127,9 +127,8 @@ AnswersCapacity has_encoded maximum capacity (Err encoding.Memory) = capacity �
 AnswersCapacity has_encoded maximum capacity (Err encoding.CapacityTooLarge) = maximum < capacity
 AnswersCapacity has_encoded maximum capacity (Err e) = ⊥
 
--- a delivery to the decoding end is never refused. It answers how many insertions were received, or that memory was
--- refused. The number never falls. Where all bytes were delivered, it is no less than any section requires that was
--- handed
+-- a delivery to the decoding end is never refused. It returns how many insertions were received, or that memory was
+-- refused. The number never falls. If all bytes were delivered, it is no less than any section requires that was passed
 abbrev pub AnswersDelivery : SoFar → ℕ → Result ℕ DecodingError → Type 0
 AnswersDelivery h many (Ok total) = (h.received ≤ total) × (2 ^ 63 ≤ many → h.required ≤ total)
 AnswersDelivery h many (Err decoding.Memory) = Unit {0}
@@ -141,9 +140,9 @@ IsOfLimit section.TooLong = Unit {0}
 IsOfLimit (section.Line number offset (line.TooLarge sum)) = Unit {0}
 IsOfLimit e = ⊥
 
--- the next section of a stream answers exactly the fields that were handed, with their marks. It waits exactly while
+-- the next section of a stream returns exactly the fields that were passed, with their marks. It waits exactly while
 -- fewer insertions were received than it requires. Or the sizes of its fields are past the decoding end's own limit, or
--- memory was refused. No field is given where none is answered. A sum of sizes is held at 2^64 - 1
+-- memory was refused. No field is given unless fields are returned. A sum of sizes saturates at 2^64 - 1
 abbrev pub AnswersSection : ℕ → SoFar → ℕ → HandedSection → Result Reading DecodingError → List FieldLine → Type 0
 AnswersSection limit h s next (Ok (reading.Fields required)) fields =
     (fields ≡ next.fields) × (required ≡ next.required) × (h.is_current ≡ true → next.required ≤ h.received)
@@ -155,31 +154,31 @@ AnswersSection limit h s next (Err (decoding.Section q e)) fields =
 AnswersSection limit h s next (Err decoding.Memory) fields = fields ≡ []
 AnswersSection limit h s next (Err e) fields = ⊥
 
--- a decode is skipped exactly where its stream was cancelled, or has no section left. Else it answers what its next
--- section does
+-- a decode is skipped exactly if its stream was cancelled, or has no section left. Otherwise its outcome is that of its
+-- next section
 abbrev pub AnswersDecode : ℕ → SoFar → ℕ → Bool → List HandedSection → Outcome → Type 0
 AnswersDecode limit h s true sections o = o ≡ outcome.Skipped StreamCancelled
 AnswersDecode limit h s false [] o = o ≡ outcome.Skipped NothingToDecode
 AnswersDecode limit h s false (next ∷ more) (outcome.Decoded r fields) = AnswersSection limit h s next r fields.fields
 AnswersDecode limit h s false (next ∷ more) o = ⊥
 
--- a cancellation is done, or no stream has the number. Or memory was refused for the bytes that are sent for it, of
--- which there are none where the maximum capacity is 0
+-- a cancellation is done, or the stream number is invalid. Or memory was refused for the bytes that are sent for it, of
+-- which there are none if the maximum capacity is 0
 abbrev pub AnswersCancellation : ℕ → ℕ → Result ⊤ DecodingError → Type 0
 AnswersCancellation maximum s (Ok done) = s < 2 ^ 62
 AnswersCancellation maximum s (Err decoding.Memory) = (s < 2 ^ 62) × (0 < maximum)
 AnswersCancellation maximum s (Err (decoding.NoStream q)) = (q ≡ s) × (2 ^ 62 ≤ s)
 AnswersCancellation maximum s (Err e) = ⊥
 
--- it is skipped exactly where the stream was cancelled before. Else it is answered, or there was no memory to keep it
+-- it is skipped exactly if the stream was cancelled before. Otherwise it returns, or there was no memory to keep it
 abbrev pub AnswersCancel : ℕ → ℕ → Bool → Outcome → Type 0
 AnswersCancel maximum s true o = o ≡ outcome.Skipped StreamCancelled
 AnswersCancel maximum s false (outcome.Cancelled r) = AnswersCancellation maximum s r
 AnswersCancel maximum s false outcome.NoRoom = Unit {0}
 AnswersCancel maximum s false o = ⊥
 
--- each event is answered in its own kind. The encoding end refuses nothing of what was delivered to it. There may be no
--- memory to keep a section
+-- each event has an outcome of its own kind. The encoding end refuses nothing of what was delivered to it. There may be
+-- no memory to keep a section
 abbrev pub Answers : ConnectionSettings → SoFar → Event → Outcome → Type 0
 Answers settings h (event.Encode s fields) (outcome.Encoded r) = AnswersEncode s r
 Answers settings h (event.Encode s fields) outcome.NoRoom = Unit {0}
@@ -194,7 +193,7 @@ Answers settings h e o = ⊥
 
 -- ---- the headline
 
--- each event in turn is answered so, and after it no more streams wait than may
+-- each event in turn has such an outcome, and after it no more streams wait than may
 abbrev pub AllAnswer : ConnectionSettings → SoFar → List Event → List Outcome → Type 0
 AllAnswer settings h [] [] = Unit {0}
 AllAnswer settings h (e ∷ es) (o ∷ os) =

@@ -1,7 +1,6 @@
--- What the encoding end of a connection promises, over calls and their answers: with any peer, that it evicts nothing
--- that may still be needed and lets no more streams be blocked than may be; and with a peer that keeps to the
--- standard, that it refuses nothing of the decoder stream, and goes on inserting (RFC 9204, sections 2.1, 2.2.2 and
--- 4.4).
+-- What the encoding end of a connection promises, over calls and their results. With any peer it evicts nothing that
+-- may still be needed, and keeps the limit of blocked streams. With a peer that follows the standard it refuses nothing
+-- of the decoder stream, and goes on inserting (RFC 9204, sections 2.1, 2.2.2 and 4.4).
 use Rattle.std.specs.Prelude.{◌≡◌, ◌<◌, ◌≤◌, ◌^◌, ℕ, ⊤, false, List, [], ◌∷◌, ◌++◌, length, drop, None, Result, Ok, Err}
 use Rattle.std.specs.Option.{IfSome}
 use Rattle.qpack_spec.specs.Field.{FieldLine}
@@ -24,7 +23,7 @@ use Rattle.qpack_connection.specs.RefinedRefusals.{StopsEncoding}
 
 -- ---- the calls
 
--- a call of an encoding end, and what it answers
+-- a call of an encoding end, and its result
 pub data Call : Type 0 where
   Encode : (stream : ℕ) (fields : List FieldLine) (wishes : List Wish) (section : List ℕ)
       (answer : Result ℕ EncodingError) → Call
@@ -50,8 +49,8 @@ Run (call ∷ calls) old new = (now : EncodingEnd) × Step call old now × Run c
 
 -- ---- with any peer
 
--- what holds behind each call: nothing is evicted that may still be needed, and no more streams may be blocked than the
--- peer lets be: those with a section that is neither acknowledged nor cancelled, and requires insertions that are not
+-- what holds after each call: nothing is evicted that may still be needed, and no more streams may be blocked than the
+-- peer permits: those with a section that is neither acknowledged nor cancelled, and requires insertions that are not
 -- known to be received (sections 2.1.1 and 2.1.2)
 pub record IsCareful (settings : EncoderSettings) (e : EncodingEnd) : Type 0 where
   pub needed : KeepsNeeded e.table
@@ -85,9 +84,9 @@ EncodersAreCareful =
 
 -- ---- with a lawful peer
 
--- a decoder as it is when some bytes of it come: what the end has heard of it, and what is under way, in whatever
--- spelling, of which these bytes come next; of the insertions that were made it has received some, and what is under
--- way it may write (section 4.4)
+-- a decoder as it is when some bytes of it come: what the end has heard of it, and what is under way, in any spelling,
+-- of which these bytes come next; of the insertions that were made it has received some, and what is under way it may
+-- write (section 4.4)
 pub record IsLawful (e : EncodingEnd) (bytes : List ℕ) : Type 0 where
   pub heard : List DecoderInstruction
   pub before : List ℕ
@@ -100,7 +99,7 @@ pub record IsLawful (e : EncodingEnd) (bytes : List ℕ) : Type 0 where
   pub known : e.table.known_received_count ≤ received
   pub may : MayWrite received e.table.known_received_count e.table.unacknowledged under_way
 
--- what is asked of a call: the bytes are the next that a lawful decoder wrote
+-- what a call requires: the bytes are the next that a lawful decoder wrote
 abbrev pub IsLawfulCall : Call → EncodingEnd → Type 0
 IsLawfulCall (Receive bytes answer) e = IsLawful e bytes
 IsLawfulCall call e = Unit {0}
@@ -117,9 +116,9 @@ GoesOn settings e (l ∷ more) (Insert ∷ words) required =
     → insert_count e.table < 2 ^ 62 → insert_count e.table < required
 GoesOn settings e fields wishes required = Unit {0}
 
--- what a call answers: a section is encoded, and insertions go on, or memory is refused or no stream has this number; a
--- capacity is set, or it is above the maximum, or an entry would have to go that may be needed, or memory is refused;
--- and nothing of the decoder stream is refused
+-- what a call returns: a section is encoded, and insertions go on, or memory is refused or the stream number is
+-- invalid; a capacity is set, or it is above the maximum, or it would evict an entry that may be needed, or memory is
+-- refused; and nothing of the decoder stream is refused
 abbrev pub Answers : EncoderSettings → Call → EncodingEnd → Type 0
 Answers settings (Encode s fields wishes section (Ok required)) old =
     GoesOn settings (begun old) fields wishes required
@@ -129,13 +128,13 @@ Answers settings (SetCapacity capacity (Err e)) old = StopsTelling old.table cap
 Answers settings (Receive bytes answer) old = answer ≡ Ok tt
 Answers settings (Sent bytes) old = Unit {0}
 
--- each call in turn answers so, and no error ends the connection
+-- each call in turn returns this, and no error ends the connection
 abbrev pub AllAnswer : EncoderSettings → (calls : List Call) (old new : EncodingEnd) → Run calls old new → Type 0
 AllAnswer settings [] old new run = Unit {0}
 AllAnswer settings (call ∷ calls) old new run =
     Answers settings call old × (run.0.failure ≡ None) × AllAnswer settings calls run.0 new run.2
 
--- for all calls from an unused encoder on, with whatever lawful decoder
+-- for all calls from an unused encoder on, with any lawful decoder
 abbrev pub LawfulDecodersAreUnderstood : Type 0
 LawfulDecodersAreUnderstood =
     (settings : EncoderSettings) (calls : List Call) (first last : EncodingEnd) → IsUnused settings first

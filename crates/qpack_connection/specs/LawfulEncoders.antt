@@ -1,6 +1,6 @@
--- What the decoding end of a connection promises with any peer that keeps to the standard, over calls and their
--- answers: it refuses nothing of the encoder stream, and decodes each section to exactly what it means (RFC 9204,
--- sections 2.1, 2.2, 3.2, 4.3 and 4.5).
+-- What the decoding end of a connection promises with any peer that follows the standard, over calls and their results:
+-- it refuses nothing of the encoder stream, and decodes each section to exactly what it means (RFC 9204, sections 2.1,
+-- 2.2, 3.2, 4.3 and 4.5).
 use Rattle.std.specs.Prelude.{◌≡◌, ◌<◌, ◌≤◌, ℕ, ⊤, false, List, [], ◌∷◌, ◌++◌, length, drop, None, Some, Result, Ok}
 use Rattle.std.specs.Prelude.{Err, slice_get}
 use Rattle.std.specs.List.{AllByRecursion}
@@ -21,7 +21,7 @@ use Rattle.qpack_ends.specs.Receiving.{Receives}
 use Rattle.qpack_connection.specs.RefinedDecodes.{AnswersSection}
 use Rattle.qpack_connection.specs.RefinedRefusals.{StopsCancelling}
 
--- ---- what the peer keeps to
+-- ---- what the peer follows
 
 -- a section that an encoder has written, and that is not acknowledged, nor its stream cancelled: the stream, and how
 -- many insertions it requires
@@ -38,8 +38,8 @@ pub record Encoder : Type 0 where
   pub known : ℕ
   pub sections : List UnderWay
 
--- it keeps to the standard, in whatever spelling; these bytes have come of what it wrote; and it knows of no more
--- insertions than this decoder has reported (section 2.1.4)
+-- it follows the standard, in any spelling; these bytes have come of what it wrote; and it knows of no more insertions
+-- than this decoder has reported (section 2.1.4)
 pub record IsLawful (p : Encoder) (d : DecodingEnd) (come : List ℕ) : Type 0 where
   pub encoder : IsLawfulEncoder d.settings.max_capacity p.known p.sent p.made
   pub spelled : SpellsAll SpellsEncoderInstruction p.bytes p.sent
@@ -47,7 +47,7 @@ pub record IsLawful (p : Encoder) (d : DecodingEnd) (come : List ℕ) : Type 0 w
   pub come_is : p.bytes ≡ come ++ behind
   pub told : p.known ≤ d.reported
 
--- a section of a stream that requires so many insertions is under way
+-- a section of a stream that requires this many insertions is under way
 abbrev pub IsUnderWay : Encoder → ℕ → ℕ → Type 0
 IsUnderWay p stream required =
     (i : ℕ) × (slice_get p.sections i ≡ Some (record { stream = stream; required = required }))
@@ -62,7 +62,7 @@ abbrev pub Differ : List ℕ → List ℕ → Type 0
 Differ seen [] = Unit {0}
 Differ seen (n ∷ ns) = (has_number n seen ≡ false) × Differ (n ∷ seen) ns
 
--- the encoder keeps to the limit of blocked streams: no more of them are at risk than may be blocked. A section that is
+-- the encoder keeps the limit of blocked streams: no more of them are at risk than may be blocked. A section that is
 -- decoded now is under way, and so are those that wait at the decoder, which has not acknowledged them (section 2.1.2)
 pub record KeepsToLimit (p : Encoder) (d : DecodingEnd) (stream required : ℕ) : Type 0 where
   pub few : (streams : List ℕ) → Differ [] streams → AllByRecursion (IsAtRisk p) streams
@@ -77,7 +77,7 @@ pub record Decoder : Type 0 where
   pub end : DecodingEnd
   pub come : List ℕ
 
--- a call of it, and what it answers; of the bytes that are received some may be left, which come again
+-- a call of it, and its result; of the bytes that are received some may be left, which come again
 pub data Call : Type 0 where
   Receive : (bytes left : List ℕ) (answer : Result ℕ DecodingError) → Call
   Decode : (stream : ℕ) (section : SentSection) (fields : List FieldLine) (answer : Result Reading DecodingError) → Call
@@ -103,10 +103,10 @@ abbrev pub Run : List Call → Decoder → Decoder → Type 0
 Run [] old new = new ≡ old
 Run (call ∷ calls) old new = (now : Decoder) × Step call old now × Run calls now new
 
--- ---- what is asked, and what is promised
+-- ---- what is required, and what is promised
 
--- what is asked of a call: the bytes are the next that a lawful encoder wrote; or the section is one that it may have
--- written, keeping to the limit of blocked streams
+-- what a call requires: the bytes are the next that a lawful encoder wrote; or the section is one that it may have
+-- written within the limit of blocked streams
 abbrev pub IsLawfulCall : Call → Decoder → Type 0
 IsLawfulCall (Receive bytes left answer) d = (p : Encoder) × IsLawful p d.end (d.come ++ bytes)
 IsLawfulCall (Decode s section fields answer) d =
@@ -119,9 +119,9 @@ abbrev pub AreLawful : (calls : List Call) (old new : Decoder) → Run calls old
 AreLawful [] old new run = Unit {0}
 AreLawful (call ∷ calls) old new run = IsLawfulCall call old × AreLawful calls run.0 new run.2
 
--- what a call answers: how many insertions were received so far, which are all that were made once all bytes have come
+-- what a call returns: how many insertions were received so far, which are all that were made once all bytes have come
 -- that the encoder wrote; exactly the fields that the section means, with their marks, or how many insertions it waits
--- for; or that memory is refused, that no stream has this number, or that the sizes of the fields are past the
+-- for; or that memory is refused, that the stream number is invalid, or that the sizes of the fields are past the
 -- decoder's own limit
 abbrev pub Answers : (call : Call) (old new : Decoder) → IsLawfulCall call old → Type 0
 Answers (Receive bytes left (Ok total)) old new asked =
@@ -133,14 +133,14 @@ Answers (Cancel s (Ok done)) old new asked = Unit {0}
 Answers (Cancel s (Err e)) old new asked = StopsCancelling s e
 Answers (Sent bytes) old new asked = Unit {0}
 
--- each call in turn answers so, and no error ends the connection
+-- each call in turn returns this, and no error ends the connection
 abbrev pub AllAnswer : (calls : List Call) (old new : Decoder) (run : Run calls old new) → AreLawful calls old new run
     → Type 0
 AllAnswer [] old new run asked = Unit {0}
 AllAnswer (call ∷ calls) old new run asked =
     Answers call old run.0 asked.0 × (run.0.end.failure ≡ None) × AllAnswer calls run.0 new run.2 asked.1
 
--- for all calls from a new decoder on, with whatever lawful encoder
+-- for all calls from a new decoder on, with any lawful encoder
 abbrev pub LawfulEncodersAreUnderstood : Type 0
 LawfulEncodersAreUnderstood =
     (settings : DecoderSettings) (calls : List Call) (first last : Decoder) → Begins settings first.end

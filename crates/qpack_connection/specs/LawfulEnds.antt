@@ -1,6 +1,6 @@
--- What each end of a connection writes is what the laws of the other end ask of a peer (RFC 9204, sections 2.1, 2.2,
--- 3.2 and 4.3 to 4.5). All that an encoding end wrote is lawful, whatever its peer writes. A decoding end writes what
--- it may.
+-- What each end of a connection writes is what the laws of the other end require of a peer (RFC 9204, sections 2.1,
+-- 2.2, 3.2 and 4.3 to 4.5). All that an encoding end wrote is lawful, whatever its peer writes. A decoding end writes
+-- what it may.
 use Rattle.std.specs.Prelude.{◌≡◌, ◌<◌, ◌≤◌, ◌^◌, ℕ, zero, suc, if◌then◌else◌, not, nat_eq, List, [], ◌∷◌, ◌++◌}
 use Rattle.std.specs.Prelude.{length, map, take, Some, Ok}
 use Rattle.std.specs.List.{AllByRecursion, filter}
@@ -87,7 +87,7 @@ abbrev pub WritesAll : List Call → Writer → Writer → Type 0
 WritesAll [] old new = new ≡ old
 WritesAll (call ∷ calls) old new = (now : Writer) × Writes call old now × WritesAll calls now new
 
--- what is asked of a call: the names and values of a section are bytes; the section takes fewer than 2^63, and so does
+-- what a call requires: the names and values of a section are bytes; the section takes fewer than 2^63, and so does
 -- what is to be sent, as all that one vector keeps
 abbrev pub Fits : Call → Writer → Type 0
 Fits (Encode s fields wishes section answer) new =
@@ -210,8 +210,8 @@ pub record WritesWhatItMay (received : ℕ) (sections : List UnacknowledgedBlock
   pub spelled : SpellsAll SpellsDecoderInstruction bytes instructions
   pub may : MayWrite received 0 sections instructions
 
--- so is all that it wrote, after any calls from a new decoder on, with whatever lawful encoder whose sections that
--- require insertions are these
+-- all that it wrote is what it may write, after any calls from a new decoder on, with any lawful encoder whose sections
+-- that require insertions are these
 abbrev pub DecodersWriteWhatTheyMay : Type 0
 DecodersWriteWhatTheyMay =
     (settings : DecoderSettings) (calls : List decoding.Call) (first last : Decoder)

@@ -13,7 +13,7 @@ use Rattle.qpack_ends.specs.Hearing as hearing
 use Rattle.qpack_ends.specs.Hearing.{hear_in_turn}
 use Rattle.qpack_ends.specs.Receiving as receiving
 
--- the bytes that were handed in and those that are to come are a lawful encoder stream: the call does not answer that
+-- if the bytes that were passed and those that are to come are a lawful encoder stream, the call does not return that
 -- it is refused
 abbrev pub EncoderStreamsAreNeverRefused : Type 0
 EncoderStreamsAreNeverRefused =
@@ -22,8 +22,8 @@ EncoderStreamsAreNeverRefused =
     → IsLawfulStream start last ((before ++ bytes) ++ behind) sent
     → receiving.ReceivesMore start old new before bytes left s u (Err (Refused place e)) → ⊥
 
--- the same of the decoder stream, of which some instructions were heard before, and the encoder's table hears all that
--- is under way
+-- if the bytes that were passed and those that are to come are a decoder stream of which some instructions were heard
+-- before, and the encoder's table hears all that is under way, the call does not return that it is refused
 abbrev pub DecoderStreamsAreNeverRefused : Type 0
 DecoderStreamsAreNeverRefused =
     (old new last : Table) (heard in_flight : List DecoderInstruction) (before bytes behind : List ℕ)

@@ -253,7 +253,7 @@ open_on_4 = record { stream = 4; entries = 1 ∷ 2 ∷ [] } ∷ []
 abbrev pub open_on_8 : List UnacknowledgedBlock
 open_on_8 = record { stream = 8; entries = 4 ∷ 3 ∷ [] } ∷ []
 
--- the same encoder where nothing was heard of the decoder
+-- the same encoder, having heard nothing of the decoder
 abbrev pub encoder_unheard : Encoder
 encoder_unheard = record encoder_literal { known = 0 }
 

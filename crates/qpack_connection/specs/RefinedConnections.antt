@@ -31,7 +31,8 @@ pub record RefinesSection (k : SentSection) (b : AbstractBlock) : Type 0 where
   pub are_bytes : AllByRecursion IsByteField (fields_of_lines k.fields)
   pub short : length k.bytes < 2 ^ 63
 
--- a request stream's sections are those, and it stands where that one does
+-- a request stream's sections are those, as many of them are decoded and acknowledged, and it is cancelled if that one
+-- is
 pub record RefinesStream (k : RequestStream SentSection) (st : AbstractStream) : Type 0 where
   pub sections : Agrees RefinesSection k.blocks st.blocks
   pub decoded_is : k.decoded ≡ st.decoded
@@ -58,7 +59,7 @@ pub record RefinesSession (maximum : ℕ) (c : Connection) (w : AbstractSession)
   pub hears : hearing.Receives heard (received_of c.decoder_stream) c.encoder.stream
   pub streams : (s : ℕ) → RefinesStream (stream_at c.streams s) (stream_at w.streams s)
 
--- a section that is encoded is one that the session writes, behind the capacity that is to be told; its fields are
+-- a section that is encoded is one that the session writes, after the capacity that is to be announced; its fields are
 -- bytes, and what was written of it and of the stream takes fewer than 2^63
 abbrev pub EncodesAreRefined : Type 0
 EncodesAreRefined =

@@ -1,6 +1,6 @@
--- What a decode on a connection in bytes answers: the fields that were handed to the section, with their marks, or how
--- many insertions it waits for, and else only what the decoder's own limit and memory are to blame for (RFC 9204,
--- sections 2.1.2, 2.2 and 7.1.3).
+-- What a decode on a connection in bytes returns: the fields that were passed for the section, with their marks, or how
+-- many insertions it waits for, and otherwise only errors of the decoder's own limit and of memory (RFC 9204, sections
+-- 2.1.2, 2.2 and 7.1.3).
 use Rattle.std.specs.Prelude.{◌≡◌, ◌<◌, ◌≤◌, ◌^◌, ℕ, List, [], ◌++◌, None, Result, Ok, Err}
 use Rattle.qpack_spec.specs.Field.{FieldLine, fields_of_lines, total_size}
 use Rattle.qpack_spec.specs.Table.{insert_count}
@@ -16,9 +16,9 @@ use Rattle.qpack_connection.specs.RefinedConnections.{RefinesSession}
 use Rattle.qpack_connection.specs.RefinedStreams.{IsOpen}
 use Rattle.qpack_ends.specs.Sections.{code_of}
 
--- what the next section of a stream is answered with: exactly its fields, once the insertions were received that it
--- requires; until then how many these are; or memory is refused, or no stream has this number; or the sizes of the
--- fields are past the decoder's own limit, which ends nothing
+-- what the next section of a stream returns: exactly its fields, once the insertions were received that it requires;
+-- until then how many these are; or memory is refused, or the stream number is invalid; or the sizes of the fields are
+-- past the decoder's own limit, which ends nothing
 abbrev pub AnswersSection : DecodingEnd → ℕ → SentSection → List FieldLine → Result Reading DecodingError → Type 0
 AnswersSection d stream k fields (Ok (reading.Fields required)) =
     (fields ≡ k.fields) × (required ≡ k.required) × (k.required ≤ insert_count d.table)

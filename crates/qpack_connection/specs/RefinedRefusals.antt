@@ -1,5 +1,5 @@
--- A call of a connection in bytes that is refused leaves a session of values: where memory is refused, what was done
--- before it stands (RFC 9204, sections 2.1 and 4.3.1).
+-- A call of a connection in bytes that is refused leaves a session of values: if memory is refused, what was done
+-- before it stays (RFC 9204, sections 2.1 and 4.3.1).
 use Rattle.std.specs.Prelude.{◌≡◌, ◌<◌, ◌≤◌, ◌^◌, ℕ, ◌⊎◌, List, ◌++◌, length, Err}
 use Rattle.std.specs.List.{AllByRecursion}
 use Rattle.qpack_spec.specs.Field.{FieldLine, fields_of_lines}
@@ -19,7 +19,7 @@ use Rattle.qpack_connection.specs.RefinedStreams.{IsOpen}
 abbrev pub StopsEncoding : ℕ → EncodingError → Type 0
 StopsEncoding s e = (e ≡ encoding.Memory) ⊎ ((e ≡ encoding.NoStream s) × (2 ^ 62 ≤ s))
 
--- a section that is not encoded is given up by the session behind some of its fields, or nothing is done
+-- a section that is not encoded is given up by the session after some of its fields, or nothing is done
 abbrev pub RefusedEncodesAreRefined : Type 0
 RefusedEncodesAreRefined =
     (maximum limit : ℕ) (c new : Connection) (steps : List EndStep) (s : ℕ) (fields : List FieldLine) (e : EncodingError)

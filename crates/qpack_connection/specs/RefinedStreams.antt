@@ -25,7 +25,7 @@ HearingsAreRefined =
     → (answer ≡ Ok tt) × IsOpen new × (more : List EndStep)
     × RefinesSession maximum new (after_end_steps (steps ++ more) (abstract_start 0 maximum limit))
 
--- what a call that receives bytes of the encoder stream answers: how many insertions were received so far, or that
+-- what a call that receives bytes of the encoder stream returns: how many insertions were received so far, or that
 -- memory was refused
 abbrev pub AnswersTotal : Connection → Result ℕ DecodingError → Type 0
 AnswersTotal new (Ok total) = total ≡ insert_count new.decoder.table

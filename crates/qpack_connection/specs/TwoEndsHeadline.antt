@@ -1,6 +1,6 @@
--- The theorem of two ends, over calls and their answers: whatever calls are made of the two ends of a connection, in
--- whatever order, and however the bytes of both streams are cut, neither end refuses what the other sent, and each
--- section is decoded to exactly what was handed to its encode (RFC 9204, sections 2 to 4).
+-- The theorem of two ends, over calls and their results: for any calls of the two ends of a connection, in any order,
+-- and with any cuts of both streams, neither end refuses what the other sent, and each section is decoded to exactly
+-- what was passed to its encode (RFC 9204, sections 2 to 4).
 use Rattle.std.specs.Prelude.{◌≡◌, ◌<◌, ◌≤◌, ◌^◌, ℕ, List, [], ◌∷◌, length, Result, Ok, Err}
 use Rattle.std.specs.List.{AllByRecursion}
 use Rattle.qpack_spec.specs.Field.{fields_of_lines}
@@ -18,7 +18,7 @@ use Rattle.qpack_connection.specs.RefinedDecodes.{AnswersSection}
 use Rattle.qpack_connection.specs.RefinedRefusals.{StopsEncoding, StopsCancelling}
 use Rattle.qpack_connection.specs.RefinedStreams.{IsOpen, AnswersTotal}
 
--- a decoder that answers how many insertions it received, and received all bytes that were written so far, has all
+-- a decoder that returns how many insertions it received, and received all bytes that were written so far, has all
 -- insertions that were made
 abbrev pub HasAll : Connection → Result ℕ DecodingError → Type 0
 HasAll new (Ok total) =
@@ -31,11 +31,11 @@ abbrev pub DoesNotWait : Result Reading DecodingError → Type 0
 DoesNotWait (Ok (reading.Blocked required)) = ⊥
 DoesNotWait answer = Unit {0}
 
--- what a call answers. A section is encoded, unless memory is refused or no stream has its number; a capacity is set,
--- unless it is above the maximum, or an entry would have to go that is still needed, or memory is refused; the encoder
--- refuses nothing of the decoder stream; the decoder answers how many insertions it received, or that memory is refused;
--- a section is decoded to what was handed to it, or waits, but not once all insertions were received; a stream is
--- cancelled, unless memory is refused or no stream has its number
+-- what a call returns. A section is encoded, unless memory is refused or the stream number is invalid; a capacity is
+-- set, unless it is above the maximum, or it would evict an entry that is still needed, or memory is refused; the
+-- encoder refuses nothing of the decoder stream; the decoder returns how many insertions it received, or that memory is
+-- refused; a section is decoded to what was passed for it, or waits, but not once all insertions were received; a
+-- stream is cancelled, unless memory is refused or the stream number is invalid
 abbrev pub Answers : (call : Call) (old new : Connection) → Step call old new → Type 0
 Answers (Encode s fields (Ok required)) old new step = Unit {0}
 Answers (Encode s fields (Err e)) old new step = StopsEncoding s e
@@ -49,7 +49,7 @@ Answers (Decode s fields answer) old new step =
 Answers (Cancel s (Ok done)) old new step = Unit {0}
 Answers (Cancel s (Err e)) old new step = StopsCancelling s e
 
--- what is asked of a call: the names and values of a section are bytes, and what was written of it and of the encoder
+-- what a call requires: the names and values of a section are bytes, and what was written of it and of the encoder
 -- stream takes fewer than 2^63, as what is kept in one vector does
 abbrev pub Fits : (call : Call) (old new : Connection) → Step call old new → Type 0
 Fits (Encode s fields (Ok required)) old new step =
@@ -73,7 +73,7 @@ abbrev pub AllFit : (calls : List Call) (old new : Connection) → Run calls old
 AllFit [] old new run = Unit {0}
 AllFit (call ∷ calls) old new run = Fits call old run.0 run.1 × AllFit calls run.0 new run.2
 
--- each call in turn answers so, and this holds behind it
+-- each call in turn returns this, and this holds after it
 abbrev pub AllAnswer : ℕ → (calls : List Call) (old new : Connection) → Run calls old new → Type 0
 AllAnswer most [] old new run = Unit {0}
 AllAnswer most (call ∷ calls) old new run =

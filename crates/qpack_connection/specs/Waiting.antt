@@ -7,7 +7,7 @@ use Rattle.qpack_ends.specs.declared.blocked.BlockedStream.{BlockedStream}
 pub use Rattle.qpack_ends.specs.Blocked.{AreOfOneEach}
 use Rattle.qpack_connection.specs.Connections.{SentSection, Connection}
 
--- the stream is not cancelled, and its next section requires so many insertions
+-- the stream is not cancelled, and its next section requires this many insertions
 pub record IsNextOf (c : Connection) (b : BlockedStream) : Type 0 where
   pub live : (stream_at c.streams b.stream).cancelled ≡ false
   pub section : SentSection

@@ -1,5 +1,5 @@
 //! Both ends of a connection, with the two instruction streams between them and the sections of each request stream
-//! (RFC 9204, section 2). Events are given one by one, and each answers what the end that it goes to answers.
+//! (RFC 9204, section 2). Pass events one by one; each returns what the call of its end returns.
 
 ghost use Rattle.std.specs.Prelude.{◌≡◌, ◌+◌, ◌≤◌, length, vec_len, vec_capacity, IfOk, IfErr};
 ghost use Rattle.qpack_connection.specs.ConnectionEvents.{encoder_settings, BeginsWith, Goes, IsReached};
@@ -29,13 +29,14 @@ mod streams;
 
 pub use fields::OwnedFieldLine;
 
-/// What both ends of a connection are made from: what the decoding end sends as its settings, which the encoding end
-/// receives (RFC 9204, section 5), and what the encoding end wants of its table.
+/// The settings of both ends of a connection: those that the decoding end sends and the encoding end receives (RFC
+/// 9204, section 5), and the encoding end's choices for its table.
 #[derive(Clone, Copy, Debug, PartialEq, Eq, Drop)]
 pub struct ConnectionSettings {
     /// What the decoding end sends.
     pub decoder: DecoderSettings,
-    /// The capacity that the encoding end wants, in bytes; at most the maximum is taken (RFC 9204, section 3.2.3).
+    /// The table's capacity that the encoding end asks for, in bytes; one above the maximum is lowered to it (RFC 9204,
+    /// section 3.2.3).
     pub capacity: usize,
     /// How many sections may wait for acknowledgments (RFC 9204, section 4.4.1) before sections are written without
     /// references.
@@ -43,8 +44,8 @@ pub struct ConnectionSettings {
 }
 
 impl ConnectionSettings {
-    /// What the decoding end sends; a capacity of 4,096 bytes is wanted, and 100 sections may wait for
-    /// acknowledgments.
+    /// Returns settings with those of the decoding end, a capacity of 4,096 bytes, and at most 100 sections that wait
+    /// for acknowledgments.
     pub fn new(decoder: DecoderSettings) -> ConnectionSettings
         ensures { result ≡ record { decoder = decoder; capacity = 4096; most_unacknowledged = 100 } }
     {
@@ -55,7 +56,7 @@ impl ConnectionSettings {
         }
     }
 
-    /// What the encoding end is made from.
+    /// Returns the settings of the encoding end.
     pub fn encoder(&self) -> EncoderSettings
         ensures { result ≡ encoder_settings self.now }
     {
@@ -75,11 +76,11 @@ pub enum Event {
     Encode(u64, Vec<OwnedFieldLine>),
     /// The encoding end sets the capacity of its table, in bytes (RFC 9204, section 4.3.1).
     SetCapacity(usize),
-    /// So many more bytes of the encoder stream come to the decoding end, or all that are left.
+    /// Delivers this many more bytes of the encoder stream to the decoding end, or all that are left.
     ToDecoder(usize),
-    /// So many more bytes of the decoder stream come to the encoding end, or all that are left.
+    /// Delivers this many more bytes of the decoder stream to the encoding end, or all that are left.
     ToEncoder(usize),
-    /// The oldest section of a stream that was not decoded is handed to the decoding end (RFC 9204, section 2.2).
+    /// Passes the oldest section of a stream that was not decoded to the decoding end (RFC 9204, section 2.2).
     Decode(u64),
     /// The decoding end gives a stream up (RFC 9204, section 4.4.2).
     Cancel(u64),
@@ -94,19 +95,19 @@ pub enum Skip {
     StreamCancelled,
 }
 
-/// What an event answers.
+/// The outcome of an event.
 #[derive(Debug, Drop)]
 pub enum Outcome {
     /// The required insert count of the section, 0 if it references no entry; or why it was not encoded.
     Encoded(Result<usize, EncodingError>),
-    /// The capacity was set, and is told; or why not.
+    /// The capacity was set, and is announced; or why not.
     CapacitySet(Result<(), EncodingError>),
     /// How many insertions the decoding end received in all; or why it stopped.
     Delivered(Result<usize, DecodingError>),
     /// The encoding end received the bytes; or why it stopped.
     Heard(Result<(), EncodingError>),
-    /// What the section read as, with its fields, of which there are none unless they are answered; or why it was not
-    /// decoded.
+    /// What the section read as, with its fields, of which there are none unless the reading is `Reading::Fields`; or
+    /// why it was not decoded.
     Decoded(Result<Reading, DecodingError>, FieldSection),
     /// The stream was cancelled; or why not.
     Cancelled(Result<(), DecodingError>),
@@ -122,7 +123,7 @@ pub enum RunError {
     /// The settings are refused.
     #[error("{0}")]
     Settings(SettingsError),
-    /// There was no memory for what the events answer.
+    /// There was no memory for the outcomes of the events.
     #[error("out of memory")]
     Memory,
 }
@@ -161,9 +162,9 @@ impl Model for Connection {
 }
 
 impl Connection {
-    /// A connection on which nothing has happened. Both tables have the capacity 0 until the encoding end tells one,
-    /// which it does before the first section (RFC 9204, section 3.2.3). Refused are a maximum capacity of 2^30 bytes
-    /// or more, and then a limit of 65,535 blocked streams or more. Takes no memory.
+    /// Returns a connection on which nothing has happened. Both tables have capacity 0 until the encoding end announces
+    /// another, before the first section (RFC 9204, section 3.2.3). Fails if the maximum capacity is 2^30 bytes or
+    /// more, then if the limit is 65,535 blocked streams or more. Takes no memory.
     pub fn new(alloc: Global, settings: ConnectionSettings) -> Result<Connection, SettingsError>
         ensures ok { IfOk result (λ c. BeginsWith settings c) }
         ensures err { IfErr result (FailsSettings settings.decoder) }
@@ -172,14 +173,14 @@ impl Connection {
         Ok(Connection { ends })
     }
 
-    /// Does what an event says, and tells what came of it. An event outside what the two ends do is skipped; one for
-    /// which there was no room, or whose answer tells want of memory, can be given again.
+    /// Performs an event, and returns its outcome. An event outside what the two ends do is skipped. If there was no
+    /// room for it, or its outcome is out of memory, you can pass the event again.
     pub fn step(&mut self, event: Event) -> Outcome
         // It is one call of an end, and what that makes of the connection; or it is skipped, exactly for its reason, or
         // there was no room for what is kept of it, and nothing changes.
         ensures goes { Goes self.old self.new event result }
-        // The call answers as the theorem of two ends has it: neither end refuses what the other sent, and a section is
-        // decoded exactly to what was handed to its encode, or waits while fewer insertions were received than it
+        // The call returns what the theorem of two ends says: neither end refuses what the other sent, and a section is
+        // decoded exactly to what was passed to its encode, or waits while fewer insertions were received than it
         // requires.
         ensures answers { AnswersEvent self.old self.new event result }
         // No error ended an end; no more sections are blocked, and no more streams wait, than may; and the encoding end
@@ -190,7 +191,7 @@ impl Connection {
         self.ends.perform(event)
     }
 
-    /// Does what the events say, one by one, and appends what each answers. There is room for that.
+    /// Performs the events one by one, and appends the outcome of each. There is room for them.
     fn step_all(&mut self, events: Vec<Event>, outcomes: &mut Vec<Outcome>)
         requires room { vec_len outcomes.old + length events.items ≤ vec_capacity outcomes.old }
         ensures { StepsAll self.old self.new events.items outcomes.old.items outcomes.new.items }
@@ -207,14 +208,14 @@ impl Connection {
         let _ = &self.ends;
     }
 
-    /// The encoding end. What it has to send is all of the encoder stream, from the start.
+    /// Returns the encoding end. What it has to send is all of the encoder stream, from the start.
     pub fn encoder(&self) -> &ConnectionEncoder
         ensures { result.now ≡ record self.now.encoder { unsent = self.now.encoder_stream.written } }
     {
         self.ends.encoder()
     }
 
-    /// The decoding end. What it has to send is all of the decoder stream, from the start.
+    /// Returns the decoding end. What it has to send is all of the decoder stream, from the start.
     pub fn decoder(&self) -> &ConnectionDecoder
         ensures { result.now ≡ record self.now.decoder { unsent = self.now.decoder_stream.written } }
     {
@@ -222,24 +223,24 @@ impl Connection {
     }
 }
 
-/// Begins a connection and gives it the events in turn; answers the connection behind them and what each answered.
-/// Refused are settings, as `Connection::new` refuses them, and want of memory for the answers.
+/// Begins a connection and performs the events in turn. Returns the connection after them and the outcome of each.
+/// Fails as `Connection::new` does if it rejects the settings, and if there is no memory for the outcomes.
 pub fn run(
     alloc: Global,
     settings: ConnectionSettings,
     events: Vec<Event>,
 ) -> Result<(Connection, Vec<Outcome>), RunError>
     ensures err { IfErr result (RefusesRun settings) }
-    // The events in turn, each with its answer, lead from a new connection of these settings to the one that is
-    // answered.
+    // The events in turn, each with its outcome, lead from a new connection of these settings to the one that is
+    // returned.
     ensures goes { IfOk result (λ p. GoesFrom settings events.items p.1.items p.0) }
-    // The headline, by events and outcomes alone: on each stream each decode answers exactly the fields of the next
-    // section that was handed to an encode, with their marks, and waits exactly while fewer insertions were received
-    // than that encode answered. No end refuses what the other sent, no other error is answered than may be, each skip
+    // The headline, by events and outcomes alone: on each stream each decode returns exactly the fields of the next
+    // section that was passed to an encode, with their marks, and waits exactly while fewer insertions were received
+    // than that encode returned. No end refuses what the other sent, no other error is returned than may be, each skip
     // has its reason, and no more streams wait than may.
     ensures headline { IfOk result (λ p. EventsAnswerWhatWasHanded settings events.items p.1.items) }
     // The theorem of two ends: neither end refuses what the other sent, each section is decoded exactly to what was
-    // handed to its encode, or waits while fewer insertions were received than it requires, and no more streams are
+    // passed to its encode, or waits while fewer insertions were received than it requires, and no more streams are
     // blocked than may be.
     ensures answers { IfOk result (λ p. AnswerWhatWasHanded settings events.items p.1.items p.0) }
 {

@@ -1,4 +1,4 @@
-//! Laws of the two instruction streams, for a peer that keeps to the standard, and of two ends in bytes.
+//! Laws of the two instruction streams, for a peer that follows the standard, and of two ends in bytes.
 
 ghost use Rattle.qpack_connection.specs.LawfulDecoders.{EncodersAreCareful, LawfulDecodersAreUnderstood};
 ghost use Rattle.qpack_connection.specs.LawfulEncoders.{LawfulEncodersAreUnderstood};
@@ -29,9 +29,9 @@ pub fn lawful_streams_are_never_refused()
     ensures decoder_stream { DecoderStreamsAreNeverRefused }
 {}
 
-/// A connection of two ends in bytes is a session of two strict ends in values (RFC 9204, section 2): a new one, and
-/// behind each section that is encoded, each capacity that is set, each stream that is cancelled, all bytes of either
-/// stream that are received, each section that is decoded, and each call that is refused.
+/// A connection of two ends in bytes is a session of two strict ends in values (RFC 9204, section 2). This holds of a
+/// new one, and after each section that is encoded, each capacity that is set, each stream that is cancelled, each call
+/// that receives all bytes of a stream, each section that is decoded, and each call that is refused.
 pub fn connections_are_sessions()
     ensures new { NewConnectionsAreRefined }
     ensures encodes { EncodesAreRefined }
@@ -45,35 +45,36 @@ pub fn connections_are_sessions()
     ensures refused_cancellations { RefusedCancellationsAreRefined }
 {}
 
-/// The theorem of two ends, over calls and their answers: of a new connection, whatever is encoded, with whatever
-/// marks, however capacities are set, streams cancelled and the bytes of both streams cut, and wherever memory is
-/// refused, neither end refuses what the other sent; each section is decoded to exactly the fields that were handed to
-/// its encode, with their marks, or waits for as many insertions as that encode answered, while fewer were received; and
-/// no more streams are blocked than may be (RFC 9204, sections 2.1.2, 2.2, 3.2, 4.2 to 4.5 and 7.1.3).
+/// The theorem of two ends, over calls and their results (RFC 9204, sections 2.1.2, 2.2, 3.2, 4.2 to 4.5 and 7.1.3). It
+/// is of a new connection, any sections with any marks, any capacities and cancellations, any cuts of both streams, and
+/// any refusals of memory. Neither end refuses what the other sent. Each section is decoded to exactly the fields that
+/// were passed to its encode, with their marks, or waits for as many insertions as that encode returned, while fewer
+/// were received. No more streams are blocked than may be.
 pub fn two_ends_answer_what_was_handed()
     ensures { TwoEndsAnswerWhatWasHanded }
 {}
 
-/// What [`ConnectionDecoder`](crate::ConnectionDecoder) promises comes to this, with any encoder that keeps to the
-/// standard, in whatever spelling, however the bytes of its stream are cut, and wherever memory is refused: nothing of
-/// the encoder stream is refused; each section that is not acknowledged is decoded to exactly the fields that it means
-/// by the insertions that the encoder made, with their marks, or waits for as many insertions as it requires, while
-/// fewer were received; and no error ends the connection (RFC 9204, sections 2.1, 2.2, 3.2 and 4.3 to 4.5).
+/// What [`ConnectionDecoder`](crate::ConnectionDecoder) promises with any encoder that follows the standard, in any
+/// spelling, with any cuts of its stream, and any refusals of memory (RFC 9204, sections 2.1, 2.2, 3.2 and 4.3 to 4.5).
+/// Nothing of the encoder stream is refused. Each section that is not acknowledged is decoded to exactly the fields
+/// that it means by the insertions that the encoder made, with their marks, or waits for as many insertions as it
+/// requires, while fewer were received. No error ends the connection.
 pub fn lawful_encoders_are_understood()
     ensures { LawfulEncodersAreUnderstood }
 {}
 
-/// What [`ConnectionEncoder`](crate::ConnectionEncoder) promises comes to this, with any decoder, whatever it writes:
-/// each section that is written counts as unacknowledged, with exactly the entries that its lines reference; and behind
-/// each call nothing is evicted that an unacknowledged section references or that is not known to be received, and no
-/// more sections are blocked than may be (RFC 9204, sections 2.1.1 and 2.1.2).
+/// What [`ConnectionEncoder`](crate::ConnectionEncoder) promises with any decoder, whatever it writes (RFC 9204,
+/// sections 2.1.1 and 2.1.2). Each section that is written counts as unacknowledged, with exactly the entries that its
+/// lines reference. After each call nothing is evicted that an unacknowledged section references or that is not known
+/// to be received, and no more sections are blocked than may be.
 pub fn encoders_are_careful()
     ensures { EncodersAreCareful }
 {}
 
-/// And with any decoder that keeps to the standard, in whatever spelling, however the bytes of its stream are cut:
-/// nothing of the decoder stream is refused, no error ends the connection, and wherever nothing is under way a new field
-/// that the caller wishes to be inserted is inserted (RFC 9204, sections 2.1, 2.2.2 and 4.4).
+/// What [`ConnectionEncoder`](crate::ConnectionEncoder) promises with any decoder that follows the standard, in any
+/// spelling, with any cuts of its stream (RFC 9204, sections 2.1, 2.2.2 and 4.4). Nothing of the decoder stream is
+/// refused, and no error ends the connection. Whenever nothing is under way, a new field that the caller wishes to be
+/// inserted is inserted.
 pub fn lawful_decoders_are_understood()
     ensures { LawfulDecodersAreUnderstood }
 {}
@@ -88,9 +89,9 @@ pub fn settings_may_come_late()
     ensures after { LateSettingsAreAsEarly }
 {}
 
-/// A section is not blocked once the bytes were received that its own end had written by then, also where more was
-/// written since: behind a call that receives them and answers, all insertions are there that the section requires (RFC
-/// 9204, section 2.1.2).
+/// A section is not blocked once the bytes were received that its own end had written by then, also if more was written
+/// since: after a call that receives them and succeeds, all insertions are there that the section requires (RFC 9204,
+/// section 2.1.2).
 pub fn sections_arrive()
     ensures { SectionsArrive }
 {}
@@ -131,7 +132,7 @@ pub fn encoders_keep_to_the_standard()
 {}
 
 /// What [`ConnectionDecoder`](crate::ConnectionDecoder) writes is what the laws of an encoder ask of its peer. That
-/// holds with any encoder that keeps to the standard, whose sections are decoded in order on each stream. After any
+/// holds with any encoder that follows the standard, whose sections are decoded in order on each stream. After any
 /// calls all that was written is acknowledgments of sections that were decoded, each once, cancellations, and
 /// increments of no more insertions than were received. Once a front of it was heard, the rest is still what may be
 /// written (RFC 9204, sections 2.1.4, 2.2.2 and 4.4).

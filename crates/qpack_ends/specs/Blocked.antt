@@ -10,7 +10,7 @@ use Rattle.qpack_ends.specs.declared.blocked.BlockedStream.{BlockedStream}
 use Rattle.qpack_ends.specs.declared.blocked.NotBlocked.{NotBlocked}
 use Rattle.qpack_ends.specs.declared.blocked.NotBlocked.TheVariants.{TooMany, Memory}
 
--- how many insertions the section of a stream waited for when it was last handed in, if it did
+-- the required insert count of the stream's section when it was last passed, if the stream is here
 abbrev pub required_of : ℕ → List BlockedStream → Option ℕ
 required_of stream bs = option_map (λ b. b.required) (find (λ b. nat_eq b.stream stream) bs)
 
@@ -18,12 +18,12 @@ required_of stream bs = option_map (λ b. b.required) (find (λ b. nat_eq b.stre
 abbrev pub is_listed : ℕ → List BlockedStream → Bool
 is_listed stream bs = is_some (required_of stream bs)
 
--- more insertions than so many are required
+-- more insertions than this many are required
 abbrev pub exceeds : ℕ → Option ℕ → Bool
 exceeds inserted None = false
 exceeds inserted (Some required) = nat_lt inserted required
 
--- whether a stream is blocked where so many insertions were received (section 2.1.2)
+-- whether a stream is blocked after this many insertions (section 2.1.2)
 abbrev pub is_blocked : ℕ → ℕ → List BlockedStream → Bool
 is_blocked inserted stream bs = exceeds inserted (required_of stream bs)
 
@@ -35,7 +35,7 @@ blocked_among inserted bs = length (filter (λ b. nat_lt inserted b.required) bs
 abbrev pub without : ℕ → List BlockedStream → List BlockedStream
 without stream bs = filter (λ b. not (nat_eq b.stream stream)) bs
 
--- the first stream that waits for no more than so many insertions
+-- the first stream that waits for no more than this many insertions
 abbrev pub ready : ℕ → List BlockedStream → Option ℕ
 ready inserted bs = option_map (λ b. b.stream) (find (λ b. nat_le b.required inserted) bs)
 
@@ -66,14 +66,14 @@ AreOfOneEach (b ∷ bs) = (is_listed b.stream bs ≡ false) × AreOfOneEach bs
 abbrev pub by_count : BlockedStream → BlockedStream → Ordering
 by_count a b = ordering_then (nat_cmp a.required b.required) (nat_cmp a.stream b.stream)
 
--- streams in this order, each once, and a map that tells what the section of each requires
+-- streams in this order, each once, and a map from each stream to what its section requires
 pub record AreMapped (bs : List BlockedStream) (m : BTreeMap ℕ ℕ) : Type 0 where
   pub ordered : IsStrictlySortedBy by_count bs
   pub once : AreOfOneEach bs
   pub each : (stream : ℕ) → get nat_cmp m stream ≡ required_of stream bs
 
--- a stream may come to be blocked where so many insertions were received and no more than so many streams may be: it is
--- blocked already, or fewer are (section 2.1.2)
+-- a stream may become blocked after this many insertions, under this limit of blocked streams: it is blocked already,
+-- or fewer are (section 2.1.2)
 abbrev pub MayBlockAmong : ℕ → ℕ → ℕ → List BlockedStream → Type 0
 MayBlockAmong inserted most stream bs = is_blocked inserted stream bs ≡ false → blocked_among inserted bs < most
 

@@ -66,7 +66,7 @@ code_of (TooManyBlocked stream) = Some decompression_failed
 code_of (NoStream stream) = None
 code_of Memory = None
 
--- the same of the encoder stream's
+-- the error of the end for an error of the encoder stream
 abbrev pub stream_failure : EncoderStreamError → DecodingError
 stream_failure (stream.Refused place e) = EncoderStream place e
 stream_failure stream.Memory = Memory
@@ -80,7 +80,7 @@ pub record IsSound (d : DecodingEnd) : Type 0 where
   pub blocked : blocked_streams d ≤ d.settings.max_blocked
   pub failure : IfSome d.failure (λ e. IsSome (code_of e))
 
--- the end behind an error, which is kept if it ends the connection
+-- the end after an error, which is kept if it ends the connection
 abbrev pub refused : DecodingError → DecodingEnd → DecodingEnd
 refused e d = record d { failure = if is_some (code_of e) then Some e else d.failure }
 
@@ -88,8 +88,8 @@ refused e d = record d { failure = if is_some (code_of e) then Some e else d.fai
 abbrev pub section_refused : ℕ → SectionError → DecodingEnd → DecodingEnd
 section_refused stream e d = record (refused (Section stream e) d) { blocked = without stream d.blocked }
 
--- a call for a stream can be answered; else the connection was ended, or no stream has this number (RFC 9000, section
--- 2.1)
+-- a call for a stream may go on; or it fails, because the connection was ended, or because the stream number is invalid
+-- (RFC 9000, section 2.1)
 abbrev pub Checks : DecodingEnd → ℕ → Result ⊤ DecodingError → Type 0
 Checks d stream (Ok done) = (d.failure ≡ None) × (stream < 2 ^ 62)
 Checks d stream (Err e) = (d.failure ≡ Some e) ⊎ ((d.failure ≡ None) × (2 ^ 62 ≤ stream) × (e ≡ NoStream stream))
@@ -100,7 +100,7 @@ Checks d stream (Err e) = (d.failure ≡ Some e) ⊎ ((d.failure ≡ None) × (2
 abbrev pub unreported : DecodingEnd → ℕ
 unreported d = insert_count d.table - d.reported
 
--- the end behind the increments for what is not reported (section 4.4.3)
+-- the end after increments for the insertions not yet reported (section 4.4.3)
 abbrev pub with_report : DecodingEnd → DecodingEnd
 with_report d =
     record d { reported = insert_count d.table; unsent = d.unsent ++ written_report (unreported d) }
@@ -110,8 +110,8 @@ abbrev pub Reports : DecodingEnd → DecodingEnd → Result ⊤ DecodingError �
 Reports old new (Ok done) = new ≡ with_report old
 Reports old new (Err e) = (e ≡ Memory) × (0 < unreported old) × (new ≡ old)
 
--- the end behind the acknowledgment of a section that requires insertions, behind the increments for what is not
--- reported (section 4.4.1)
+-- the end after it acknowledged a section that requires insertions, after increments for those not yet reported
+-- (section 4.4.1)
 abbrev pub acknowledged : ℕ → ℕ → DecodingEnd → DecodingEnd
 acknowledged stream zero d = record d { blocked = without stream d.blocked }
 acknowledged stream (suc required) d =
@@ -120,7 +120,7 @@ acknowledged stream (suc required) d =
       unsent = (with_report d).unsent ++ written_decoder_instruction (Acknowledgment stream);
     }
 
--- memory was refused for the increments, and nothing changes, or for the acknowledgment behind them
+-- memory was refused for the increments, and nothing changes, or for the acknowledgment after them
 abbrev pub StopsAcknowledging : DecodingEnd → DecodingEnd → ℕ → DecodingError → Type 0
 StopsAcknowledging old new required e =
     (e ≡ Memory) × (0 < required) × ((new ≡ old) ⊎ (new ≡ with_report old))
@@ -144,7 +144,7 @@ MayBlock d stream = MayBlockAmong (insert_count d.table) d.settings.max_blocked 
 abbrev pub IsOneTooMany : DecodingEnd → ℕ → Type 0
 IsOneTooMany d stream = (is_blocked_now stream d ≡ false) × (d.settings.max_blocked ≤ blocked_streams d)
 
--- the end behind a section of this stream that waits for so many insertions
+-- the end after a section of this stream that waits for this many insertions
 abbrev pub blocked_behind : ℕ → ℕ → DecodingEnd → DecodingEnd
 blocked_behind stream required d =
     record d { blocked = with_blocked (record { stream = stream; required = required }) d.blocked }
@@ -200,11 +200,11 @@ abbrev pub DecodesInto : DecodingEnd → DecodingEnd → ℕ → StrictReading �
 DecodesInto old new stream read fields (Ok r) = GivesReading old new stream read fields r
 DecodesInto old new stream read fields (Err e) = StopsDecoding old new stream read e
 
--- the call was not answered: the connection was ended, or no stream has this number; and nothing changes
+-- the call did not begin: the connection was ended, or the stream number is invalid; and nothing changes
 abbrev pub IsNotAnswered : DecodingEnd → DecodingEnd → ℕ → DecodingError → Type 0
 IsNotAnswered old new stream e = Checks old stream (Err e) × (new ≡ old)
 
--- the call was answered: the section that reads so was decoded, or there are no fields and this is why not
+-- the section that is read as this was decoded; or there are no fields, and this is why
 abbrev pub Decodes : DecodingEnd → DecodingEnd → ℕ → StrictReading → List FieldLine → Result Reading DecodingError
     → Type 0
 Decodes old new stream read fields (Ok r) =
@@ -213,15 +213,15 @@ Decodes old new stream read fields (Err e) =
     (fields ≡ [])
     × (IsNotAnswered old new stream e ⊎ (Checks old stream (Ok tt) × StopsDecoding old new stream read e))
 
--- memory may be asked for behind a reading: an acknowledgment is to be written; or the stream may come to be blocked, and is
--- not counted yet with what the section requires
+-- memory may be asked for after a reading: an acknowledgment is to be written; or the stream may become blocked, and
+-- does not yet count with what the section requires
 abbrev pub AsksBehind : DecodingEnd → ℕ → StrictReading → Type 0
 AsksBehind d stream (Read fields required) = 0 < required
 AsksBehind d stream (Blocked required) =
     IsCountedAnew (record { stream = stream; required = required }) d.blocked × MayBlock d stream
 AsksBehind d stream read = ⊥
 
--- memory may be asked for: by the section, or behind its reading
+-- memory may be asked for: by the section, or after its reading
 abbrev pub AsksToDecode : DecodingEnd → ℕ → List ℕ → Type 0
 AsksToDecode d stream bytes =
     AsksSectionForMemory bytes
@@ -229,7 +229,7 @@ AsksToDecode d stream bytes =
 
 -- ---- a stream that is given up
 
--- the end behind a stream's cancellation, which is not written where the maximum capacity is 0 (section 2.2.2.2)
+-- the end after a stream's cancellation, which is not written if the maximum capacity is 0 (section 2.2.2.2)
 abbrev pub cancelled : ℕ → DecodingEnd → DecodingEnd
 cancelled stream d =
     record d {
@@ -238,7 +238,7 @@ cancelled stream d =
           d.unsent ++ written_decoder_instruction (Cancellation stream);
     }
 
--- the stream was cancelled; or the call was not answered; or memory was refused, where a cancellation is to be written,
+-- the stream was cancelled; or the call did not begin; or memory was refused for a cancellation that is to be written,
 -- and nothing changes
 abbrev pub Cancels : DecodingEnd → DecodingEnd → ℕ → Result ⊤ DecodingError → Type 0
 Cancels old new stream (Ok done) = Checks old stream (Ok tt) × (new ≡ cancelled stream old)
@@ -252,8 +252,8 @@ Cancels old new stream (Err e) =
 abbrev pub received : Table → StreamView → DecodingEnd → DecodingEnd
 received t s d = record d { table = t; stream = s }
 
--- how a call ends behind the bytes that it received: all insertions are reported, and their number is answered; or
--- memory is refused for the increments; or the stream is refused, or memory for it
+-- how a call ends after the bytes that it received: all insertions are reported, and it returns their number; or memory
+-- is refused for the increments; or the stream is rejected, or memory is refused for it
 abbrev pub EndsReceiving : DecodingEnd → DecodingEnd → Result ⊤ EncoderStreamError → Result ℕ DecodingError → Type 0
 EndsReceiving d new (Ok done) (Ok total) = (total ≡ insert_count d.table) × (new ≡ with_report d)
 EndsReceiving d new (Ok done) (Err e) = Reports d new (Err e)

@@ -21,8 +21,8 @@ use Rattle.qpack_ends.specs.declared.encoder.EncodingError.TheVariants.{MaximumC
 use Rattle.qpack_ends.specs.Risk.{streams_at_risk}
 use Rattle.qpack_ends.specs.Hearing.{StreamView, Receives, ReceivesMore, decoder_stream_error}
 
--- an encoding end: its settings; the table; the capacity that is to be told before the first section, if one is; what
--- waits of the decoder stream; the bytes of the encoder stream that are not sent; and the error that ended the
+-- an encoding end: its settings; the table; the capacity to announce before the first section, if any; the bytes that
+-- wait from the decoder stream; the bytes of the encoder stream that are not sent; and the error that ended the
 -- connection
 pub record EncodingEnd : Type 0 where
   pub settings : EncoderSettings
@@ -34,8 +34,8 @@ pub record EncodingEnd : Type 0 where
 
 -- ---- its beginning
 
--- the capacity that is told before the first section: what is wanted, at most the maximum; none of 0, which a table has
--- from the start (section 3.2.3)
+-- the capacity to announce before the first section: that of the settings, at most the maximum; none for 0, which a
+-- table has from the start (section 3.2.3)
 abbrev pub first_capacity : EncoderSettings → Option ℕ
 first_capacity s = if nat_eq (min s.capacity s.max_capacity) 0 then None else Some (min s.capacity s.max_capacity)
 
@@ -85,14 +85,14 @@ capacity_failure e = CapacityTooLarge
 
 -- ---- what always holds
 
--- a capacity that is to be told is one that the table takes: it is within the maximum, and nothing is in the table
+-- a capacity to announce that the table takes: it is within the maximum, and the table is empty
 pub record IsToBeTold (d : EncodingEnd) (capacity : ℕ) : Type 0 where
   pub within : capacity ≤ d.settings.max_capacity
   pub small : d.settings.max_capacity < 2 ^ 30
   pub agreed : d.table.agreed_max ≡ Some d.settings.max_capacity
   pub nothing_live : d.table.live ≡ []
 
--- the capacity that is to be told is one that the table takes, the stream was received unless it was refused, and the
+-- the capacity to announce is one that the table takes, the stream was received unless it was rejected, and the
 -- connection is ended only by an error that has a code
 pub record IsSound (d : EncodingEnd) : Type 0 where
   pub wanted : IfSome d.wanted (λ capacity. IsToBeTold d capacity)
@@ -110,7 +110,8 @@ abbrev pub of_peer : ℕ → ℕ → EncoderSettings → EncoderSettings
 of_peer maximum blocked s = record s { max_capacity = maximum; max_blocked = blocked }
 
 -- why an end with these settings does not take those of the peer, if it does not. The limit of blocked streams is not
--- lowered (RFC 9114, section 7.2.4.2), and a maximum other than 0 stays (section 3.2.3). A new one is below 2^30
+-- lowered (RFC 9114, section 7.2.4.2), and a maximum other than 0 does not change (section 3.2.3). A new maximum is
+-- below 2^30
 abbrev pub peer_refusal : EncoderSettings → ℕ → ℕ → Option EncodingError
 peer_refusal s maximum blocked =
     if nat_lt blocked s.max_blocked then Some LimitLowered
@@ -118,8 +119,8 @@ peer_refusal s maximum blocked =
     else if nat_lt 0 s.max_capacity then Some MaximumChanged
     else if nat_lt maximum (2 ^ 30) then None else Some MaximumTooLarge
 
--- the end with the settings of the peer. If the maximum is new, the table is an empty one of that maximum, whose capacity
--- is to be told before the first section (section 3.2.3)
+-- the end with the settings of the peer. If the maximum is new, the table is an empty one of that maximum, whose
+-- capacity is to be announced before the first section (section 3.2.3)
 abbrev pub with_peer : ℕ → ℕ → EncodingEnd → EncodingEnd
 with_peer maximum blocked d =
     if nat_eq maximum d.settings.max_capacity
@@ -150,7 +151,7 @@ TakesPeer old new maximum blocked (Err e) =
 
 -- ---- a capacity
 
--- the end behind a capacity that the table was given, and that is told (section 4.3.1)
+-- the end after its table was given a capacity, which it announces (section 4.3.1)
 abbrev pub told : ℕ → Table → EncodingEnd → EncodingEnd
 told capacity t d =
     record d {
@@ -159,15 +160,15 @@ told capacity t d =
       unsent = d.unsent ++ written_encoder_instruction (SetCapacity capacity);
     }
 
--- why a capacity was not told: it is above the maximum (section 3.2.3), or an entry that is not evictable would have to
--- go (section 2.1.1); or memory was refused for one that the table takes
+-- why a capacity was not announced: it is above the maximum (section 3.2.3), or it would evict an entry that is not
+-- evictable (section 2.1.1); or memory was refused for one that the table takes
 abbrev pub StopsTelling : Table → ℕ → EncodingError → Type 0
 StopsTelling t capacity CapacityTooLarge = with_capacity t capacity ≡ Err AboveMaximum
 StopsTelling t capacity EntriesHeld = with_capacity t capacity ≡ Err DoesNotFit
 StopsTelling t capacity Memory = IsOk (with_capacity t capacity)
 StopsTelling t capacity e = ⊥
 
--- the table was given a capacity, and it is told; or why not, and nothing changes
+-- the table was given a capacity, which is announced; or why not, and nothing changes
 abbrev pub TellsCapacity : EncodingEnd → EncodingEnd → ℕ → Result ⊤ EncodingError → Type 0
 TellsCapacity old new capacity (Ok done) =
     (with_capacity old.table capacity ≡ Ok new.table) × (new ≡ told capacity new.table old)
@@ -177,7 +178,7 @@ TellsCapacity old new capacity (Err e) = StopsTelling old.table capacity e × (n
 abbrev pub IsNoCapacity : EncodingEnd → ℕ → Type 0
 IsNoCapacity d capacity = (d.settings.max_capacity ≡ 0) × (capacity ≡ 0)
 
--- nothing is to be done for the capacity, or it is told
+-- there is nothing to do for the capacity, or it is announced
 abbrev pub SetsIt : EncodingEnd → EncodingEnd → ℕ → Type 0
 SetsIt old new capacity =
     (IsNoCapacity old capacity × (new ≡ old))
@@ -191,16 +192,16 @@ SetsCapacity old new capacity (Err e) =
     ((old.failure ≡ Some e) × (new ≡ old))
     ⊎ ((old.failure ≡ None) × (IsNoCapacity old capacity → ⊥) × TellsCapacity old new capacity (Err e))
 
--- the end behind a capacity that was to be told, if one was: the table, which is empty, has it
+-- the end after the capacity that was to be announced, if any: the table, which is empty, has it
 abbrev pub begun_with : Option ℕ → EncodingEnd → EncodingEnd
 begun_with None d = d
 begun_with (Some capacity) d = told capacity (record d.table { capacity = capacity }) d
 
--- the end once the capacity is told that is to be told before the first section
+-- the end once it announced the capacity that is due before the first section
 abbrev pub begun : EncodingEnd → EncodingEnd
 begun d = begun_with d.wanted d
 
--- the capacity that was to be told is told; or memory was refused for it, and nothing changes
+-- the capacity that was due is announced; or memory was refused for it, and nothing changes
 abbrev pub Begins : EncodingEnd → EncodingEnd → Result ⊤ EncodingError → Type 0
 Begins old new (Ok done) = new ≡ begun old
 Begins old new (Err e) = (e ≡ Memory) × IsSome old.wanted × (new ≡ old)
@@ -224,8 +225,8 @@ ReceivesBytes heard before old new bytes (Err e) = ⊥
 
 -- ---- a section
 
--- a call for a stream can be answered; else the connection was ended, or no stream has this number (RFC 9000, section
--- 2.1)
+-- a call for a stream may go on; or it fails, because the connection was ended, or because the stream number is invalid
+-- (RFC 9000, section 2.1)
 abbrev pub Checks : EncodingEnd → ℕ → Result ⊤ EncodingError → Type 0
 Checks d stream (Ok done) = (d.failure ≡ None) × (stream < 2 ^ 62)
 Checks d stream (Err e) = (d.failure ≡ Some e) ⊎ ((d.failure ≡ None) × (2 ^ 62 ≤ stream) × (e ≡ NoStream stream))
@@ -235,7 +236,7 @@ abbrev pub is_full : EncodingEnd → Bool
 is_full d = nat_le d.settings.most_unacknowledged (length d.table.unacknowledged)
 
 -- a section of a stream may require insertions that are not known to be received: its stream may be blocked already, or
--- fewer streams may be than the peer lets be (section 2.1.2)
+-- fewer streams may be blocked than the peer permits (section 2.1.2)
 abbrev pub may_block : EncodingEnd → ℕ → Bool
 may_block d stream =
     has_number stream (streams_at_risk d.table) || nat_lt (length (streams_at_risk d.table)) d.settings.max_blocked
@@ -257,7 +258,7 @@ pub record WritesSection (d new : EncodingEnd) (stream : ℕ) (fields : List Fie
   pub known : may_block d stream ≡ false → required ≤ d.table.known_received_count
   pub new_is : new ≡ with_section new.table new.unsent d
 
--- where as many wait as may, the section references no entry, and nothing else changes
+-- at the limit of sections that wait, the section references no entry, and nothing else changes
 pub record WritesAlone (d new : EncodingEnd) (fields : List FieldLine) (before after : List ℕ) (required : ℕ) :
     Type 0 where
   pub full : is_full d ≡ true
@@ -271,21 +272,21 @@ pub record GivesUpSection (d new : EncodingEnd) (fields : List FieldLine) : Type
   pub lines : GivesUpChosen fields d.table new.table d.unsent new.unsent
   pub new_is : new ≡ with_section new.table new.unsent d
 
--- before any field memory is asked for where as many sections wait as may, for the section, or where its stream may be
--- blocked, for that
+-- before any field, memory is asked for the section at the limit of sections that wait, and for its stream if that may
+-- be blocked
 abbrev pub AsksFirst : EncodingEnd → ℕ → Type 0
 AsksFirst d stream = (is_full d ≡ true) ⊎ (may_block d stream ≡ true)
 
--- memory was refused: for the capacity that was to be told, and nothing changes; after it, before any field; or among
--- the fields
+-- memory was refused: for the capacity that was due, and nothing changes; after it, before any field; or among the
+-- fields
 abbrev pub StopsForMemory : EncodingEnd → EncodingEnd → ℕ → List FieldLine → Type 0
 StopsForMemory old new stream fields =
     (IsSome old.wanted × (new ≡ old))
     ⊎ (AsksFirst (begun old) stream × (new ≡ begun old))
     ⊎ GivesUpSection (begun old) new fields
 
--- a section was encoded, behind the capacity that was to be told; or the call was not answered, and nothing changes; or
--- memory was refused. Refused, nothing is appended
+-- a section was encoded, after the capacity that was due; or the call did not begin, and nothing changes; or memory was
+-- refused. On error nothing is appended
 abbrev pub Encodes : EncodingEnd → EncodingEnd → ℕ → List FieldLine → List ℕ → List ℕ → Result ℕ EncodingError
     → Type 0
 Encodes old new stream fields before after (Ok required) =
@@ -297,8 +298,8 @@ Encodes old new stream fields before after (Err e) =
     × ((Checks old stream (Err e) × (new ≡ old))
     ⊎ (Checks old stream (Ok tt) × (e ≡ Memory) × StopsForMemory old new stream fields))
 
--- memory may be asked for to write a section: there is a field; or there is none, and the vector has no room for the two
--- bytes of the prefix
+-- memory may be asked for to write a section: there is a field; or there is none, and the vector has no room for the
+-- two bytes of the prefix
 abbrev pub AsksForSection : {A : Type 0} → List FieldLine → Vec ℕ A → Type 0
 AsksForSection fields section = (fields ≡ [] → ⊥) ⊎ (vec_capacity section < vec_len section + 2)
 
@@ -306,6 +307,6 @@ AsksForSection fields section = (fields ≡ [] → ⊥) ⊎ (vec_capacity sectio
 abbrev pub HasNoRoomAlone : {A : Type 0} → List FieldLine → Vec ℕ A → Type 0
 HasNoRoomAlone fields section = vec_capacity section < vec_len section + length (written_alone fields)
 
--- memory may be asked for to encode a section: for the capacity that is to be told, or to write it
+-- memory may be asked for to encode a section: for the capacity to announce, or to write the section
 abbrev pub AsksToEncode : {A : Type 0} → EncodingEnd → List FieldLine → Vec ℕ A → Type 0
 AsksToEncode d fields section = IsSome d.wanted ⊎ AsksForSection fields section

@@ -17,14 +17,14 @@ field_at text s =
 abbrev pub fields_in : List ℕ → List Span → List FieldLine
 fields_in text spans = map (field_at text) spans
 
--- the span stands in a text of so many bytes
+-- the span is within a text of this many bytes
 pub record IsWithin (len : ℕ) (s : Span) : Type 0 where
   pub name : s.start ≤ s.middle
   pub value : s.middle ≤ s.end
   pub within : s.end ≤ len
 
--- the spans are in turn: the first begins here, each further one where the one before it ended, and the last ends the text
--- of so many bytes
+-- the spans are in turn: the first begins here, each further one begins at the end of the one before it, and the last
+-- ends the text of this many bytes
 abbrev pub AreInTurn : ℕ → List Span → ℕ → Type 0
 AreInTurn at [] len = at ≡ len
 AreInTurn at (s ∷ spans) len =
@@ -43,7 +43,8 @@ pub record GrowsTo (bytes fields : ℕ) (old new : SectionView) : Type 0 where
   pub text_kept : old.text_room ≤ new.text_room
   pub fields_kept : old.fields_room ≤ new.fields_room
 
--- the same of a section within a limit on the sum of its fields' sizes: each field takes 32 bytes of it (section 3.2.1)
+-- the section grows at most this far under a limit on the sum of its fields' sizes: each field takes 32 bytes of it
+-- (section 3.2.1)
 abbrev pub GrowsWithin : ℕ → SectionView → SectionView → Type 0
 GrowsWithin limit old new = GrowsTo limit (limit / 32) old new
 
@@ -52,7 +53,7 @@ pub record IsRoomWithin (limit : ℕ) (old new : SectionView) : Type 0 where
   pub text_most : new.text_room ≤ max old.text_room limit
   pub fields_most : new.fields_room ≤ max old.fields_room (limit / 32)
 
--- the next field is given, and those behind it are left; or there is none
+-- the next field is given, and those after it are left; or there is none
 abbrev pub GivesNext : List FieldLine → Option LentLine → List FieldLine → Type 0
 GivesNext [] None after = after ≡ []
 GivesNext (f ∷ fs) (Some item) after = (line_of item ≡ f) × (after ≡ fs)

@@ -1,5 +1,5 @@
--- What a strict encoder makes of the bytes of the decoder stream, which are handed in once and cut anywhere (RFC 9204,
--- section 4.4).
+-- What a strict encoder makes of the bytes of the decoder stream, each passed once and cut anywhere (RFC 9204, section
+-- 4.4).
 use Rattle.std.specs.Prelude.{◌≡◌, ℕ, ⊤, Bool, true, false, List, []}
 use Rattle.std.specs.Prelude.{◌++◌, Option, None, Some, Result, Ok, Err}
 use Rattle.qpack_spec.specs.Bytes.{Begins}
@@ -21,14 +21,14 @@ pub use Rattle.qpack_spec.specs.StrictInstructions.{HearingRefusal, ZeroIncremen
 pub use Rattle.qpack_spec.specs.StrictInstructions.{or_unknown, known_at_least, hear_in_turn}
 unfoldable pub use Rattle.qpack_spec.specs.StrictInstructions.{strict_hear}
 
--- the refusal that an error tells
+-- the refusal that an error reports
 abbrev pub refusal_of : HearingError → Option HearingRefusal
 refusal_of error.IntegerOverflow = None
 refusal_of error.ZeroIncrement = Some ZeroIncrement
 refusal_of (error.IncrementPastInsertions by) = Some (PastInsertions by)
 refusal_of (error.UnknownStream stream) = Some (UnknownStream stream)
 
--- the error tells this refusal
+-- the error reports this refusal
 abbrev pub TellsRefusal : HearingError → Result Table HearingRefusal → Type 0
 TellsRefusal e (Ok t) = ⊥
 TellsRefusal e (Err refusal) = refusal_of e ≡ Some refusal
@@ -52,7 +52,7 @@ pub record HearsOne (old new : Table) (bytes : List ℕ) : Type 0 where
   pub stands : Begins (λ encoding. SpellsDecoderInstruction encoding instruction) bytes
   pub applies : strict_hear old instruction ≡ Ok new
 
--- the instruction at the front of the bytes is applied, or none stands whole, or it is refused
+-- the instruction at the front of the bytes is applied, or none is whole, or it is rejected
 abbrev pub HearsNext : Table → Table → List ℕ → Result Bool HearingError → Type 0
 HearsNext old new bytes (Ok true) = HearsOne old new bytes
 HearsNext old new bytes (Ok false) = Truncates decoder_instruction_form bytes × (new ≡ old)
@@ -60,12 +60,12 @@ HearsNext old new bytes (Err e) = Refuses old bytes e × (new ≡ old)
 
 -- ---- the stream
 
--- a stream that is received: the bytes that wait, and where the next instruction stands
+-- a stream that is received: the bytes that wait, and where the next instruction is
 pub record StreamView : Type 0 where
   pub pending : List ℕ
   pub place : Place
 
--- these instructions stand at the front of the bytes, and behind them, at this place, this is known of the rest
+-- the bytes begin with these instructions, and after them, at this place, this holds of the rest
 pub record StandsBehind (heard : List DecoderInstruction) (bytes : List ℕ) (place : Place) (Ends : List ℕ
     → Type 0) : Type 0 where
   pub front : List ℕ
@@ -75,25 +75,25 @@ pub record StandsBehind (heard : List DecoderInstruction) (bytes : List ℕ) (pl
   pub at : place ≡ behind heard front
   pub ends : Ends rest
 
--- all bytes that were handed in so far, joined, are these instructions, and behind them these bytes wait, of an
--- instruction that is not whole
+-- all bytes that were passed so far, joined, are these instructions, then the bytes that wait, of an instruction that
+-- is not whole
 abbrev pub Receives : List DecoderInstruction → List ℕ → StreamView → Type 0
 Receives heard bytes s =
     StandsBehind heard bytes s.place (λ rest. (rest ≡ s.pending) × Truncates decoder_instruction_form rest)
 
--- behind these instructions, at the place that is told, the stream is refused
+-- after these instructions, at the place of the error, the stream is rejected
 abbrev pub HasRefused : Table → List DecoderInstruction → List ℕ → DecoderStreamError → Type 0
 HasRefused t heard bytes e = StandsBehind heard bytes e.place (λ rest. Refuses t rest e.error)
 
--- more instructions are applied in turn to the table that a call is lent
+-- more instructions are applied in turn to the table that a call borrows
 pub record HearsMore (old new : Table) (heard : List DecoderInstruction) (Then : List DecoderInstruction
     → Type 0) : Type 0 where
   pub more : List DecoderInstruction
   pub applies : hear_in_turn old more ≡ Ok new
   pub behind_them : Then (heard ++ more)
 
--- what a call makes of bytes behind those before them: more instructions are applied, and all is received; or behind
--- them the stream is refused, and nothing waits
+-- what a call makes of bytes after those before them: more instructions are applied, and all is received; or after them
+-- the stream is rejected, and nothing waits
 abbrev pub ReceivesMore : Table → Table → List DecoderInstruction → List ℕ → List ℕ → StreamView
     → Result ⊤ DecoderStreamError → Type 0
 ReceivesMore old new heard before bytes s (Ok done) =

@@ -1,4 +1,4 @@
--- What reading the lines of a section onto a text answers (RFC 9204, sections 2.2.3 and 4.5.2 to 4.5.6).
+-- What reading the lines of a section onto a text returns (RFC 9204, sections 2.2.3 and 4.5.2 to 4.5.6).
 use Rattle.std.specs.Prelude.{◌≡◌, ◌≤◌, ◌<◌, ℕ, ◌+◌, ◌-◌, ◌^◌, min, ⊤, if◌then◌else◌, nat_le, List, [], ◌∷◌, ◌++◌}
 use Rattle.std.specs.Prelude.{length, Result, Ok, Err, IsOk, Some, ◌⊎◌}
 use Rattle.qpack_spec.specs.Bytes.{◌>>=◌}
@@ -33,7 +33,7 @@ use Rattle.qpack_ends.specs.FieldSections.{IsWithin, field_at}
 
 -- ---- errors
 
--- an error of the decoder, as a line's; want of memory stays what it is
+-- an error of the decoder, as a line's; out of memory stays itself
 abbrev pub line_error_of : DecoderError → LineError
 line_error_of decoder.Memory = Memory
 line_error_of e = Meaningless e
@@ -47,14 +47,14 @@ line_error_of_table e = line_error_of (decoder_error_of_table e)
 abbrev pub line_error_of_static : StaticError → LineError
 line_error_of_static e = line_error_of (decoder_error_of_static e)
 
--- the error tells this fault; an index is told up to the greatest number of 64 bits
+-- the error reports this fault; an index is reported up to the greatest number of 64 bits
 abbrev pub TellsLine : LineError → LineFault → Type 0
 TellsLine (Meaningless e) (strict.Meaningless fault) = Tells e fault
 TellsLine (PastRequired index) (strict.PastRequired absolute) = index ≡ min absolute (2 ^ 64 - 1)
 TellsLine (TooLarge sum) (strict.TooLarge all) = sum ≡ all
 TellsLine e fault = ⊥
 
--- the error tells the fault that was read
+-- the error reports the fault that was read
 abbrev pub TellsFault : {A : Type 0} → LineError → Result A LineFault → Type 0
 TellsFault e (Ok x) = ⊥
 TellsFault e (Err fault) = TellsLine e fault
@@ -70,13 +70,13 @@ FailsLine e read = TellsFault e read
 abbrev pub or_bad_line : {A : Type 0} → Result A FormFault → Result A LineFault
 or_bad_line r = or_meaningless (or_bad_form r)
 
--- an index was read, whatever flags stand above it, and the cursor stands behind it; or it is refused
+-- an index was read, under any flags, and the cursor is after it; or it is rejected
 abbrev pub ReadsIndex : CursorView → CursorView → Result ℕ LineError → Result (ℕ × ℕ × List ℕ) FormFault → Type 0
 ReadsIndex old new (Ok index) read = ((flags : ℕ) × (read ≡ Ok (flags, index, new.rest))) × (new.total ≡ old.total)
 ReadsIndex old new (Err e) read = FailsLine e (or_bad_line read)
 
--- a string was read, and stands behind the text if it has at most so many bytes; its length is answered, and the cursor
--- stands behind it. Or it is refused, and the text is as before
+-- a string was read, and appended to the text if it has at most this many bytes; its length is returned, and the cursor
+-- is after it. Or it is rejected, and the text is unchanged
 abbrev pub AppendsText : ℕ → CursorView → CursorView → List ℕ → List ℕ → Result ℕ LineError
     → Result (ℕ × List ℕ × List ℕ) FormFault → Type 0
 AppendsText most old new text_old text_new (Ok len) read =
@@ -84,36 +84,36 @@ AppendsText most old new text_old text_new (Ok len) read =
     × (text_new ≡ text_old ++ kept_within most value) × (new.total ≡ old.total)
 AppendsText most old new text_old text_new (Err e) read = FailsLine e (or_bad_line read) × (text_new ≡ text_old)
 
--- the field's name stands behind the text if it has at most so many bytes, and its length is answered
+-- the field's name is appended to the text if it has at most this many bytes, and its length is returned
 abbrev pub AppendsName : ℕ → List ℕ → List ℕ → Result ℕ LineError → Result Field LineFault → Type 0
 AppendsName most old new (Ok len) read =
     (f : Field) × (read ≡ Ok f) × (len ≡ length f.name) × (new ≡ old ++ kept_within most f.name)
 AppendsName most old new (Err e) read = FailsLine e read × (new ≡ old)
 
--- something may stand behind the text
+-- the text may have grown at its end
 abbrev pub Extends : List ℕ → List ℕ → Type 0
 Extends old new = (more : List ℕ) × (new ≡ old ++ more)
 
--- the lengths are the field's, and it stands behind the text if it has at most so many bytes
+-- the lengths are the field's, and it is appended to the text if it has at most this many bytes
 pub record Stands (most : ℕ) (old new : List ℕ) (lengths : Lengths) (f : Field) : Type 0 where
   pub name : lengths.name ≡ length f.name
   pub value : lengths.value ≡ length f.value
   pub text : length f.name + length f.value ≤ most → new ≡ old ++ f.name ++ f.value
   pub extends : Extends old new
 
--- the field stands behind the text if it has at most so many bytes; or why not
+-- the field is appended to the text if it has at most this many bytes; or why not
 abbrev pub AppendsEntry : ℕ → List ℕ → List ℕ → Result Lengths LineError → Result Field LineFault → Type 0
 AppendsEntry most old new (Ok lengths) read = (f : Field) × (read ≡ Ok f) × Stands most old new lengths f
 AppendsEntry most old new (Err e) read = FailsLine e read × Extends old new
 
 -- ---- lines
 
--- what the lines of a section of so many bytes are read under
+-- what the lines of a section of this many bytes are read under
 abbrev pub under : {I Key : Type 0} → Lines I Key → ℕ → LinesUnder
 under l section =
     record { window = window l.table.now; required = l.required; base = l.base; limit = l.limit; section = section }
 
--- a reference is not past the required insert count; or it is, and that is told (section 2.2.3)
+-- a reference is not past the required insert count; or it is, and that is reported (section 2.2.3)
 abbrev pub ChecksRequired : Result ⊤ LineError → ℕ → ℕ → Type 0
 ChecksRequired (Ok done) required absolute = absolute ≤ required
 ChecksRequired (Err e) required absolute = (e ≡ PastRequired (min absolute (2 ^ 64 - 1))) × (required < absolute)
@@ -141,23 +141,24 @@ named_line Static index value = NamedStatic index value
 named_line Relative index value = NamedDynamic index value
 named_line PostBase index value = NamedPostBase index value
 
--- the field of what a form made of bytes, and the bytes behind it
+-- the field of what a form made of bytes, and the bytes after it
 abbrev pub field_of_form : LinesUnder → Result (Line × List ℕ) FormFault → Result (Field × List ℕ) LineFault
 field_of_form u r = or_bad_line r >>= λ r. strict_field u r.0 >>= λ f. Ok (f, r.1)
 
--- memory may be asked for: the form stands whole at the front of the bytes, or a string of it whose payload is not
--- empty (section 4.1.2)
+-- memory may be asked for: a whole form is at the front of the bytes, or a string of it whose payload is not empty
+-- (section 4.1.2)
 abbrev pub AsksInForm : Form Line → List ℕ → Type 0
 AsksInForm form bytes = IsOk (made_at form bytes) ⊎ AsksFormAt (Some form) bytes
 
--- the line's field stands behind the text if it has at most so many bytes, and the cursor behind the line; or why not
+-- the line's field is appended to the text if it has at most this many bytes, and the cursor is after the line; or why
+-- not
 abbrev pub AppendsLine : ℕ → CursorView → CursorView → List ℕ → List ℕ → Result Lengths LineError
     → Result (Field × List ℕ) LineFault → Type 0
 AppendsLine most old new text_old text_new (Ok lengths) read =
     (f : Field) × (read ≡ Ok (f, new.rest)) × Stands most text_old text_new lengths f × (new.total ≡ old.total)
 AppendsLine most old new text_old text_new (Err e) read = FailsLine e read × Extends text_old text_new
 
--- a field was read: its span stands behind the others, its strings are all that was added to the text, and the sizes have
+-- a field was read: its span is after the others, its strings are all that was added to the text, and the sizes have
 -- this sum with it
 pub record Adds (old new : CursorView) (text_old text_new : List ℕ) (spans_old spans_new : List Span) (all sum : ℕ)
     (read : Result (FieldLine × List ℕ) LineFault) : Type 0 where

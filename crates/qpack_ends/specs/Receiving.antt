@@ -1,5 +1,5 @@
--- What a strict decoder makes of the bytes of the encoder stream, which are handed in once and cut anywhere (RFC 9204,
--- section 4.3).
+-- What a strict decoder makes of the bytes of the encoder stream, each passed once and cut anywhere (RFC 9204, section
+-- 4.3).
 use Rattle.std.specs.Prelude.{◌≡◌, ◌≢◌, ◌<◌, ◌≤◌, ℕ, ⊤, ◌⊎◌, Bool, true, ◌&&◌, nat_eq}
 use Rattle.std.specs.Prelude.{◌+◌, ◌-◌, ◌*◌, List, [], ◌++◌, length, Option, None, Some, Result, Ok, Err}
 use Rattle.qpack_spec.specs.Bytes.{Begins}
@@ -49,7 +49,7 @@ pub data Refuses (t : Table) (rest : List ℕ) (e : DecoderError) : Type 0 where
 abbrev pub StopsStrictly : Table → List ℕ → List ℕ → DecoderError → Type 0
 StopsStrictly t rest left e = (AsksToTake t rest × (e ≡ decoder.Memory) × (left ≡ rest)) ⊎ Refuses t rest e
 
--- an instruction is taken, or none stands whole, or it is not taken
+-- an instruction is applied, or none is whole, or it is not applied
 abbrev pub TakesNextStrictly : Table → Table → List ℕ → List ℕ → Result Bool DecoderError → Type 0
 TakesNextStrictly old new rest left r =
     TakesNextOf encoder_instruction_form strict_apply StopsStrictly old new rest left r
@@ -59,23 +59,23 @@ abbrev pub PassesOne : Place → Place → List ℕ → List ℕ → Result Bool
 PassesOne from at rest left (Ok true) = at ≡ passed from 1 (length rest - length left)
 PassesOne from at rest left r = at ≡ from
 
--- one place is so many instructions of so many bytes behind another, wherever on its stream that is
+-- one place is this many instructions of this many bytes after another, wherever on its stream that is
 abbrev pub IsBehind : Place → Place → ℕ → ℕ → Type 0
 IsBehind from at many len =
     (lines bytes : ℕ) → from ≡ passed first_place lines bytes → at ≡ passed first_place (lines + many) (bytes + len)
 
--- the instructions at the front of the bytes are taken, from one place to another; this holds of the bytes behind them
+-- the instructions at the front of the bytes are applied, from one place to another; this holds of the bytes after them
 abbrev pub TakesFrom : Table → Table → Place → Place → List ℕ → (List ℕ → Type 0) → Type 0
 TakesFrom old new from at bytes Ends =
     (k : TakesAllOf encoder_instruction_form strict_apply old new bytes (λ front rest. Ends rest))
     × IsBehind from at (length k.lines) (length k.front)
 
--- the same, until none stands whole or one is not taken
+-- the instructions at the front are applied, until none is whole or one is not applied
 abbrev pub TakesAllStrictly : Table → Table → Place → Place → List ℕ → List ℕ → Result ⊤ DecoderError → Type 0
 TakesAllStrictly old new from at bytes left r =
     TakesFrom old new from at bytes (λ rest. EndsTakingOf encoder_instruction_form StopsStrictly new rest left r)
 
--- the instructions at the front of a stream's bytes, from its start, are taken; behind them is this place, and this
+-- the instructions at the front of a stream's bytes, from its start, are applied; after them is this place, and this
 -- holds of the bytes there
 abbrev pub TakesUpTo : Table → Table → List ℕ → Place → (List ℕ → Type 0) → Type 0
 TakesUpTo start now bytes place Ends =
@@ -84,12 +84,12 @@ TakesUpTo start now bytes place Ends =
 
 -- ---- the error
 
--- the error of the instruction at this place; want of memory stays what it is
+-- the error of the instruction at this place; out of memory stays itself
 abbrev pub stream_error_at : Place → DecoderError → EncoderStreamError
 stream_error_at place decoder.Memory = Memory
 stream_error_at place e = Refused place e
 
--- the same of what is answered
+-- the result of the instruction at this place
 abbrev pub answer_at : Place → Result ⊤ DecoderError → Result ⊤ EncoderStreamError
 answer_at place (Ok done) = Ok done
 answer_at place (Err e) = Err (stream_error_at place e)
@@ -98,7 +98,7 @@ answer_at place (Err e) = Err (stream_error_at place e)
 abbrev pub encoder_stream_error : ℕ
 encoder_stream_error = 0x201
 
--- the code of an error that ends the connection: none of want of memory
+-- the code of an error that ends the connection; out of memory has none
 abbrev pub stream_code_of : EncoderStreamError → Option ℕ
 stream_code_of (Refused place e) = Some encoder_stream_error
 stream_code_of Memory = None
@@ -116,22 +116,23 @@ pub record StreamView : Type 0 where
   pub wanted : ℕ
   pub place : Place
 
--- the number of bytes that are wanted before what waits can be whole, or the refusal of a field that can't fit
+-- how many bytes are needed before those that wait can be whole, or the refusal of a field that can't fit
 abbrev pub FindsWanted : Table → List ℕ → Result ℕ DecoderError → Type 0
 FindsWanted t pending (Ok many) = MayGrow t pending × (many ≤ wanted pending) × IsShort t pending
 FindsWanted t pending (Err e) = Refuses t pending e
 
--- all bytes that were handed in so far are instructions that were taken in turn, up to this place, and behind them
--- these wait
+-- all bytes that were passed so far are instructions that were applied in turn, up to this place, then the bytes that
+-- wait
 abbrev pub HasReceived : Table → Table → List ℕ → Place → List ℕ → Type 0
 HasReceived start now bytes place pending =
     TakesUpTo start now bytes place (λ rest. (rest ≡ pending) × MayGrow now rest)
 
--- if a number of bytes is wanted, those that wait may grow, and nothing is whole before that number
+-- if a number of bytes is needed, those that wait may grow, and nothing is whole before that number
 abbrev pub Waits : Table → StreamView → Type 0
 Waits now s = 0 < s.wanted → MayGrow now s.pending × (s.wanted ≤ wanted s.pending)
 
--- the same of a stream that is to be received further: where memory was refused, what waits may be whole
+-- all bytes passed so far, of a stream that is to be received further: if memory was refused, the bytes that wait may
+-- be whole
 abbrev pub Receives : Table → Table → List ℕ → StreamView → Type 0
 Receives start now bytes s = TakesUpTo start now bytes s.place (λ rest. (rest ≡ s.pending) × Waits now s)
 
@@ -152,7 +153,7 @@ pub record TakesIn (start new : Table) (before bytes left : List ℕ) (s u : Str
 abbrev pub AsksToReceive : Table → List ℕ → StreamView → Type 0
 AsksToReceive t left s = AsksToTake t s.pending ⊎ AsksToTake t left ⊎ (left ≡ [] → ⊥)
 
--- memory was refused, where it is asked for
+-- memory was refused, when it was asked for
 abbrev pub WantsMemory : Table → Table → List ℕ → List ℕ → List ℕ → StreamView → StreamView → Type 0
 WantsMemory start new before bytes left s u =
     TakesIn start new before bytes left s u × AsksToReceive new left u
@@ -164,7 +165,8 @@ pub record RefusesFront (start now : Table) (before bytes : List ℕ) (place : P
   pub cut : bytes ≡ front ++ back
   pub refused : HasRefused start now (before ++ front) place e
 
--- why bytes are not received: memory is refused; or the stream is, at the place that is told, and not for memory
+-- why bytes are not received: memory is refused; or the stream is rejected, at the place of the error, and not for
+-- memory
 abbrev pub FailsReceiving : Table → Table → List ℕ → List ℕ → List ℕ → StreamView → StreamView → EncoderStreamError
     → Type 0
 FailsReceiving start new before bytes left s u Memory = WantsMemory start new before bytes left s u
@@ -179,7 +181,7 @@ ReceivesFront start new before bytes left s u (Ok done) =
     × IsShort new u.pending
 ReceivesFront start new before bytes left s u (Err e) = FailsReceiving start new before bytes left s u e
 
--- what a call makes of bytes behind those before them, of which these are left: all are received, and few wait; or why
+-- what a call makes of bytes after those before them, of which these are left: all are received, and few wait; or why
 -- not
 abbrev pub ReceivesMore : Table → Table → Table → List ℕ → List ℕ → List ℕ → StreamView → StreamView
     → Result ⊤ EncoderStreamError → Type 0

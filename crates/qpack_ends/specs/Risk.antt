@@ -11,7 +11,7 @@ use Rattle.qpack_ends.specs.Blocked.{without}
 
 -- ---- of a table
 
--- a section requires more insertions than so many
+-- a section requires more insertions than this many
 abbrev pub requires_above : ℕ → UnacknowledgedBlock → Bool
 requires_above known b = nat_lt known (greatest_of b.entries)
 
@@ -35,7 +35,7 @@ limit_for may = if may then 4096 else 0
 
 -- ---- as an end keeps them
 
--- the stream of a number is among these, with more insertions required than so many
+-- the stream of a number is among these, with more insertions required than this many
 abbrev pub is_kept_above : ℕ → ℕ → List BlockedStream → Bool
 is_kept_above known stream rs = list_any (λ r. nat_eq r.stream stream && nat_lt known r.required) rs
 

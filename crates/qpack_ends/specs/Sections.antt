@@ -1,4 +1,4 @@
--- What reading a section strictly answers (RFC 9204, sections 2.2 and 4.5).
+-- What reading a section strictly returns (RFC 9204, sections 2.2 and 4.5).
 use Rattle.std.specs.Prelude.{◌≡◌, ℕ, ⊤, List, [], Option, None, Some, Result, Ok, Err}
 use Rattle.qpack_spec.specs.Field.{FieldLine}
 use Rattle.qpack_spec.specs.StrictReading.{SectionFault, StrictReading, InPrefix, InLine, Read, Blocked}
@@ -17,7 +17,7 @@ use Rattle.qpack_ends.specs.declared.section.SectionError.{SectionError}
 use Rattle.qpack_ends.specs.declared.section.SectionError.TheVariants.{TooLong, Prefix, CountAtZero, Line, Memory}
 use Rattle.qpack_ends.specs.Lines.{TellsLine}
 
--- an error of the decoder, as a prefix's; want of memory stays what it is
+-- an error of the decoder, as a prefix's; out of memory stays itself
 abbrev pub error_in_prefix : DecoderError → SectionError
 error_in_prefix decoder.Memory = Memory
 error_in_prefix e = Prefix e
@@ -34,14 +34,14 @@ error_at number offset e = Line number offset e
 abbrev pub decompression_failed : ℕ
 decompression_failed = 0x200
 
--- the code of an error that ends the connection: none of the limit, which is the reader's own, and of want of memory
+-- the code of an error that ends the connection; the limit, which is the reader's own, and out of memory have none
 abbrev pub line_code_of : LineError → Option ℕ
 line_code_of (line.Meaningless e) = Some decompression_failed
 line_code_of (line.PastRequired index) = Some decompression_failed
 line_code_of (line.TooLarge sum) = None
 line_code_of line.Memory = None
 
--- the same of a section's
+-- the code of a section's error that ends the connection
 abbrev pub code_of : SectionError → Option ℕ
 code_of TooLong = None
 code_of (Prefix e) = Some decompression_failed
@@ -49,7 +49,7 @@ code_of CountAtZero = Some decompression_failed
 code_of (Line number offset e) = line_code_of e
 code_of Memory = None
 
--- the error tells this fault
+-- the error reports this fault
 abbrev pub TellsSection : SectionError → SectionFault → Type 0
 TellsSection TooLong fault = fault ≡ strict.TooLong
 TellsSection (Prefix e) (InPrefix fault) = Tells e fault
@@ -57,7 +57,7 @@ TellsSection CountAtZero fault = fault ≡ strict.CountAtZero
 TellsSection (Line number offset e) (InLine n o fault) = (number ≡ n) × (offset ≡ o) × TellsLine e fault
 TellsSection e fault = ⊥
 
--- the error tells the fault that was read
+-- the error reports the fault that was read
 abbrev pub TellsFault : {A : Type 0} → SectionError → Result A SectionFault → Type 0
 TellsFault e (Ok x) = ⊥
 TellsFault e (Err fault) = TellsSection e fault
@@ -72,7 +72,7 @@ abbrev pub ReadsLines : Result ⊤ SectionError → List FieldLine → Result (L
 ReadsLines (Ok done) fields read = read ≡ Ok fields
 ReadsLines (Err e) fields read = FailsSection e read
 
--- the error tells why a section is refused
+-- the error reports why a section is rejected
 abbrev pub TellsReading : SectionError → StrictReading → Type 0
 TellsReading e (Refused fault) = TellsSection e fault
 TellsReading e read = ⊥
@@ -88,7 +88,7 @@ ReadsInto (Ok (reading.Fields required)) fields read = read ≡ Read fields requ
 ReadsInto (Ok (reading.Blocked required)) fields read = (read ≡ Blocked required) × (fields ≡ [])
 ReadsInto (Err e) fields read = FailsReading e read
 
--- the same, with no field where none is answered
+-- a section was read so, with no field unless fields are returned
 abbrev pub ReadsSection : Result Reading SectionError → List FieldLine → StrictReading → Type 0
 ReadsSection (Err e) fields read = FailsReading e read × (fields ≡ [])
 ReadsSection r fields read = ReadsInto r fields read

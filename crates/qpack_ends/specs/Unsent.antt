@@ -8,11 +8,11 @@ pub record UnsentView : Type 0 where
   pub front : ℕ
   pub capacity : ℕ
 
--- there is room for so many bytes more
+-- there is room for this many more bytes
 abbrev pub HasRoom : ℕ → UnsentView → Type 0
 HasRoom many u = u.front + length u.bytes + many ≤ u.capacity
 
--- where there is room for so many bytes more, the room is kept as it is; it is never less
+-- with room for this many more bytes, the room is unchanged; it never shrinks
 pub record KeepsRoom (many : ℕ) (old new : UnsentView) : Type 0 where
   pub still : HasRoom many old → new.capacity ≡ old.capacity
   pub capacity : old.capacity ≤ new.capacity

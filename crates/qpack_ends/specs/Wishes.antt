@@ -41,11 +41,11 @@ SuitsWish t l Insert c = l.never_indexed ≡ false → newest_index t (is_field 
 SuitsWish t l Reuse c = l.never_indexed ≡ false → InsertsNothing c
 SuitsWish t l w c = Unit {0}
 
--- a chooser that chooses by the caller's words, whatever else it goes by
+-- a chooser that follows the caller's wishes, and may follow anything else
 abbrev pub by_wish : (K : Type 0) → Chooses K Wish
 by_wish K before t l w c after = SuitsWish t l w c
 
--- the same of any field: one that a static field equals is written as that, unless it is never to be indexed
+-- how any field is chosen: one that a static field equals is written as that, unless it is never to be indexed
 abbrev pub SuitsUnless : Option ℕ → Bool → Table → FieldLine → Wish → Chosen → Type 0
 SuitsUnless (Some i) false t l w c = c ≡ alone_chosen
 SuitsUnless o marked t l w c = SuitsWish t l w c
@@ -72,7 +72,7 @@ pub record KeepsWishes (d new : EncodingEnd) (stream : ℕ) (fields : List Field
 abbrev pub limited : Bool → EncodingEnd → EncodingEnd
 limited may d = record d { table = with_limit (limit_for may) d.table }
 
--- an encode keeps to the caller's words, unless as many sections wait as may: then none references an entry
+-- an encode follows the caller's wishes, except at the limit of sections that wait: then none references an entry
 abbrev pub EncodesAsWished : EncodingEnd → EncodingEnd → ℕ → List FieldLine → List Wish → List ℕ → List ℕ
     → Result ℕ EncodingError → Type 0
 EncodesAsWished old new stream fields wishes before after (Ok required) =

@@ -58,7 +58,8 @@ impl BlockedStreams {
         }
     }
 
-    /// How many are blocked where so many insertions were received: those that were unblocked meanwhile are not.
+    /// Returns how many streams are blocked after this many insertions. Streams that were unblocked meanwhile do not
+    /// count.
     pub(crate) fn count(&self, inserted: usize) -> usize
         ensures { result ≡ blocked_among inserted self.now }
     {
@@ -69,8 +70,8 @@ impl BlockedStreams {
         self.streams.len() - unblocked.count()
     }
 
-    /// A stream comes to be blocked where so many insertions were received, unless with it more than so many would be.
-    /// On error nothing changes.
+    /// Marks a stream as blocked after this many insertions, unless more than `most` streams would then be blocked. On
+    /// error nothing changes.
     pub(crate) fn block(
         &mut self,
         stream: BlockedStream,
@@ -88,7 +89,7 @@ impl BlockedStreams {
         }
     }
 
-    /// The stream is there no more.
+    /// Removes the stream.
     pub(crate) fn forget(&mut self, stream: u64)
         ensures others { self.new ≡ without stream self.old }
         ensures few { (inserted : ℕ) → blocked_among inserted self.new ≤ blocked_among inserted self.old }
@@ -98,7 +99,7 @@ impl BlockedStreams {
         }
     }
 
-    /// The first stream of which the section waits for no more than so many insertions.
+    /// Returns the first stream whose section requires no more than this many insertions.
     pub(crate) fn ready(&self, inserted: usize) -> Option<u64>
         ensures { result ≡ ready inserted self.now }
     {
@@ -109,14 +110,14 @@ impl BlockedStreams {
         Some(first.stream)
     }
 
-    /// Whether as many streams are blocked as may be. They are counted only where there are as many.
+    /// Returns whether as many streams are blocked as may be. It counts them only if there are that many.
     fn is_full(&self, inserted: usize, most: usize) -> bool
         ensures { result ≡ nat_le most (blocked_among inserted self.now) }
     {
         self.streams.len() >= most && self.count(inserted) >= most
     }
 
-    /// Whether a stream is blocked where so many insertions were received.
+    /// Returns whether a stream is blocked after this many insertions.
     fn is_blocked(&self, stream: u64, inserted: usize) -> bool
         ensures { result ≡ is_blocked inserted stream self.now }
     {
@@ -126,15 +127,15 @@ impl BlockedStreams {
         }
     }
 
-    /// How many insertions a stream waits for, if it is there.
+    /// Returns how many insertions a stream waits for, if it is there.
     fn required(&self, stream: u64) -> Option<usize>
         ensures { result ≡ required_of stream self.now }
     {
         self.required.get(&stream).copied()
     }
 
-    /// Puts a stream in the place of the one of its number, or adds it. Memory is asked for only where it was not there
-    /// with what its section requires.
+    /// Replaces the entry of the stream with this number, or adds one. Asks for memory only if the stream had no entry
+    /// with this required insert count.
     fn put(&mut self, stream: BlockedStream) -> Result<(), NoMemory>
         ensures ok { result ≡ Ok tt → self.new ≡ with_blocked stream self.old }
         ensures err { IfErr result (λ _. (self.new ≡ self.old) × IsCountedAnew stream self.old) }

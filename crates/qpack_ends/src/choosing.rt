@@ -33,7 +33,7 @@ pub(crate) struct Chooser {
     copies: Copies,
     history: History,
     names: NameCredit,
-    /// How many sections began since a wanted insertion found no room, at most 255.
+    /// How many sections began since an insertion found no room, at most 255.
     sections_since: u8,
 }
 

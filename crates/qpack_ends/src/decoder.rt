@@ -54,7 +54,7 @@ pub enum DecodingError {
     /// The encoder stream is refused at an instruction.
     #[error("encoder stream: in instruction {} at offset {}: {error}", .place.number, .place.offset)]
     EncoderStream {
-        /// Where the instruction stands on the stream.
+        /// Where the instruction is on the stream.
         place: Place,
         /// Why.
         error: DecoderError,
@@ -85,8 +85,8 @@ pub(crate) const STREAMS: u64 = 1 << 62;
 const BLOCKED_LIMITS: usize = 65_535;
 
 impl DecodingError {
-    /// The code of the error that ends the connection (RFC 9204, section 6); none of what does not end it: the reader's
-    /// own limit, a number that no stream has, and want of memory.
+    /// Returns the code of the error that ends the connection (RFC 9204, section 6). Returns `None` for an error that
+    /// does not end it: the reader's own limit, an invalid stream number, or out of memory.
     pub fn code(&self) -> Option<u64>
         ensures { result ≡ code_of self.now }
     {
@@ -98,7 +98,7 @@ impl DecodingError {
         }
     }
 
-    /// The error of an encoder stream.
+    /// Returns the error of an encoder stream.
     fn of_stream(error: EncoderStreamError) -> DecodingError
         ensures { result ≡ stream_failure error }
     {
@@ -122,7 +122,7 @@ impl From<NoMemory> for DecodingError {
 /// The decoding end of a connection.
 ///
 /// It takes the bytes of the encoder stream and the field sections of streams, and writes the decoder stream. An error
-/// that has a code ends the connection: from then on every call that could fail answers it again.
+/// that has a code ends the connection: from then on every call that can fail returns that error.
 #[derive(Debug, Drop)]
 pub struct ConnectionDecoder {
     settings: DecoderSettings,
@@ -164,9 +164,9 @@ impl Model for ConnectionDecoder {
 }
 
 impl ConnectionDecoder {
-    /// A decoding end that sends these settings. Its table has the capacity 0 until the peer sets one (RFC 9204,
-    /// section 3.2.3). Refused are a maximum capacity of 2^30 bytes or more, and then a limit of 65,535 blocked streams
-    /// or more. Takes no memory.
+    /// Returns a decoding end that sends these settings. Its table has capacity 0 until the peer sets another (RFC
+    /// 9204, section 3.2.3). Fails if the maximum capacity is 2^30 bytes or more, then if the limit is 65,535 blocked
+    /// streams or more. Takes no memory.
     pub fn new(alloc: Global, settings: DecoderSettings) -> Result<ConnectionDecoder, SettingsError>
         ensures ok { IfOk result (λ d. Begins settings d) }
         ensures err { IfErr result (FailsSettings settings) }
@@ -186,28 +186,28 @@ impl ConnectionDecoder {
         })
     }
 
-    /// The settings.
+    /// Returns the settings.
     pub fn settings(&self) -> DecoderSettings
         ensures { result ≡ self.now.settings }
     {
         self.settings
     }
 
-    /// The table.
+    /// Returns the table.
     pub fn table(&self) -> &ReceivedTable
         ensures { result.now ≡ self.now.table }
     {
         &self.table
     }
 
-    /// The error that ended the connection, if one did.
+    /// Returns the error that ended the connection, if one did.
     pub fn failure(&self) -> Option<DecodingError>
         ensures { result ≡ self.now.failure }
     {
         self.failure
     }
 
-    /// How many streams are blocked: those that wait for insertions yet.
+    /// Returns how many streams are blocked: those that still wait for insertions.
     pub fn blocked(&self) -> usize
         ensures exact { result ≡ blocked_streams self.now }
         ensures few { result ≤ self.now.settings.max_blocked }
@@ -215,29 +215,29 @@ impl ConnectionDecoder {
         self.blocked.count(self.table.total_inserted())
     }
 
-    /// How many bytes of the encoder stream wait for those behind them.
+    /// Returns how many bytes of the encoder stream wait for the rest of their instruction.
     pub fn waiting(&self) -> usize
         ensures { result ≡ length self.now.stream.pending }
     {
         self.stream.waiting()
     }
 
-    /// The bytes of the decoder stream that are to be sent, in order (RFC 9204, section 4.4).
+    /// Returns the bytes of the decoder stream that are to be sent, in order (RFC 9204, section 4.4).
     pub fn decoder_stream(&self) -> &[u8]
         ensures { result.now ≡ self.now.unsent }
     {
         self.unsent.as_slice()
     }
 
-    /// So many bytes of the decoder stream were sent, or all: they are dropped.
+    /// Drops this many bytes of the decoder stream, or all if there are fewer. Call this after they were sent.
     pub fn sent(&mut self, many: usize)
         ensures { self.new ≡ record self.old { unsent = drop many self.old.unsent } }
     {
         self.unsent.sent(many);
     }
 
-    /// A blocked stream of which the section can be decoded now: of those, the one that waited for the fewest insertions,
-    /// and of those with as many the one with the lowest number.
+    /// Returns a blocked stream whose section can now be decoded. If there are several, it is the one that waited for
+    /// the fewest insertions, and of those with as many the one with the lowest number.
     pub fn next_ready(&self) -> Option<u64>
         ensures { result ≡ ready (insert_count self.now.table) self.now.blocked }
     {
@@ -245,15 +245,15 @@ impl ConnectionDecoder {
     }
 
     /// Decodes a field section that came on a stream (RFC 9204, section 2.2), as `read_section` reads it, with the
-    /// limit of the settings. Where no fields are answered there are none in `fields`.
+    /// limit of the settings. Unless it returns `Reading::Fields`, `fields` is empty.
     ///
-    /// Fields of a section that requires insertions are acknowledged, behind increments for what is not reported; the
-    /// stream is blocked no more. A section that is blocked is not kept: its stream is counted as blocked while
-    /// insertions are missing, and once `next_ready` tells the stream the section is handed in again. Refused are, in
-    /// this order: every call behind an error that ended the connection, by that error; a number that no stream has
-    /// (`NoStream`); what `read_section` refuses (`Section`); and a stream more than may be blocked (`TooManyBlocked`).
-    /// After `Section` the stream is blocked no more. Another error that has no code changes nothing, but that increments
-    /// may have been written where memory was refused.
+    /// It acknowledges the fields of a section that requires insertions, after increments for insertions not yet
+    /// reported, and the stream is no longer blocked. It does not keep a blocked section. The stream counts as blocked
+    /// while insertions are missing; once `next_ready` returns the stream, pass the section again. It fails, checking
+    /// in this order, after an error that ended the connection, with that error; with `NoStream` if the stream number
+    /// is invalid; with `Section` if `read_section` fails; and with `TooManyBlocked` if one stream too many would be
+    /// blocked. After `Section` the stream is no longer blocked. Any other error without a code changes nothing, except
+    /// that increments may have been written before memory ran out.
     pub fn decode(
         &mut self,
         stream: u64,
@@ -292,12 +292,13 @@ impl ConnectionDecoder {
         Ok(())
     }
 
-    /// Receives the bytes of the encoder stream that the cursor has left, which follow on those of the calls before,
-    /// cut anywhere (RFC 9204, sections 4.2 and 4.3), as `EncoderStream::receive` does, and answers how many insertions
-    /// were ever made. They are reported by increments of 64 and one of the rest (section 4.4.3).
+    /// Receives the bytes left at the cursor, which continue those of earlier calls and may be cut anywhere (RFC 9204,
+    /// sections 4.2 and 4.3), as `EncoderStream::receive` does. Returns how many insertions were ever made. It reports
+    /// them by increments of 64 and one of the rest (section 4.4.3).
     ///
-    /// An instruction that is refused ends the connection (`EncoderStream`); those before it stay applied. After want
-    /// of memory what the cursor has left is offered again, be it nothing; insertions that were made are reported then.
+    /// A rejected instruction ends the connection (`EncoderStream`); the instructions before it stay applied. After
+    /// `Memory`, call again with the bytes left at the cursor, even if there are none; that call reports the insertions
+    /// that were made.
     pub fn receive(&mut self, buf: &mut Cursor) -> Result<usize, DecodingError>
         ensures receives { self.old.failure ≡ None → (start : Table) (before : List ℕ)
             → Receives start self.old.table before self.old.stream
@@ -318,7 +319,7 @@ impl ConnectionDecoder {
         Ok(self.table.total_inserted())
     }
 
-    /// Whether a call for a stream can be answered.
+    /// Returns the error of a call for a stream, if the connection ended or the stream number is invalid.
     fn check(&self, stream: u64) -> Result<(), DecodingError>
         ensures checks { Checks self.now stream result }
         ensures no_memory { result ≡ Err Memory → ⊥ }
@@ -332,7 +333,7 @@ impl ConnectionDecoder {
         Ok(())
     }
 
-    /// Reads a section, and does what its reading asks for; refused, fields may stand in `fields`.
+    /// Reads a section, and acts on the result. On error there may be fields in `fields`.
     fn decode_into(
         &mut self,
         stream: u64,
@@ -380,7 +381,7 @@ impl ConnectionDecoder {
         Ok(())
     }
 
-    /// A stream comes to be blocked; where it is one too many, that ends the connection.
+    /// Marks a stream as blocked, or ends the connection if it is one too many.
     fn block(&mut self, stream: u64, required: usize) -> Result<(), DecodingError>
         ensures { BlocksStream self.old self.new stream required result }
     {
@@ -407,7 +408,7 @@ impl ConnectionDecoder {
         Ok(())
     }
 
-    /// Hands on an error, which is kept if it ends the connection.
+    /// Returns the error, and keeps it if it ends the connection.
     fn refuse(&mut self, error: DecodingError) -> DecodingError
         ensures is { result ≡ error }
         ensures ends { self.new ≡ refused error self.old }
@@ -419,7 +420,7 @@ impl ConnectionDecoder {
     }
 }
 
-/// An empty table of capacity 0, with this maximum capacity.
+/// Returns an empty table of capacity 0, with this maximum capacity.
 fn new_table(alloc: Global, max_capacity: usize) -> Result<ReceivedTable, SettingsError>
     ensures ok { IfOk result (λ t. (max_capacity < 2 ^ 30) × (t ≡ empty_table 0 (Some max_capacity) 0)) }
     ensures err { IfErr result (λ e. (e ≡ CapacityTooLarge) × (2 ^ 30 ≤ max_capacity)) }

@@ -1,4 +1,4 @@
-//! The decoder stream as a strict encoder receives it: handed in once, cut anywhere (RFC 9204, section 4.4).
+//! The decoder stream as a strict encoder receives it: each byte once, cut anywhere (RFC 9204, section 4.4).
 
 ghost use Rattle.std.specs.Prelude.{◌≡◌, ℕ, [], ◌∷◌, ◌++◌, ◌<◌, ◌+◌, List, Ok, false, length, nat_lt};
 ghost use Rattle.qpack_spec.specs.Instruction.{DecoderInstruction, Acknowledgment, Increment};
@@ -42,14 +42,14 @@ pub enum HearingError {
 #[derive(Clone, Copy, Debug, PartialEq, Drop, Error)]
 #[error("in instruction {} at offset {}: {error}", .place.number, .place.offset)]
 pub struct DecoderStreamError {
-    /// Where the instruction stands that is refused.
+    /// Where the rejected instruction is.
     pub place: Place,
     /// Why.
     pub error: HearingError,
 }
 
 impl DecoderStreamError {
-    /// The code of the error that ends the connection (RFC 9204, section 6).
+    /// Returns the code of the error that ends the connection (RFC 9204, section 6).
     pub fn code(&self) -> u64
         ensures { result ≡ decoder_stream_error }
     {
@@ -57,8 +57,8 @@ impl DecoderStreamError {
     }
 }
 
-/// The decoder stream, as far as it was received: what waits of it, and no table, which each call is lent. It takes no
-/// memory.
+/// The received part of the decoder stream: the bytes that wait for the rest of their instruction. Each call borrows
+/// the table. It takes no memory.
 #[derive(Debug, Drop)]
 pub struct DecoderStream {
     /// The bytes that were received and not taken: of an instruction that is not whole.
@@ -79,7 +79,7 @@ impl Model for DecoderStream {
 }
 
 impl DecoderStream {
-    /// A stream of which nothing was received.
+    /// Returns a stream of which nothing was received.
     pub fn new() -> DecoderStream
         ensures { Receives [] [] result }
     {
@@ -89,7 +89,7 @@ impl DecoderStream {
         }
     }
 
-    /// How many bytes wait: those of an instruction that is not whole, which are nine at most.
+    /// Returns how many bytes wait: those of an instruction that is not whole, which are nine at most.
     pub fn waiting(&self) -> usize
         ensures exact { result ≡ length self.now.pending }
         ensures few { result < 10 }
@@ -97,15 +97,15 @@ impl DecoderStream {
         self.pending.as_slice().len()
     }
 
-    /// Receives the bytes that the cursor has left, which follow on the stream, and applies to the table, which may
-    /// have changed since the last call, each instruction that stands whole by now. An acknowledgment releases the
-    /// oldest unacknowledged section of its stream, and raises the known received count to what that required; a
+    /// Receives the bytes left at the cursor, which continue the stream, and applies each instruction that is now whole
+    /// to the table. The table may have changed since the last call. An acknowledgment releases the oldest
+    /// unacknowledged section of its stream, and raises the known received count to what that section required; a
     /// cancellation releases every section of its stream; an increment raises the count (RFC 9204, sections 2.1.4 and
-    /// 4.4). A rest that is not whole is kept.
+    /// 4.4). The bytes of an instruction that is not whole yet are kept.
     ///
-    /// Refused is an instruction whose integer is too large, an increment of 0 or past the insertions that were made,
-    /// and an acknowledgment of a stream that has no unacknowledged section. Then the table is as before that
-    /// instruction, and nothing waits; the error tells where it stands. The cursor is moved to its end in any case.
+    /// Fails if an integer is too large, if an increment is 0 or exceeds the insertions that were made, or if an
+    /// acknowledged stream has no unacknowledged section. The table is then as it was before that instruction, no bytes
+    /// wait, and the error has the place of the instruction. The cursor always moves to its end.
     pub fn receive(
         &mut self,
         table: &mut DynamicTable,
@@ -160,7 +160,7 @@ impl DecoderStream {
     }
 }
 
-/// Applies the instruction at the front of the bytes; answers whether one stands whole there.
+/// Applies the instruction at the front of the bytes. Returns whether there was a whole one.
 fn hear(table: &mut DynamicTable, bytes: &[u8]) -> Result<bool, HearingError>
     ensures hears { HearsNext table.old table.new bytes.now result }
     ensures short { result ≡ Ok false → length bytes.now < 10 }
@@ -206,7 +206,7 @@ fn raise(table: &mut DynamicTable, increment: usize) -> Result<(), HearingError>
     Ok(())
 }
 
-/// Whether an increment raises the known received count above the insertions that were made.
+/// Returns whether an increment raises the known received count above the insertions that were made.
 fn is_past_insertions(table: &DynamicTable, increment: usize) -> bool
     ensures { result ≡ nat_lt (insert_count table.now) (table.now.known_received_count + increment) }
 {
@@ -232,7 +232,7 @@ fn acknowledge(table: &mut DynamicTable, stream_id: u64) -> Result<(), HearingEr
     }
 }
 
-/// The known received count is at least this.
+/// Raises the known received count to at least this.
 fn raise_to(table: &mut DynamicTable, count: usize)
     ensures { table.new ≡ known_at_least count table.old }
 {

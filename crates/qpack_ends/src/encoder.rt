@@ -37,7 +37,7 @@ use std::alloc::{Allocator, Global};
 use std::marker::Model;
 use thiserror::Error;
 
-/// The capacity that `EncoderSettings::new` wants, in bytes.
+/// The capacity that `EncoderSettings::new` chooses, in bytes.
 pub const DEFAULT_CAPACITY: usize = 4_096;
 
 /// How many sections may wait for acknowledgments by `EncoderSettings::new`.
@@ -49,7 +49,7 @@ const MOST_BLOCKED: usize = 4_096;
 /// The least maximum capacity that is refused, in bytes.
 const CAPACITIES: usize = 1 << 30;
 
-/// What the peer sent as its settings (RFC 9204, section 5), and what this end wants of its table.
+/// The settings that the peer sent (RFC 9204, section 5), and this end's choices for its table.
 #[derive(Clone, Copy, Debug, PartialEq, Eq, Drop)]
 pub struct EncoderSettings {
     /// The peer's SETTINGS_QPACK_MAX_TABLE_CAPACITY, in bytes, below 2^30: the greatest capacity that may be set.
@@ -57,7 +57,8 @@ pub struct EncoderSettings {
     /// The peer's SETTINGS_QPACK_BLOCKED_STREAMS: how many streams may be blocked at once (RFC 9204, section 2.1.2). Of
     /// their sections, 4,096 at most may be blocked that are not known to be received, cancelled ones among them.
     pub max_blocked: usize,
-    /// The capacity that this end wants, in bytes; at most the maximum is taken (RFC 9204, section 3.2.3).
+    /// The table's capacity that this end asks for, in bytes; one above the maximum is lowered to it (RFC 9204, section
+    /// 3.2.3).
     pub capacity: usize,
     /// How many sections may wait for acknowledgments (RFC 9204, section 4.4.1) before sections are written without
     /// references.
@@ -65,8 +66,8 @@ pub struct EncoderSettings {
 }
 
 impl EncoderSettings {
-    /// What the peer sent, its maximum capacity in bytes and its limit of blocked streams; a capacity of 4,096 bytes is
-    /// wanted, and 100 sections may wait for acknowledgments.
+    /// Returns settings with the peer's maximum capacity in bytes and its limit of blocked streams, a capacity of 4,096
+    /// bytes, and at most 100 sections that wait for acknowledgments.
     pub fn new(max_capacity: usize, max_blocked: usize) -> EncoderSettings
         ensures { result ≡ record {
           max_capacity = max_capacity;
@@ -102,7 +103,7 @@ impl EncoderSettings {
         None
     }
 
-    /// The capacity that is to be told before the first section; none of 0, which a table has from the start.
+    /// Returns the capacity to announce before the first section; `None` for 0, which a table has from the start.
     fn first_capacity(&self) -> Option<usize>
         ensures { result ≡ first_capacity self.now }
     {
@@ -149,8 +150,8 @@ pub enum EncodingError {
 pub const SETTINGS_ERROR: u64 = 0x109;
 
 impl EncodingError {
-    /// The code of the error that ends the connection (RFC 9204, section 6, and RFC 9114, section 8.1). There is none if
-    /// the connection goes on.
+    /// Returns the code of the error that ends the connection (RFC 9204, section 6, and RFC 9114, section 8.1), or
+    /// `None` if the connection goes on.
     pub fn code(&self) -> Option<u64>
         ensures { result ≡ code_of self.now }
     {
@@ -167,7 +168,7 @@ impl EncodingError {
         }
     }
 
-    /// The error of a capacity that was not set.
+    /// Returns the error of a capacity that was not set.
     fn of_capacity(error: EncoderError) -> EncodingError
         ensures { result ≡ capacity_failure error }
     {
@@ -184,14 +185,14 @@ impl EncodingError {
 /// The encoding end of a connection.
 ///
 /// It takes the bytes of the decoder stream, and writes the encoder stream. An error that has a code ends the
-/// connection: from then on every call that could fail answers it again.
+/// connection: from then on every call that can fail returns that error.
 #[derive(Debug, Drop)]
 pub struct ConnectionEncoder {
     settings: EncoderSettings,
     table: EncoderTable,
     at_risk: StreamsAtRisk,
     chooser: Chooser,
-    /// The capacity that is to be told before the first section, in bytes.
+    /// The capacity to announce before the first section, in bytes.
     wanted: Option<usize>,
     stream: DecoderStream,
     /// The bytes of the encoder stream that are not sent.
@@ -226,12 +227,12 @@ impl Model for ConnectionEncoder {
 }
 
 impl ConnectionEncoder {
-    /// An encoding end for a peer that sent these settings. Its table has the capacity 0 until one is told, which is
-    /// done before the first section (RFC 9204, section 3.2.3). Takes no memory.
+    /// Returns an encoding end for a peer that sent these settings. Its table has capacity 0 until the first section,
+    /// before which it announces another (RFC 9204, section 3.2.3). Takes no memory.
     ///
-    /// Refused is a maximum capacity of 2^30 bytes or more (`CapacityTooLarge`): a lesser one in its place would change
-    /// how required insert counts are encoded, since those are of the maximum that the peer sent (section 4.5.1.1). An
-    /// end for such a peer is made with a maximum capacity of 0, and writes no reference.
+    /// Fails with `CapacityTooLarge` if the maximum capacity is 2^30 bytes or more. A smaller one in its place would
+    /// change how required insert counts are encoded, which depends on the maximum that the peer sent (section
+    /// 4.5.1.1). For such a peer create the end with a maximum capacity of 0; it writes no reference.
     pub fn new(alloc: Global, settings: EncoderSettings) -> Result<ConnectionEncoder, SettingsError>
         ensures ok { IfOk result (λ d. Starts settings d) }
         ensures err { IfErr result (λ e. (e ≡ CapacityTooLarge) × (2 ^ 30 ≤ settings.max_capacity)) }
@@ -249,43 +250,43 @@ impl ConnectionEncoder {
         })
     }
 
-    /// The settings, as they were given.
+    /// Returns the settings, as they were passed.
     pub fn settings(&self) -> EncoderSettings
         ensures { result ≡ self.now.settings }
     {
         self.settings
     }
 
-    /// The table.
+    /// Returns the table.
     pub fn table(&self) -> &DynamicTable
         ensures { result.now ≡ self.now.table }
     {
         &self.table.table
     }
 
-    /// The error that ended the connection, if one did.
+    /// Returns the error that ended the connection, if one did.
     pub fn failure(&self) -> Option<EncodingError>
         ensures { result ≡ self.now.failure }
     {
         self.failure
     }
 
-    /// How many sections wait for acknowledgments, of all streams (RFC 9204, section 4.4.1).
+    /// Returns how many sections wait for acknowledgments, of all streams (RFC 9204, section 4.4.1).
     pub fn unacknowledged(&self) -> usize
         ensures { result ≡ length self.now.table.unacknowledged }
     {
         self.table.table.unacknowledged_blocks()
     }
 
-    /// How many streams may be blocked: those with a section that is neither acknowledged nor cancelled, and requires
-    /// insertions which the peer is not known to have received (RFC 9204, section 2.1.2).
+    /// Returns how many streams may be blocked: those with a section that is neither acknowledged nor cancelled, and
+    /// requires insertions which the peer is not known to have received (RFC 9204, section 2.1.2).
     pub fn blocked(&self) -> usize
         ensures { result ≡ length (streams_at_risk self.now.table) }
     {
         self.at_risk.len()
     }
 
-    /// How many bytes of the decoder stream wait for those behind them, which are nine at most.
+    /// Returns how many bytes of the decoder stream wait for the rest of their instruction: at most nine.
     pub fn waiting(&self) -> usize
         ensures exact { result ≡ length self.now.stream.pending }
         ensures few { result < 10 }
@@ -293,14 +294,14 @@ impl ConnectionEncoder {
         self.stream.waiting()
     }
 
-    /// The bytes of the encoder stream that are to be sent, in order (RFC 9204, section 4.3).
+    /// Returns the bytes of the encoder stream that are to be sent, in order (RFC 9204, section 4.3).
     pub fn encoder_stream(&self) -> &[u8]
         ensures { result.now ≡ self.now.unsent }
     {
         self.unsent.as_slice()
     }
 
-    /// So many bytes of the encoder stream were sent, or all: they are dropped.
+    /// Drops this many bytes of the encoder stream, or all if there are fewer. Call this after they were sent.
     pub fn sent(&mut self, many: usize)
         ensures { self.new ≡ record self.old { unsent = drop many self.old.unsent } }
     {
@@ -345,14 +346,14 @@ impl ConnectionEncoder {
         Ok(())
     }
 
-    /// Sets the capacity of the table in bytes, and writes the instruction that tells it (RFC 9204, sections 3.2.3 and
-    /// 4.3.1). If the capacity of the settings was not told yet, this one is told in its place. What doesn't fit is
-    /// evicted, the oldest first (section 3.2.2). Where the maximum is 0 the table has the only capacity that there is,
-    /// and nothing is written (section 3.2.3).
+    /// Sets the capacity of the table in bytes, and writes the instruction that announces it (RFC 9204, sections 3.2.3
+    /// and 4.3.1). If the capacity of the settings was not announced yet, this one takes its place. Evicts entries that
+    /// no longer fit, the oldest first (section 3.2.2). If the maximum is 0, the only capacity is 0, and nothing is
+    /// written (section 3.2.3).
     ///
-    /// Refused are, in this order: every call behind an error that ended the connection, by that error; a capacity
-    /// above the maximum (`CapacityTooLarge`); one for which an entry that is not evictable would have to go
-    /// (`EntriesHeld`); and any other where memory is refused. On error nothing changes.
+    /// Fails, checking in this order, after an error that ended the connection, with that error; with
+    /// `CapacityTooLarge` if the capacity is above the maximum; with `EntriesHeld` if it would evict an entry that is
+    /// not evictable; and with `Memory` if memory runs out. On error nothing changes.
     pub fn set_capacity(&mut self, capacity: usize) -> Result<(), EncodingError>
         ensures { SetsCapacity self.old self.new capacity result }
     {
@@ -365,8 +366,9 @@ impl ConnectionEncoder {
         self.tell(capacity)
     }
 
-    /// Encodes a field section for a stream (RFC 9204, section 2.1): appends it to the vector, and what it inserts to
-    /// the encoder stream, and answers its required insert count, 0 if it references no entry.
+    /// Encodes a field section for a stream (RFC 9204, section 2.1). Appends the section to the vector and its
+    /// insertions to the encoder stream. Returns the section's required insert count, which is 0 if it references no
+    /// entry.
     ///
     /// A field that the static table has is one byte or two. Of the others, the table keeps those that come again: a
     /// new field is inserted while a quarter of the capacity is free, when it comes a second time, or for a name that
@@ -374,17 +376,18 @@ impl ConnectionEncoder {
     /// (section 2.1.1.1). Where no more sections may be blocked, a field is inserted without a reference (section
     /// 2.1.2). `AsField::wish` has the caller's word, which goes first: insert this field, or insert nothing for it.
     ///
-    /// A field that is never to be indexed is a literal that says so, by the name of a static field or of an entry. It
-    /// is neither inserted nor held against entries (section 7.1.3). Nothing is copied but what is inserted.
+    /// A field that is never to be indexed becomes a literal with that mark, by the name of a static field or of an
+    /// entry. It is neither inserted nor compared with the values of entries (section 7.1.3). Only inserted fields are
+    /// copied.
     ///
-    /// The first call tells the capacity of the settings, if none was told. While as many sections wait for
-    /// acknowledgments as may, a section is written without references, as `encode_section_stateless` does, and does
-    /// not wait.
+    /// The first call announces the capacity of the settings, if none was announced. Once the limit of sections that
+    /// wait for acknowledgments is reached, a section is written without references, as `encode_section_stateless`
+    /// does, and does not wait.
     ///
-    /// Refused are, in this order: every call behind an error that ended the connection, by that error; a number that
-    /// no stream has (`NoStream`); and any other where memory is refused. The vector is then as before; where memory
-    /// was refused, the capacity may have been told, and insertions that were made stand and are written: the call can
-    /// be made again. A section that the vector has room for does not grow it.
+    /// Fails, checking in this order, after an error that ended the connection, with that error; with `NoStream` if the
+    /// stream number is invalid; and with `Memory` if memory runs out. On error the vector is unchanged. After
+    /// `Memory`, the capacity may have been announced, and insertions that were made stay and are written; you can call
+    /// again. A section that fits the vector's capacity does not grow the vector.
     pub fn encode<A: Allocator, H: AsField>(
         &mut self,
         stream: u64,
@@ -396,8 +399,9 @@ impl ConnectionEncoder {
         // What the caller wishes of a field is done (section 2.1).
         ensures wishes { EncodesAsWished self.old self.new stream (map H.line fields.now) (map H.wish fields.now)
             section.old.items section.new.items result }
-        // Memory is refused only where a capacity is to be told, where there is a field, or where the two bytes of a section
-        // without fields do not fit the vector. Where as many sections wait as may, the section's own bytes do not fit it.
+        // Memory is refused only if a capacity is to be announced, if there is a field, or if the two bytes of a
+        // section without fields do not fit the vector. Once the limit of waiting sections is reached, only if the
+        // section's own bytes do not fit it.
         ensures memory { result ≡ Err Memory → AsksToEncode self.old (map H.line fields.now) section.old }
         ensures alone { result ≡ Err Memory → is_full (begun self.old) ≡ true
             → IsSome self.old.wanted ⊎ HasNoRoomAlone (map H.line fields.now) section.old }
@@ -440,8 +444,8 @@ impl ConnectionEncoder {
     /// cancellations release sections, acknowledgments and increments raise the known received count (section 2.1.4).
     /// It takes no memory.
     ///
-    /// An instruction that is refused ends the connection (`DecoderStream`); those before it stay applied. The cursor
-    /// is moved to its end; only behind an error that ended the connection it stays.
+    /// A rejected instruction ends the connection (`DecoderStream`); the instructions before it stay applied. The
+    /// cursor moves to its end, except after an error that ended the connection: then it does not move.
     pub fn receive(&mut self, buf: &mut Cursor) -> Result<(), EncodingError>
         ensures receives { self.old.failure ≡ None → (heard : List DecoderInstruction) (before : List ℕ)
             → Receives heard before self.old.stream
@@ -477,7 +481,7 @@ impl ConnectionEncoder {
         error
     }
 
-    /// Whether a call for a stream can be answered.
+    /// Returns the error of a call for a stream, if the connection ended or the stream number is invalid.
     fn check(&self, stream: u64) -> Result<(), EncodingError>
         ensures checks { Checks self.now stream result }
         ensures no_memory { result ≡ Err Memory → ⊥ }
@@ -491,23 +495,23 @@ impl ConnectionEncoder {
         Ok(())
     }
 
-    /// Whether as many sections wait for acknowledgments as may.
+    /// Returns whether as many sections wait for acknowledgments as may.
     fn is_full(&self) -> bool
         ensures { result ≡ is_full self.now }
     {
         self.table.table.unacknowledged_blocks() >= self.settings.most_unacknowledged
     }
 
-    /// Whether a section of a stream may require insertions that the peer is not known to have received: the stream may
-    /// be blocked already, or fewer may be than the peer lets be (RFC 9204, section 2.1.2).
+    /// Returns whether a section of a stream may require insertions that the peer is not known to have received: the
+    /// stream may be blocked already, or fewer streams may be blocked than the peer permits (RFC 9204, section 2.1.2).
     fn may_block(&self, stream: u64) -> bool
         ensures { result ≡ may_block self.now stream }
     {
         self.at_risk.len() < self.settings.max_blocked || self.at_risk.contains(stream)
     }
 
-    /// Tells the capacity that is wanted, if one is to be told before the first section. On error, which is for memory
-    /// alone, nothing changes.
+    /// Announces the capacity of the settings, if it is due before the first section. On error, which is `Memory` only,
+    /// nothing changes.
     fn begin(&mut self) -> Result<(), EncodingError>
         ensures { Begins self.old self.new result }
     {
@@ -517,7 +521,7 @@ impl ConnectionEncoder {
         }
     }
 
-    /// Sets the capacity of the table, and writes the instruction that tells it. On error nothing changes.
+    /// Sets the capacity of the table, and writes the instruction that announces it. On error nothing changes.
     fn tell(&mut self, capacity: usize) -> Result<(), EncodingError>
         ensures { TellsCapacity self.old self.new capacity result }
     {
@@ -531,8 +535,8 @@ impl ConnectionEncoder {
     }
 }
 
-/// Appends the section of no field, which is two bytes, and answers its required insert count, which is 0. On error the
-/// vector is as before. Memory is asked for only where the two bytes do not fit it.
+/// Appends the section without fields, which is two bytes. Returns its required insert count, which is 0. On error the
+/// vector is unchanged. Asks for memory only if the two bytes do not fit the vector's capacity.
 fn encode_nothing<A: Allocator>(section: &mut Vec<u8, A>) -> Result<usize, EncodingError>
     ensures ok { IfOk result (λ required. (required ≡ 0)
         × (section.new.items ≡ section.old.items ++ written_alone [])) }
@@ -548,8 +552,8 @@ fn encode_nothing<A: Allocator>(section: &mut Vec<u8, A>) -> Result<usize, Encod
     }
 }
 
-/// Appends the section of the fields that references no entry, and answers its required insert count, which is 0.
-/// On error, which is want of memory alone, the vector is as before.
+/// Appends the section of the fields without references. Returns its required insert count, which is 0. On error, which
+/// is `Memory` only, the vector is unchanged.
 fn encode_alone<A: Allocator, H: AsField>(
     fields: &[H],
     section: &mut Vec<u8, A>,
@@ -630,7 +634,7 @@ fn agree_on(table: &mut DynamicTable, maximum: usize)
     }
 }
 
-/// An empty table of capacity 0, with the maximum capacity of these settings.
+/// Returns an empty table of capacity 0, with the maximum capacity of these settings.
 fn new_table(alloc: Global, settings: EncoderSettings) -> Result<DynamicTable, SettingsError>
     ensures ok { IfOk result (λ t. (settings.max_capacity < 2 ^ 30)
         × (t ≡ empty_table 0 (Some settings.max_capacity) 4096)) }

@@ -1,4 +1,4 @@
-//! The encoder stream as a strict decoder receives it: handed in once, cut anywhere (RFC 9204, section 4.3).
+//! The encoder stream as a strict decoder receives it: each byte once, cut anywhere (RFC 9204, section 4.3).
 
 ghost use Rattle.std.specs.Prelude.{◌≡◌, ◌<◌, ◌≤◌, ℕ, [], List, length, Err, OnOk};
 ghost use Rattle.qpack_spec.specs.Form.{Truncates};
@@ -29,9 +29,9 @@ pub enum EncoderStreamError {
     /// The instruction at this place is refused.
     #[error("in instruction {} at offset {}: {error}", .place.number, .place.offset)]
     Refused {
-        /// Where the instruction stands on the stream.
+        /// Where the instruction is on the stream.
         place: Place,
-        /// Why; never want of memory.
+        /// Why; never out of memory.
         error: DecoderError,
     },
     /// No memory was left.
@@ -43,8 +43,8 @@ pub enum EncoderStreamError {
 pub const ENCODER_STREAM_ERROR: u64 = 0x201;
 
 impl EncoderStreamError {
-    /// The code of the error that ends the connection (RFC 9204, section 6); none of want of memory, which is the
-    /// receiver's own.
+    /// Returns the code of the error that ends the connection (RFC 9204, section 6), or `None` for out of memory, which
+    /// is the receiver's own.
     pub fn code(&self) -> Option<u64>
         ensures { result ≡ stream_code_of self.now }
     {
@@ -54,7 +54,7 @@ impl EncoderStreamError {
         }
     }
 
-    /// The error of the instruction at this place.
+    /// Returns the error of the instruction at this place.
     fn at(place: Place, error: DecoderError) -> EncoderStreamError
         ensures { result ≡ stream_error_at place error }
     {
@@ -65,10 +65,11 @@ impl EncoderStreamError {
     }
 }
 
-/// The encoder stream, as far as it was received: what waits of it, and no table, which each call is lent.
+/// The received part of the encoder stream: the bytes that wait for the rest of their instruction. Each call borrows
+/// the table.
 #[derive(Debug, Drop)]
 pub struct EncoderStream {
-    /// The bytes that were received and not taken: of an instruction that is not whole, or wants memory.
+    /// The bytes that were received and not applied: of an instruction that is not whole, or for which memory ran out.
     pending: Vec<u8>,
     /// How many bytes there must be before they are read again; 0 where they are read in any case.
     wanted: usize,
@@ -85,7 +86,7 @@ impl Model for EncoderStream {
 }
 
 impl EncoderStream {
-    /// A stream of which nothing was received. Takes no memory.
+    /// Returns a stream of which nothing was received. Takes no memory.
     pub fn new(alloc: Global) -> EncoderStream
         ensures { (table : Table) → Receives table table [] result }
     {
@@ -96,24 +97,25 @@ impl EncoderStream {
         }
     }
 
-    /// How many bytes wait: those of an instruction that is not whole, and where memory was refused one after it for each
-    /// call.
+    /// Returns how many bytes wait: those of an instruction that is not whole, and, after memory was refused, one more
+    /// for each call.
     pub fn waiting(&self) -> usize
         ensures { result ≡ length self.now.pending }
     {
         self.pending.len()
     }
 
-    /// Receives the bytes that the cursor has left, which follow on the stream, and applies each instruction that
-    /// stands whole by now. They are read where they are; only a rest that is not whole is kept: fewer than four bytes
-    /// for each byte of the capacity, and ten more.
+    /// Receives the bytes left at the cursor, which continue the stream, and applies each instruction that is now
+    /// whole. It reads them in place. It keeps only the bytes of an instruction that is not whole: fewer than four
+    /// bytes for each byte of the capacity, plus ten.
     ///
-    /// Refused is an instruction whose bytes are (`InvalidInteger`, `InvalidString`), that names nothing
-    /// (`InvalidStaticIndex`, `DynamicTable`), or that the table refuses (`DynamicTable`), where also an insertion at
-    /// capacity 0 is refused, by its first byte, and a truncated one once its field can't fit. The error tells its
-    /// place on the stream, the same however it is cut. Then the table is as before that instruction, and what waits is
-    /// unspecified. Where memory is refused, those before the instruction stay applied, and the cursor is moved past the
-    /// bytes that were taken in. Then what the cursor has left is offered again, even if that is nothing.
+    /// Rejects an instruction with malformed bytes (`InvalidInteger`, `InvalidString`), one with an index that has no
+    /// entry (`InvalidStaticIndex`, `DynamicTable`), and one that the table rejects (`DynamicTable`). At capacity 0 it
+    /// rejects an insertion by its first byte, and it rejects a truncated one as soon as its field can't fit. The error
+    /// has the place on the stream, which does not depend on how the stream is cut. The table is then as it was before
+    /// that instruction, and the kept bytes are unspecified. If memory runs out, the instructions before it stay
+    /// applied, and the cursor is past the bytes that were consumed. Then call again with the bytes left at the cursor,
+    /// even if there are none.
     pub fn receive<I: EntryIndex>(
         &mut self,
         table: &mut DynamicTable<I>,
@@ -132,7 +134,7 @@ impl EncoderStream {
         }
     }
 
-    /// The same; the instruction that is refused is the first one that was not taken.
+    /// Receives the bytes as `receive` does. A rejected instruction is the first one that was not applied.
     fn receive_bytes<I: EntryIndex>(
         &mut self,
         table: &mut DynamicTable<I>,
@@ -154,7 +156,7 @@ impl EncoderStream {
         self.receive_rest(table, buf)
     }
 
-    /// Takes in as many bytes as the instruction that waits is known to want, or one, and applies what is whole then.
+    /// Consumes as many bytes as the waiting instruction is known to need, or one, and applies it if it is whole then.
     fn receive_front<I: EntryIndex>(
         &mut self,
         table: &mut DynamicTable<I>,
@@ -205,8 +207,8 @@ impl EncoderStream {
     }
 }
 
-/// Takes all instructions that stand whole at the front of the bytes, from this place, and drops their bytes. At the
-/// first one that is refused it ends, with its place; for memory, its bytes are kept.
+/// Applies all whole instructions at the front of the bytes, from this place on, and drops their bytes. Stops at the
+/// first one that is rejected, with its place; if memory runs out, its bytes are kept.
 fn take_whole<I: EntryIndex>(
     table: &mut DynamicTable<I>,
     place: &mut Place,
@@ -221,8 +223,8 @@ fn take_whole<I: EntryIndex>(
     taken
 }
 
-/// Takes all instructions that stand whole at the cursor, from this place, and moves past them. At the first one that
-/// is refused it ends, with its place; for memory, the cursor stays before that.
+/// Applies all whole instructions at the cursor, from this place on, and moves past them. Stops at the first one that
+/// is rejected, with its place; if memory runs out, the cursor stays before it.
 fn take_all_strictly<I: EntryIndex>(
     table: &mut DynamicTable<I>,
     place: &mut Place,
@@ -235,7 +237,8 @@ fn take_all_strictly<I: EntryIndex>(
     Ok(())
 }
 
-/// Takes the instruction at the cursor, and moves the cursor and the place past it; answers whether one stood whole.
+/// Applies the instruction at the cursor, and moves the cursor and the place past it. Returns whether there was a whole
+/// one.
 fn take_and_pass<I: EntryIndex>(
     table: &mut DynamicTable<I>,
     place: &mut Place,
@@ -253,8 +256,8 @@ fn take_and_pass<I: EntryIndex>(
     Ok(true)
 }
 
-/// Takes the instruction at the cursor and moves past it; answers whether one stood whole. At capacity 0 an insertion
-/// is refused by its first byte.
+/// Applies the instruction at the cursor, and moves past it. Returns whether there was a whole one. At capacity 0 it
+/// rejects an insertion by its first byte.
 fn take_strictly<I: EntryIndex>(
     table: &mut DynamicTable<I>,
     buf: &mut Cursor,
@@ -268,7 +271,7 @@ fn take_strictly<I: EntryIndex>(
     take_instruction(table, buf)
 }
 
-/// Whether the bytes begin an insertion at capacity 0 (RFC 9204, section 3.2.2).
+/// Returns whether the bytes begin an insertion at capacity 0 (RFC 9204, section 3.2.2).
 fn begins_unlawfully<I: EntryIndex>(table: &DynamicTable<I>, bytes: &[u8]) -> bool
     ensures { result ≡ begins_unlawfully table.now bytes.now }
 {
@@ -278,8 +281,8 @@ fn begins_unlawfully<I: EntryIndex>(table: &DynamicTable<I>, bytes: &[u8]) -> bo
     }
 }
 
-/// How many bytes there must be before an instruction can stand there that is truncated yet. Refused if its field can't
-/// fit.
+/// Returns how many bytes there must be before the truncated instruction at their front can be whole. Fails if its
+/// field can't fit.
 fn find_wanted<I: EntryIndex>(
     table: &DynamicTable<I>,
     pending: &[u8],
@@ -293,7 +296,7 @@ fn find_wanted<I: EntryIndex>(
     Ok(stream::wanted(pending))
 }
 
-/// The error that a field does not fit.
+/// Returns the error that a field does not fit.
 fn does_not_fit() -> DecoderError
     ensures { result ≡ DynamicTableError MaxTableSizeReached }
 {

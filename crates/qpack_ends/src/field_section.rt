@@ -20,7 +20,7 @@ use qpack_table::dynamic::EntryIndex;
 use std::alloc::Global;
 use std::marker::Model;
 
-/// Where a field stands in a text, in bytes from its start, and how its line was spelled.
+/// Where a field is in a text, in bytes from its start, and how its line was spelled.
 #[derive(Clone, Copy, Debug, Drop)]
 pub(crate) struct Span {
     /// Where the name begins.
@@ -33,7 +33,7 @@ pub(crate) struct Span {
     pub(crate) never_indexed: bool,
 }
 
-/// The field of a span.
+/// Returns the field of a span.
 fn field_at<'a>(text: &'a [u8], span: &Span) -> FieldLine<'a>
     requires { IsWithin (length text.now) span.now }
     ensures { line_of result ≡ field_of_span text.now span.now }
@@ -45,10 +45,10 @@ fn field_at<'a>(text: &'a [u8], span: &Span) -> FieldLine<'a>
     }
 }
 
-/// The fields of a section: names and values one after the other in one text, which holds nothing else. Its memory is
-/// kept from section to section. Reading under a limit of n bytes makes room for at most n bytes of text, and for n / 32
-/// fields of 32 bytes each: both together take at most 2n bytes. Only `expect` or a greater limit makes room for more,
-/// and that is given back when a section is refused.
+/// The fields of a section: names and values one after the other in one text, which holds nothing else. It keeps its
+/// memory from section to section. Reading under a limit of n bytes makes room for at most n bytes of text, and for n /
+/// 32 fields of 32 bytes each: both together take at most 2n bytes. Only `expect` or a greater limit makes room for
+/// more, which is given back when a section is rejected.
 #[derive(Debug, Drop)]
 pub struct FieldSection {
     text: Vec<u8>,
@@ -71,7 +71,7 @@ impl Model for FieldSection {
 }
 
 impl FieldSection {
-    /// A section without fields. Takes no memory.
+    /// Returns a section without fields. Takes no memory.
     pub fn new(alloc: Global) -> FieldSection
         ensures { result ≡ record { fields = []; text_room = 0; fields_room = 0 } }
     {
@@ -81,28 +81,28 @@ impl FieldSection {
         }
     }
 
-    /// How many fields there are.
+    /// Returns how many fields there are.
     pub fn len(&self) -> usize
         ensures { result ≡ length self.now.fields }
     {
         self.spans.len()
     }
 
-    /// Whether there is no field.
+    /// Returns whether there is no field.
     pub fn is_empty(&self) -> bool
         ensures { result ≡ nat_eq (length self.now.fields) 0 }
     {
         self.spans.is_empty()
     }
 
-    /// The field at an index, from 0.
+    /// Returns the field at an index, from 0.
     pub fn get(&self, index: usize) -> Option<FieldLine<'_>>
         ensures { option_map line_of result ≡ slice_get self.now.fields index }
     {
         self.iter().at(index)
     }
 
-    /// The fields, in the order of their lines.
+    /// Returns the fields, in the order of their lines.
     #[tactic(auto, using(crate::proofs::SpansInTurn::all_within))]
     pub fn iter(&self) -> Fields<'_>
         ensures { result ≡ self.now.fields }
@@ -113,8 +113,8 @@ impl FieldSection {
         }
     }
 
-    /// Makes room for this many fields, and for this many bytes of their names and values, as far as there is memory.
-    /// It changes how often memory is asked for later, and nothing else.
+    /// Makes room for this many fields, and for this many bytes of their names and values, as far as memory permits.
+    /// This affects only how often later calls ask for memory.
     pub fn expect(&mut self, fields: usize, bytes: usize)
         ensures same { self.new.fields ≡ self.old.fields }
         ensures room { GrowsTo bytes fields self.old self.new }
@@ -186,7 +186,7 @@ impl<'a> Model for Fields<'a> {
 }
 
 impl<'a> Fields<'a> {
-    /// The field at an index of those that are still to come, from 0.
+    /// Returns the field at an index of those that are still to come, from 0.
     fn at(&self, index: usize) -> Option<FieldLine<'a>>
         ensures { option_map line_of result ≡ slice_get self.now index }
     {

@@ -1,9 +1,9 @@
-//! Where an instruction stands on its stream.
+//! Where an instruction is on its stream.
 
 ghost use Rattle.std.specs.Prelude.{◌≡◌, ◌+◌, ◌-◌, ◌^◌, min};
 ghost use Rattle.qpack_ends.specs.Places.{first_place, passed};
 
-/// Where an instruction stands on its stream. Both numbers are held at the greatest one.
+/// Where an instruction is on its stream. Both numbers saturate.
 #[derive(Clone, Copy, Debug, PartialEq, Eq, Drop)]
 pub struct Place {
     /// The instruction's number, from 1.
@@ -13,7 +13,7 @@ pub struct Place {
 }
 
 impl Place {
-    /// The first instruction's place.
+    /// Returns the first instruction's place.
     pub fn first() -> Place
         ensures { result ≡ first_place }
     {
@@ -23,7 +23,7 @@ impl Place {
         }
     }
 
-    /// The place behind an instruction of so many bytes.
+    /// Returns the place after an instruction of this many bytes.
     pub fn pass(self, len: usize) -> Place
         ensures { result ≡ passed self 1 len }
     {

@@ -27,7 +27,7 @@ pub(crate) use crate::section::lines::{Lines, read_lines};
 /// What a section gives.
 #[derive(Clone, Copy, Debug, PartialEq, Eq)]
 pub enum Reading {
-    /// Its fields, which stand in the field section.
+    /// The fields, which are in the field section.
     Fields {
         /// The required insert count of the section, 0 if it references no entry.
         required: usize,
@@ -88,8 +88,8 @@ pub enum SectionError {
 pub const DECOMPRESSION_FAILED: u64 = 0x200;
 
 impl SectionError {
-    /// The code of the error that ends the connection (RFC 9204, section 6); none of what is the reader's own: its
-    /// limit, and want of memory.
+    /// Returns the code of the error that ends the connection (RFC 9204, section 6), or `None` for the reader's own
+    /// errors: its limit, and out of memory.
     pub fn code(&self) -> Option<u64>
         ensures { result ≡ code_of self.now }
     {
@@ -102,8 +102,8 @@ impl SectionError {
 }
 
 impl LineError {
-    /// The code of the error that ends the connection (RFC 9204, section 6); none of what is the reader's own: its
-    /// limit, and want of memory.
+    /// Returns the code of the error that ends the connection (RFC 9204, section 6), or `None` for the reader's own
+    /// errors: its limit, and out of memory.
     pub fn code(&self) -> Option<u64>
         ensures { result ≡ line_code_of self.now }
     {
@@ -128,7 +128,7 @@ impl From<DecoderError> for LineError {
 impl From<ParseError> for SectionError {
     ghost from_gives = { λ e r. r ≡ section_error_of e };
 
-    /// The error of a prefix.
+    /// Returns the error of a prefix.
     fn from(e: ParseError) -> SectionError {
         match DecoderError::from(e) {
             DecoderError::Memory => SectionError::Memory,
@@ -137,7 +137,7 @@ impl From<ParseError> for SectionError {
     }
 }
 
-/// The most bytes that a section can have whose fields' sizes sum to this many, at most 2^64 - 1.
+/// Returns the most bytes that a section can have whose fields' sizes sum to this many, at most 2^64 - 1.
 pub fn longest_section(size: u64) -> u64
     ensures { result ≡ min (longest size) (2 ^ 64 - 1) }
 {
@@ -145,8 +145,8 @@ pub fn longest_section(size: u64) -> u64
 }
 
 /// Reads a section under a table, strictly, and up to a limit on the sum of its fields' sizes in bytes (RFC 9204,
-/// section 3.2.1). What stood in the field section is dropped first, and where no fields are answered it is empty.
-/// Nothing that passes the limit is appended to it: under a limit of n bytes its memory grows to no more than 2n bytes.
+/// section 3.2.1). It first empties the field section, which stays empty unless `Reading::Fields` is returned. It
+/// appends nothing that exceeds the limit: under a limit of n bytes the field section grows to at most 2n bytes.
 ///
 /// Refused are, in this order: a section longer than any within the limit, unread (`TooLong`); bytes that are no prefix
 /// (`Prefix`); a count where the maximum capacity is 0 (`CountAtZero`); a prefix that is out of range, or a base below
@@ -160,7 +160,7 @@ pub fn read_section<I: EntryIndex>(
     fields: &mut FieldSection,
 ) -> Result<Reading, SectionError>
     ensures exact { ReadsSection result fields.new.fields (strict_reading (window table.now) limit section.now) }
-    // Memory is refused only behind a prefix, and there only behind a line or a string whose payload is not empty.
+    // Memory is refused only if a prefix is followed by a whole line, or by a string whose payload is not empty.
     ensures memory { result ≡ Err Memory → AsksSectionForMemory section.now }
     ensures room { IsRoomWithin limit fields.old fields.new }
     // Memory is given back only where a section is refused, and only what one within the limit can't use.
@@ -174,7 +174,7 @@ pub fn read_section<I: EntryIndex>(
     reading
 }
 
-/// The same into a field section without fields; refused, those that were read may stand in it.
+/// Reads as `read_section` does, into a field section without fields. On error it may have the fields read so far.
 #[tactic(auto, unfolding(qpack_spec::specs::StrictReading::strict_reading))]
 fn read_into<I: EntryIndex>(
     table: &DynamicTable<I>,
@@ -195,7 +195,7 @@ fn read_into<I: EntryIndex>(
     read_behind(table, prefix, limit, &mut buf, fields)
 }
 
-/// Reads the lines behind the prefix, if it can be read so.
+/// Reads the lines after the prefix, if the prefix permits it.
 fn read_behind<I: EntryIndex>(
     table: &DynamicTable<I>,
     prefix: HeaderPrefix,
@@ -228,7 +228,7 @@ fn read_behind<I: EntryIndex>(
     Ok(Reading::Fields { required })
 }
 
-/// Whether a prefix has a count where the maximum capacity is 0 (RFC 9204, section 4.5.1.1).
+/// Returns whether a prefix has a count where the maximum capacity is 0 (RFC 9204, section 4.5.1.1).
 fn counts_at_zero(prefix: &HeaderPrefix, maximum: usize) -> bool
     ensures { result ≡ (nat_eq maximum 0 && nat_lt 0 (prefix_of prefix.now).count) }
 {

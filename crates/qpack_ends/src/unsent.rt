@@ -51,7 +51,7 @@ impl Model for Unsent {
 }
 
 impl Unsent {
-    /// No bytes. Takes no memory.
+    /// Returns an empty list of bytes. Takes no memory.
     pub(crate) fn new(alloc: Global) -> Unsent
         ensures { result ≡ record { bytes = []; front = 0; capacity = 0 } }
     {
@@ -61,7 +61,7 @@ impl Unsent {
         }
     }
 
-    /// The bytes that are to be sent, in order.
+    /// Returns the bytes that are to be sent, in order.
     pub(crate) fn as_slice(&self) -> &[u8]
         ensures { result.now ≡ self.now.bytes }
     {
@@ -117,8 +117,8 @@ impl Unsent {
         write_increments(insertions, &mut self.bytes)
     }
 
-    /// Sets the capacity of the table, and appends the instruction that tells it. On error the bytes are as before. With
-    /// room for eleven bytes, which no number exceeds, it asks for no memory.
+    /// Sets the capacity of the table, and appends the instruction that announces it. On error the bytes are unchanged.
+    /// With room for eleven bytes, the longest instruction, it asks for no memory.
     pub(crate) fn set_capacity(
         &mut self,
         table: &mut DynamicTable,

@@ -1,5 +1,4 @@
--- What holds of a session of values at every moment, whatever its steps were (RFC 9204, section 2). No contract names
--- it.
+-- What holds of a session of values at every moment, after any steps (RFC 9204, section 2). No contract refers to it.
 use Rattle.std.specs.Prelude.{ℕ, ◌<◌, ◌≤◌, ◌≡◌, false, nat_lt, List, ◌∷◌, length, Some, slice_get, IsOk}
 use Rattle.qpack_spec.specs.Field.{total_size}
 use Rattle.qpack_spec.specs.Instruction.{EncoderInstruction, DecoderInstruction}
@@ -10,12 +9,12 @@ use Rattle.qpack_spec.specs.Table.{fields_in, window, apply_decoder_instruction}
 use Rattle.qpack_spec.specs.Session.{stream_at}
 use Rattle.qpack_safety.specs.AbstractSession.{AbstractBlock, required_count, AbstractSession}
 
--- what the decoder answers for a block
+-- what the decoder returns for a block
 pub record DecodesExactly (w : AbstractSession) (b : AbstractBlock) : Type 0 where
-  -- while it requires more insertions than were received, it waits, and tells how many it requires
+  -- while it requires more insertions than were received, it waits, and returns how many it requires
   pub missing : window_insert_count w.decoder < required_count b → reading w.decoder b.block
       ≡ Missing (required_count b)
-  -- after that it is read as exactly the fields that were handed to the encoder
+  -- after that it is read as exactly the fields that were passed to the encoder
   pub exact : required_count b ≤ window_insert_count w.decoder
       → reading w.decoder b.block ≡ Fields b.fields (nat_lt 0 (required_count b))
   -- it waits no longer than until the instructions that were written by its end are taken

@@ -17,7 +17,7 @@ use Rattle.qpack_spec.specs.Session.{is_read, sum_of}
 use Rattle.qpack_spec.specs.Session.{increments}
 
 -- a block that was written: the entries that it references, how many instructions were written by its end, and the
--- fields that were handed to the encoder
+-- fields that were passed to the encoder
 pub record AbstractBlock : Type 0 where
   pub block : Block
   pub referenced : List ℕ
@@ -47,11 +47,12 @@ pub record AbstractSession : Type 0 where
   pub decoder_in_flight : List DecoderInstruction
   pub streams : List (ℕ × AbstractStream)
 
--- the small steps: the encoder writes a block; it is refused memory behind some fields of a block; it sets a capacity;
--- the decoder takes an instruction; it reports its insertions, in pieces; the encoder takes a decoder instruction; the
--- decoder decodes the next block of a stream; it acknowledges one; it cancels a stream. And what only the ends of a
--- connection do: the encoder writes a block of fields some of which are marked, under any choices, or runs out of memory
--- after some of them, or writes a block that references no entry; the decoder gives up a stream and tells nothing
+-- the small steps: the encoder writes a block; it is refused memory after some fields of a block; it sets a capacity;
+-- the decoder applies an instruction; it reports its insertions, in pieces; the encoder applies a decoder instruction;
+-- the decoder decodes the next block of a stream; it acknowledges one; it cancels a stream. And what only the ends of a
+-- connection do: the encoder writes a block of fields some of which are marked, under any choices, or runs out of
+-- memory after some of them, or writes a block that references no entry; the decoder gives up a stream and reports
+-- nothing
 pub data SmallStep : Type 0 where
   Encode : (stream : ℕ) (fields : List Field) → SmallStep
   Abandon : (fields : List Field) → SmallStep
@@ -115,7 +116,7 @@ after_alone w s ls =
       });
     }
 
--- the session after a block was given up: its insertions stand, what it referenced is referenced no more
+-- the session after a block was given up: its insertions stay, what it referenced is referenced no more
 abbrev pub after_abandon : AbstractSession → Draft → AbstractSession
 after_abandon w d = record w { encoder = without_references d.table; in_flight = w.in_flight ++ d.instructions }
 

@@ -33,7 +33,7 @@ pub record IsBlockOf (fields : List FieldLine) (b : AbstractBlock) : Type 0 wher
   pub literals : AreLiteralsWhereMarked fields b.block.lines
   pub bytes : AllByRecursion IsByteField (fields_of_lines fields) → AllByRecursion IsByteLine b.block.lines
 
--- each block of each stream is of the fields that were handed to it, in order
+-- each block of each stream is of the fields that were passed to it, in order
 abbrev pub BlocksAreOfWhatWasHanded : Type 0
 BlocksAreOfWhatWasHanded =
     (capacity maximum limit : ℕ) → capacity ≤ maximum → (steps : List EndStep) (s : ℕ)
@@ -45,7 +45,7 @@ abbrev pub section_of : List FieldLine → AbstractBlock → List ℕ
 section_of fields b = written_marked_block fields b.block
 
 -- a strict decoder reads its bytes to exactly its fields with their marks, once the insertions are received that it
--- requires; until then they are blocked, and it is told how many are required (section 2.2.1)
+-- requires; until then they are blocked, and it returns how many are required (section 2.2.1)
 pub record IsReadStrictly (w : Window) (size : ℕ) (fields : List FieldLine) (b : AbstractBlock) : Type 0 where
   pub blocked : window_insert_count w < required_count b
       → strict_reading w size (section_of fields b) ≡ Blocked (required_count b)
@@ -58,7 +58,7 @@ IsOverLimit (Refused TooLong) = Unit {0}
 IsOverLimit (Refused (InLine number offset (TooLarge sum))) = Unit {0}
 IsOverLimit read = ⊥
 
--- the next section of a stream that isn't cancelled, and the fields that were handed to it
+-- the next section of a stream that isn't cancelled, and the fields that were passed to it
 pub record IsNext (steps : List EndStep) (w : AbstractSession) (s : ℕ) (fields : List FieldLine) (b : AbstractBlock) :
     Type 0 where
   pub live : (stream_at w.streams s).cancelled ≡ false

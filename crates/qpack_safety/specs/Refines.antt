@@ -16,7 +16,7 @@ Agrees P [] (y ∷ ys) = ⊥
 Agrees P (x ∷ xs) [] = ⊥
 Agrees P (x ∷ xs) (y ∷ ys) = P x y × Agrees P xs ys
 
--- so many first instructions end at a position of the bytes sent
+-- this many first instructions end at a position of the bytes sent
 pub record EndsAt (encoder_stream : List ℕ) (instructions : List EncoderInstruction) (position many : ℕ) : Type 0 where
   pub front : List ℕ
   pub rest : List ℕ
@@ -38,7 +38,7 @@ pub record RefinesBlock (encoder_stream : List ℕ) (instructions : List Encoder
     pub handed_are : k.fields ≡ b.fields
     pub ends : EndsAt encoder_stream instructions k.end b.end
 
--- a stream's blocks are those, and it stands where that one does
+-- a stream's blocks are those, as many of them are decoded and acknowledged, and it is cancelled if that one is
 pub record RefinesStream (encoder_stream : List ℕ) (instructions : List EncoderInstruction) (k : KeptStream)
     (st : AbstractStream) :
     Type 0 where

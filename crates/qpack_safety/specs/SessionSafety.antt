@@ -1,6 +1,6 @@
--- The session theorem, in four parts (RFC 9204, section 2): what holds of every session in bytes at every moment,
--- behind any events with their answers, and of whatever event comes next. An event that is refused memory is an event
--- like the others.
+-- The session theorem, in four parts (RFC 9204, section 2): what holds of every session in bytes at every moment, after
+-- any events with their outcomes, and of any event that comes next. An event that is refused memory is an event like
+-- the others.
 use Rattle.std.specs.Prelude.{◌≡◌, ℕ, ◌+◌, ◌<◌, ◌≤◌, ◌⊎◌, Bool, false, nat_lt, List, [], ◌∷◌}
 use Rattle.std.specs.Prelude.{◌++◌, length, map, Some, Ok, slice_get}
 use Rattle.qpack_spec.specs.Field.{Field, total_size}
@@ -22,7 +22,7 @@ use Rattle.qpack_safety.specs.Headline.{AnsweredEncode, encodes_on, decodes_on, 
 
 -- ---- (a) the run
 
--- what an encode that answered a required insert count did: the block that it kept is the written block of the rule, it
+-- what an encode that returned a required insert count did: the block that it kept is the written block of the rule, it
 -- requires that count, which is the greatest index that its lines reference, and it ends where the encoder stream does,
 -- which gained exactly the written instructions of the rule; the block is unacknowledged with what its lines reference
 pub record WritesBlock (v : Session) (s : ℕ) (fields : List Field) (required : ℕ) (v' : Session) : Type 0 where
@@ -83,14 +83,13 @@ pub record Advances (v v' : Session) : Type 0 where
 
 -- (a) The outcomes and the state are a run of the session. Each block and the encoder stream are the rule's. Both
 -- tables are those that the instructions make of an empty one, and within their capacity of the moment (section 3.2.2),
--- which never exceeds the maximum capacity agreed on (section 3.2.3).
--- No more blocks are blocked than may be (section 2.1.2): of those kept the ones that require more than the encoder
--- knows to be received. It is their number that the encoder holds against its limit, and no more are unreadable at the
--- decoder, which received what is known to be received.
+-- which never exceeds the maximum capacity agreed on (section 3.2.3). No more blocks are blocked than may be (section
+-- 2.1.2): of those kept the ones that require more than the encoder knows to be received. The encoder compares their
+-- number with its limit, and no more are unreadable at the decoder, which received what is known to be received.
 pub record RunsByTheRule (capacity maximum limit : ℕ) (events : List (Event × Outcome)) (v : Session) : Type 0 where
-  -- the events with their answers lead here
+  -- the events with their outcomes lead here
   pub run : Run (initial_session capacity maximum limit) events v
-  -- what an encode answers next is its block's required insert count, and what it writes is the rule's
+  -- what an encode returns next is its block's required insert count, and what it writes is the rule's
   pub writes : (s : ℕ) (fields : List Field) (required : ℕ) (v' : Session)
       → Step v (Encode s fields) (Encoded required) v'
       → WritesBlock v s fields required v'
@@ -115,8 +114,9 @@ pub record RunsByTheRule (capacity maximum limit : ℕ) (events : List (Event ×
 
 -- ---- (b) no refusal
 
--- (b) No instruction is refused but for memory: whatever happens next, no event is answered by a refusal of a stream. A
--- delivery to the decoder answers how many insertions were received, or is refused memory; one to the encoder is heard.
+-- (b) No instruction is refused except for memory: whatever happens next, no event has a refusal of a stream as its
+-- outcome. A delivery to the decoder returns how many insertions were received, or is refused memory; one to the
+-- encoder is heard.
 pub record RefusesNothing (v : Session) : Type 0 where
   pub no_refusal : (e : Event) (fault : StreamFault) (v' : Session) → Step v e (Refused fault) v' → ⊥
   pub delivers : (n : ℕ) (o : Outcome) (v' : Session) → Step v (ToDecoder n) o v'
@@ -125,8 +125,8 @@ pub record RefusesNothing (v : Session) : Type 0 where
 
 -- ---- (c) the fields
 
--- an answer with fields: those that were handed to the encode that wrote the stream's next block, the sum of their
--- sizes, held at 2^64 - 1, and whether any entry is required
+-- an outcome with fields: those that were passed to the encode that wrote the stream's next block, the sum of their
+-- sizes, which saturates at 2^64 - 1, and whether any entry is required
 pub record AnswersFields (events : List (Event × Outcome)) (s : ℕ) (fields : List Field) (size : ℕ)
     (is_dynamic : Bool) : Type 0 where
   pub encode : AnsweredEncode
@@ -135,19 +135,19 @@ pub record AnswersFields (events : List (Event × Outcome)) (s : ℕ) (fields : 
   pub size_is : size ≡ saturated_size (total_size encode.fields)
   pub dynamic_is : is_dynamic ≡ nat_lt 0 encode.required
 
--- what was handed to the encode that wrote a block, and what it answered
+-- what was passed to the encode that wrote a block, and what it returned
 abbrev pub encode_behind : KeptBlock → AnsweredEncode
 encode_behind b = record { fields = b.fields; required = b.required }
 
--- (c) A decode that answers fields answers exactly the fields that were handed to the encode that wrote its block, in
--- order, with the sum of their sizes, and whether any entry is required. So are the bytes of the next block read under
--- the decoder's table, once it received what the block requires; and so do the lines of every block mean them over all
+-- (c) A decode that returns fields returns exactly the fields that were passed to the encode that wrote its block, in
+-- order, with the sum of their sizes, and whether any entry is required. The bytes of the next block are read so under
+-- the decoder's table, once it received what the block requires. The lines of every block mean these fields over all
 -- insertions ever made, those of the bytes sent.
 pub record DecodesWhatWasHanded (capacity maximum : ℕ) (events : List (Event × Outcome)) (v : Session) : Type 0 where
   pub answers : (s : ℕ) (fields : List Field) (size : ℕ) (is_dynamic : Bool) (v' : Session)
       → Step v (Decode s) (Decoded fields size is_dynamic) v'
       → AnswersFields events s fields size is_dynamic
-  -- the blocks of a stream are those of its encodes, and as many are decoded as decodes answered fields
+  -- the blocks of a stream are those of its encodes, and as many are decoded as decodes returned fields
   pub blocks_are : (s : ℕ) → map (λ b. encode_behind b) (stream_at v.streams s).blocks ≡ encodes_on s events
   pub decoded_are : (s : ℕ) → (stream_at v.streams s).decoded ≡ decodes_on s events
   -- the bytes of the next block, and the lines of every block
@@ -160,10 +160,10 @@ pub record DecodesWhatWasHanded (capacity maximum : ℕ) (events : List (Event �
       → (s position : ℕ) (b : KeptBlock) → slice_get (stream_at v.streams s).blocks position ≡ Some b
       → meaning_over_all all b.bytes b.required ≡ Ok b.fields
 
--- ---- (d) the other answers
+-- ---- (d) the other outcomes
 
--- what a decode answers: it is skipped, as its event is outside a lawful session; it wants memory; it answers fields;
--- or that its block's required insert count is missing, which exceeds the insertions received
+-- what a decode returns: it is skipped, as its event is outside a lawful session; out of memory; fields; or that its
+-- block's required insert count is missing, which exceeds the insertions received
 pub data DecodeAnswer (events : List (Event × Outcome)) (v : Session) (s : ℕ) (o : Outcome) : Type 0 where
   is_skipped : (reason : ℕ) → skip_reason v (Decode s) ≡ Some reason → o ≡ Skipped reason → DecodeAnswer events v s o
   wants_memory : o ≡ NoMemory → DecodeAnswer events v s o
@@ -172,17 +172,17 @@ pub data DecodeAnswer (events : List (Event × Outcome)) (v : Session) (s : ℕ)
   waits_for : (encode : AnsweredEncode) → next_encode s events ≡ Some encode → insert_count v.decoder < encode.required
       → o ≡ MissingReferences encode.required → DecodeAnswer events v s o
 
--- (d) The only other answers of a decode are want of memory, or that the required insert count of its block is missing
+-- (d) The only other outcomes of a decode are out of memory, or that the required insert count of its block is missing
 -- while that exceeds the insertions received; and never once the encoder bytes that were written by the block's end
--- were delivered by a delivery that was answered, whatever happened since.
+-- were delivered by a delivery that succeeded, whatever happened since.
 pub record WaitsOnlyForInsertions (events : List (Event × Outcome)) (v : Session) : Type 0 where
   pub answers : (s : ℕ) (o : Outcome) (v' : Session) → Step v (Decode s) o v' → DecodeAnswer events v s o
-  -- once a delivery is answered that reached the block's end, its decode never again answers that anything is missing
+  -- once a delivery succeeds that reached the block's end, its decode never again returns that anything is missing
   pub never_again : (n received : ℕ) (delivered : Session) → Step v (ToDecoder n) (Delivered received) delivered
       → (later : List (Event × Outcome)) (u : Session) → Run delivered later u
       → (s : ℕ) (b : KeptBlock) → next_block u s ≡ Some b → b.end ≤ delivered.encoder_stream_delivered
       → (required : ℕ) (u' : Session) → Step u (Decode s) (MissingReferences required) u' → ⊥
-  -- such a delivery takes the instructions of each block whose end it reached, and behind those nothing is missing
+  -- such a delivery applies the instructions of each block whose end it reached, and after those nothing is missing
   pub takes : (n received : ℕ) (v' : Session) → Step v (ToDecoder n) (Delivered received) v'
       → (s position : ℕ) (b : KeptBlock) → slice_get (stream_at v'.streams s).blocks position ≡ Some b
       → b.end ≤ v'.encoder_stream_delivered → b.end ≤ v'.encoder_stream_taken
@@ -203,7 +203,7 @@ pub record IsSafe (capacity maximum limit : ℕ) (events : List (Event × Outcom
   pub decodes : DecodesWhatWasHanded capacity maximum events v
   pub waits : WaitsOnlyForInsertions events v
 
--- for every capacity up to every maximum capacity, every limit and every list of events with their answers, events
+-- for every capacity up to every maximum capacity, every limit and every list of events with their outcomes, events
 -- refused for memory among them
 abbrev pub SessionsAreSafe : Type 0
 SessionsAreSafe =

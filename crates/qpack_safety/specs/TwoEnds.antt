@@ -1,6 +1,6 @@
 -- What the two ends of a connection do to a session of values, and what holds of it at every moment (RFC 9204, section
--- 2): each end is strict, writes acknowledgments behind the increments for all that it received, and knows marked
--- fields. No contract names it.
+-- 2): each end is strict, writes acknowledgments after the increments for all that it received, and knows marked
+-- fields. No contract refers to it.
 use Rattle.std.specs.Prelude.{◌≡◌, ℕ, ◌≤◌, not, if◌then◌else◌, List, [], ◌∷◌, Option, None, Some, Ok}
 use Rattle.qpack_spec.specs.Chosen.{Chosen}
 use Rattle.qpack_spec.specs.Field.{FieldLine}
@@ -14,9 +14,9 @@ use Rattle.qpack_safety.specs.AbstractSession.{next_reading, after_steps}
 use Rattle.qpack_safety.specs.AbstractSession as small
 
 -- what an end does: the encoder writes a section under any choices, runs out of memory after some of its fields, writes
--- one that references no entry, or sets a capacity; the decoder takes an instruction, or reports what it received; the
--- encoder hears an instruction; the decoder decodes the next section of a stream, cancels a stream, or gives it up and
--- tells nothing
+-- one that references no entry, or sets a capacity; the decoder applies an instruction, or reports what it received;
+-- the encoder hears an instruction; the decoder decodes the next section of a stream, cancels a stream, or gives it up
+-- and reports nothing
 pub data EndStep : Type 0 where
   Encode : (stream : ℕ) (lines : List FieldLine) (choices : List Chosen) → EndStep
   Abandon : (lines : List FieldLine) (choices : List Chosen) → EndStep
@@ -52,11 +52,11 @@ small_steps w (Decode s) = decode_steps w s (oldest_undecoded (stream_at w.strea
 small_steps w (Cancel s) = small.Cancel s ∷ []
 small_steps w (Forget s) = small.Forget s ∷ []
 
--- the session behind what an end does
+-- the session after what an end does
 abbrev pub after_end_step : AbstractSession → EndStep → AbstractSession
 after_end_step w e = after_steps (small_steps w e) w
 
--- the session behind all that the ends did
+-- the session after all that the ends did
 abbrev pub after_end_steps : List EndStep → AbstractSession → AbstractSession
 after_end_steps [] w = w
 after_end_steps (e ∷ es) w = after_end_steps es (after_end_step w e)

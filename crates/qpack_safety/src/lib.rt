@@ -1,6 +1,6 @@
-//! The session theorem, over the definitions of `qpack_spec`: whatever happens between two ends, no
-//! instruction is refused, and each decode answers what was handed to the encoder, or waits for what is
-//! still under way. Each function here is a law: it does nothing, and its contract is the statement.
+//! The session theorem, over the definitions of `qpack_spec`: whatever happens between two ends, no instruction is
+//! refused, and each decode returns what was passed to the encoder, or waits for what is still under way. Each function
+//! here is a law: it does nothing, and its contract is the statement.
 #![tactic(auto)]
 
 ghost use Rattle.qpack_safety.specs.Headline.{SessionsAnswerWhatWasHanded};
@@ -9,20 +9,20 @@ ghost use Rattle.qpack_safety.specs.LawfulFlights.{FlightsAreLawful};
 ghost use Rattle.qpack_safety.specs.SessionSafety.{SessionsAreSafe};
 ghost use Rattle.qpack_safety.specs.TwoEnds.{StrictEndsAreSafe};
 
-/// The theorem: at every moment of every session in bytes, whatever its events were, and wherever memory was refused.
+/// The theorem: at every moment of every session in bytes, for any events, and any refusals of memory.
 pub fn sessions_are_safe()
     ensures { SessionsAreSafe }
 {}
 
-/// The headline, over events and answers alone: on each stream the fields that were decoded are the first of those that
-/// were encoded, in order, and each answer is right behind those before it.
+/// The headline, over events and outcomes alone: on each stream the fields that were decoded are the first of those
+/// that were encoded, in order, and each outcome is right after those before it.
 pub fn sessions_answer_what_was_handed()
     ensures { SessionsAnswerWhatWasHanded }
 {}
 
-/// Of sessions in values: two strict ends that know marked fields, of which the decoder writes each acknowledgment behind
-/// the increments for all that it received, never send what the other refuses, and each section is decoded exactly. This
-/// and the two laws below hold for any choices of the encoder, at every section.
+/// Of sessions in values: two strict ends that know marked fields never send what the other refuses, and each section
+/// is decoded exactly. The decoder writes each acknowledgment after the increments for all that it received. This and
+/// the two laws below hold for any choices of the encoder, at every section.
 pub fn strict_ends_are_safe()
     ensures { StrictEndsAreSafe }
 {}
@@ -33,7 +33,7 @@ pub fn strict_flights_are_lawful()
     ensures { FlightsAreLawful }
 {}
 
-/// And of the bytes of their sections: each stream's blocks are of the fields that were handed to it, in order; and its
+/// Of the bytes of their sections: each stream's blocks are of the fields that were passed to it, in order; and its
 /// next section is read to exactly its fields with their marks, or is blocked while it requires more than was received.
 pub fn strict_sections_are_read_exactly()
     ensures handed { BlocksAreOfWhatWasHanded }

@@ -14,14 +14,14 @@ ReadingFindsPrefixes =
     (bytes : List ℕ) (p : Prefix) (rest : List ℕ)
     → (prefix_at bytes ≡ Ok (p, rest)) ↔ ((encoding : List ℕ) × (bytes ≡ encoding ++ rest) × SpellsPrefix encoding p)
 
--- an encoded count stands for one required insert count at most, whatever the total of insertions
+-- an encoded count means one required insert count at most, for any total of insertions
 abbrev pub CountsHaveOneReading : Type 0
 CountsHaveOneReading =
     (total entries insert_count r s : ℕ) → 0 < insert_count → IsRequired total entries insert_count r
     → IsRequired total entries insert_count s
     → r ≡ s
 
--- which is what is computed; where none is computed, it stands for none
+-- the computed required insert count is the one that an encoded count means; if none is computed, the count means none
 abbrev pub CountsAreRead : Type 0
 CountsAreRead =
     (total entries insert_count r : ℕ) → 0 < insert_count → insert_count ≤ entries + entries
@@ -34,8 +34,8 @@ ReadingLinesFindsFields =
     → (fields_in_bytes w base bytes ≡ r) ↔ ReadsTo w base bytes r
 
 -- what a block requires, and what is kept of it until it is acknowledged, is what its lines reference: its required
--- insert count is the greatest index among them (section 2.1.2), and each of them stands once in its unacknowledged
--- block, of which there is none where they reference nothing (section 2.2.2.1)
+-- insert count is the greatest index among them (section 2.1.2). Each index is once in its unacknowledged block; there
+-- is no such block if the lines reference nothing (section 2.2.2.1)
 abbrev pub BlocksRequireReferences : Type 0
 BlocksRequireReferences =
     (t : Table) (stream : ℕ) (fields : List Field)

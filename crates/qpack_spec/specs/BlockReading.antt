@@ -26,7 +26,7 @@ pub record ReadsAll (w : Window) (base : ℕ) (bytes : List ℕ) (fs : List Fiel
   pub joined : SpellsAll SpellsLine bytes lines
   pub means : fields_of w base lines ≡ Ok fs
 
--- behind lines that mean fields, the next line gives none
+-- after lines that mean fields, the next line gives none
 pub record ReadsSome (w : Window) (base : ℕ) (bytes : List ℕ) (e : Fault) : Type 0 where
   pub lines : List Line
   pub front : List ℕ
@@ -50,7 +50,7 @@ abbrev pub or_bad_form : {A : Type 0} → Result A FormFault → Result A Fault
 or_bad_form (Ok x) = Ok x
 or_bad_form (Err e) = Err (BadForm e)
 
--- the fields of the lines in turn, in so many steps at most
+-- the fields of the lines in turn, in at most this many steps
 unfoldable pub fields_at : ℕ → Window → ℕ → List ℕ → Result (List Field) Fault
 fields_at steps w base [] = Ok []
 fields_at zero w base (b ∷ bytes) = Ok []
@@ -58,18 +58,18 @@ fields_at (suc steps) w base (b ∷ bytes) =
     or_bad_form (form_at line_form (b ∷ bytes)) >>= λ r. line_field w base r.0 >>= λ f. fields_at steps w base r.1
     >>= λ fs. Ok (f ∷ fs)
 
--- the fields of the bytes behind a prefix; each line takes a byte at least
+-- the fields of the bytes after a prefix; each line takes a byte at least
 abbrev pub fields_in_bytes : Window → ℕ → List ℕ → Result (List Field) Fault
 fields_in_bytes w base bytes = fields_at (length bytes) w base bytes
 
--- the answer behind a prefix that was read
+-- the reading after a prefix that was read
 abbrev pub bytes_behind : Window → List ℕ → Result (ℕ × ℕ) PrefixFault → Reading
 bytes_behind w rest (Err e) = Faulty (BadPrefix e)
 bytes_behind w rest (Ok p) =
     if nat_lt (window_insert_count w) p.0 then Missing p.0 else reading_of_fields (fields_in_bytes w p.1 rest)
     (nat_lt 0 p.0)
 
--- the answer where a prefix stands in front, or none
+-- the reading if a prefix is at the front, or none is
 abbrev pub section_behind : Window → Result (Prefix × List ℕ) FormFault → Reading
 section_behind w (Err e) = Faulty (BadForm e)
 section_behind w (Ok p) = bytes_behind w p.1

@@ -8,7 +8,7 @@ pub record Begins (P : List ℕ → Type 0) (bytes : List ℕ) : Type 0 where
   pub parts : bytes ≡ encoding ++ rest
   pub holds : P encoding
 
--- what is read first is handed on, a fault ends the reading
+-- what is read first is passed on, a fault ends the reading
 infixl 10 ◌>>=◌
 abbrev pub ◌>>=◌ : {A B E : Type 0} → Result A E → (A → Result B E) → Result B E
 (Ok x) >>= f = f x

@@ -107,13 +107,13 @@ chosen_rule t ls cs = chosen_fields (insert_count t) (empty_draft t) ls cs
 
 -- ---- what is promised
 
--- whatever is chosen, each field has a line, a marked one a literal (section 7.1.3)
+-- under any choices each field has a line, a marked one a literal (section 7.1.3)
 abbrev pub ChosenFieldsHaveLines : Type 0
 ChosenFieldsHaveLines =
     (t : Table) (ls : List FieldLine) (cs : List Chosen)
     → AreLiteralsWhereMarked ls (chosen_rule t ls cs).lines × (length (chosen_rule t ls cs).lines ≡ length ls)
 
--- whatever is chosen, nothing is inserted at capacity 0 (section 3.2.2)
+-- under any choices nothing is inserted at capacity 0 (section 3.2.2)
 abbrev pub NothingIsChosenAtZero : Type 0
 NothingIsChosenAtZero =
     (t : Table) (ls : List FieldLine) (cs : List Chosen) → t.capacity ≡ 0 → (chosen_rule t ls cs).instructions ≡ []

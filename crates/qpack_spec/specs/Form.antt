@@ -1,5 +1,5 @@
 -- The forms that lines, encoder instructions and decoder instructions have in bytes (RFC 9204, sections 4.3 to 4.5):
--- the first bits of a byte name the form, and behind them stand an integer, an integer and a string, or two strings.
+-- the first bits of a byte determine the form, and after them come an integer, an integer and a string, or two strings.
 use Rattle.std.specs.Prelude.{◌≡◌, ℕ, ◌⊎◌, Bool, true, false, List, [], ◌∷◌, ◌++◌, Option, None, Some, Result, Ok, Err}
 use Rattle.qpack_spec.specs.Bytes.{◌>>=◌}
 use Rattle.qpack_spec.specs.Integer.{IntegerFault, Overflow, UnexpectedEnd, SpellsInteger, OverflowsInteger, integer_at}
@@ -19,19 +19,19 @@ is_cut (BadString EndsEarly) = true
 is_cut (BadString LengthOverflows) = false
 is_cut (BadString (BadHuffman fault)) = false
 
--- a form, and what is made of its parts: an integer with a prefix of n bits; one with a value behind it; or a name,
--- whose flag stands above a length with a prefix of n - 1 bits, with a value behind it. A value is a string that takes
--- whole bytes
+-- a form, and what is made of its parts: an integer with a prefix of n bits; one with a value after it; or a name,
+-- whose flag is above a length with a prefix of n - 1 bits, with a value after it. A value is a string that takes whole
+-- bytes
 pub data Form (L : Type 0) : Type 0 where
   Index : (n : ℕ) (make : ℕ → L) → Form L
   IndexAndValue : (n : ℕ) (make : ℕ → List ℕ → L) → Form L
   NameAndValue : (n : ℕ) (make : List ℕ → List ℕ → L) → Form L
 
--- the bytes are an integer, whatever stands above its prefix
+-- the bytes are an integer, with any flags above its prefix
 abbrev pub HoldsIndex : ℕ → ℕ → List ℕ → Type 0
 HoldsIndex n index encoding = (flags : ℕ) × SpellsInteger n encoding flags index
 
--- the bytes are a string, whatever stands above its flag
+-- the bytes are a string, with any bits above its flag
 abbrev pub HoldsText : ℕ → List ℕ → List ℕ → Type 0
 HoldsText n value encoding = (flags : ℕ) × SpellsString n encoding flags value
 
@@ -62,7 +62,7 @@ abbrev pub RefusesText : ℕ → List ℕ → FormFault → Type 0
 RefusesText n encoding (BadInteger fault) = ⊥
 RefusesText n encoding (BadString fault) = RefusesString n encoding fault
 
--- the bytes are refused as the form: its first part, or its value behind a whole first part
+-- the bytes are refused as the form: its first part, or its value after a whole first part
 abbrev pub RefusesForm : {L : Type 0} → Form L → List ℕ → FormFault → Type 0
 RefusesForm (Index n make) encoding e = RefusesIndex n encoding e
 RefusesForm (IndexAndValue n make) encoding e =
@@ -106,11 +106,11 @@ abbrev pub or_bad_string : {A : Type 0} → Result A StringFault → Result A Fo
 or_bad_string (Ok x) = Ok x
 or_bad_string (Err e) = Err (BadString e)
 
--- what is made of the value at the bytes' front, and the bytes behind it
+-- what is made of the value at the bytes' front, and the bytes after it
 abbrev pub value_at : {L : Type 0} → (List ℕ → L) → List ℕ → Result (L × List ℕ) FormFault
 value_at make bytes = or_bad_string (string_at 8 bytes) >>= λ v. Ok (make v.1, v.2)
 
--- what a form makes of the bytes' front, and the bytes behind it
+-- what a form makes of the bytes' front, and the bytes after it
 unfoldable pub made_at : {L : Type 0} → Form L → List ℕ → Result (L × List ℕ) FormFault
 made_at (Index n make) bytes = or_bad_integer (integer_at n bytes) >>= λ i. Ok (make i.1, i.2)
 made_at (IndexAndValue n make) bytes =
@@ -118,12 +118,13 @@ made_at (IndexAndValue n make) bytes =
 made_at (NameAndValue n make) bytes =
     or_bad_string (string_at n bytes) >>= λ m. value_at (make m.1) m.2
 
--- the same in the form that was named; a byte that names none, which no byte does, is no form's beginning
+-- what the form that was determined makes of the bytes; a byte that determines none, which no byte does, is no form's
+-- beginning
 abbrev pub in_form : {L : Type 0} → Option (Form L) → List ℕ → Result (L × List ℕ) FormFault
 in_form None bytes = Err (BadInteger UnexpectedEnd)
 in_form (Some form) bytes = made_at form bytes
 
--- what stands at the front of the bytes, in the form that their first byte names, and the bytes behind it
+-- what is at the front of the bytes, in the form that their first byte determines, and the bytes after it
 unfoldable pub form_at : {L : Type 0} → (ℕ → Option (Form L)) → List ℕ → Result (L × List ℕ) FormFault
 form_at form_of [] = Err (BadInteger UnexpectedEnd)
 form_at form_of (b ∷ bytes) = in_form (form_of b) (b ∷ bytes)

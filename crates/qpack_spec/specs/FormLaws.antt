@@ -25,7 +25,7 @@ ReadingFindsForms {L} form_of =
     → (form_at form_of bytes ≡ Ok (l, rest)) ↔
     ((encoding : List ℕ) × (bytes ≡ encoding ++ rest) × Spells L form_of encoding l)
 
--- each refusal exactly where it stands
+-- each refusal is found exactly if the bytes have it
 abbrev pub ReadingFindsFormRefusals : {L : Type 0} → (ℕ → Option (Form L)) → Type 0
 ReadingFindsFormRefusals {L} form_of =
     (bytes : List ℕ) (fault : FormFault) → is_cut fault ≡ false

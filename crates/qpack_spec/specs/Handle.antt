@@ -19,7 +19,7 @@ pub data Lookup : Type 0 where
   AtPostBase : (index absolute : ℕ) → Lookup
   NotFound : Lookup
 
--- an entry by its position before or behind the base
+-- an entry by its position before or after the base
 abbrev pub lookup_of : ℕ → ℕ → Lookup
 lookup_of base a = if nat_le a base then AtRelative (base - a) a else AtPostBase (a - base - 1) a
 
@@ -46,7 +46,7 @@ abbrev pub found_name : Table → ℕ → Field → Option ℕ → Found
 found_name t base f (Some i) = record { lookup = AtStatic i; table = t }
 found_name t base f None = found_entry t base (newest_index t (has_name f.name))
 
--- what an insertion answers: its instruction's reference, with the post-base index and the absolute one of the new
+-- the result of an insertion: its instruction's reference, with the post-base index and the absolute one of the new
 -- entry; or where the name was found instead
 pub data Insertion : Type 0 where
   Duplicated : (relative post_base absolute : ℕ) → Insertion
@@ -55,7 +55,7 @@ pub data Insertion : Type 0 where
   Inserted : (post_base absolute : ℕ) → Insertion
   NotInserted : (lookup : Lookup) → Insertion
 
--- the answer of an insertion whose instruction is this one
+-- the result of an insertion whose instruction is this one
 abbrev pub answer_of : EncoderInstruction → ℕ → ℕ → Insertion
 answer_of (InsertStaticName index value) post_base absolute = InsertedWithStaticName post_base index absolute
 answer_of (InsertDynamicName relative value) post_base absolute = InsertedWithName relative post_base absolute
@@ -63,7 +63,7 @@ answer_of (InsertLiteralName name value) post_base absolute = Inserted post_base
 answer_of (Duplicate relative) post_base absolute = Duplicated relative post_base absolute
 answer_of (SetCapacity n) post_base absolute = Inserted post_base absolute
 
--- the answer of an insertion, and the table behind it
+-- the result of an insertion, and the table after it
 pub record Insertable : Type 0 where
   pub insertion : Insertion
   pub table : Table
@@ -91,7 +91,7 @@ literal_at f (AtRelative index absolute) = NamedDynamic index f.value
 literal_at f (AtPostBase index absolute) = NamedPostBase index f.value
 literal_at f NotFound = Literal f.name f.value
 
--- the line of an insertion's answer
+-- the line of an insertion's result
 abbrev pub line_of : Field → Insertion → Line
 line_of f (Duplicated relative post_base absolute) = IndexedPostBase post_base
 line_of f (InsertedWithStaticName post_base index absolute) = IndexedPostBase post_base
@@ -99,7 +99,7 @@ line_of f (InsertedWithName relative post_base absolute) = IndexedPostBase post_
 line_of f (Inserted post_base absolute) = IndexedPostBase post_base
 line_of f (NotInserted lookup) = literal_at f lookup
 
--- the instruction of an insertion's answer, if it has one
+-- the instruction of an insertion's result, if it has one
 abbrev pub instructions_of : Field → Insertion → List EncoderInstruction
 instructions_of f (Duplicated relative post_base absolute) = Duplicate relative ∷ []
 instructions_of f (InsertedWithStaticName post_base index absolute) = InsertStaticName index f.value ∷ []
@@ -107,7 +107,7 @@ instructions_of f (InsertedWithName relative post_base absolute) = InsertDynamic
 instructions_of f (Inserted post_base absolute) = InsertLiteralName f.name f.value ∷ []
 instructions_of f (NotInserted lookup) = []
 
--- the block in progress behind an insertion, or what was found in its place
+-- the block in progress after an insertion, or what was found in its place
 abbrev pub with_insertion : Draft → Field → Insertable → Draft
 with_insertion d f i =
     record {
@@ -121,7 +121,7 @@ abbrev pub with_found : ℕ → Draft → Field → Lookup → Table → Draft
 with_found base d f (AtRelative index absolute) t = record d { table = t; lines = d.lines ++ IndexedDynamic index ∷ [] }
 with_found base d f found t = with_insertion d f (insert_field t base f)
 
--- an equal static field, else what the handle answers
+-- an equal static field, else what the handle returns
 abbrev pub by_handle : ℕ → Draft → Field → Option ℕ → Draft
 by_handle base d f (Some i) = with_line d (IndexedStatic i)
 by_handle base d f None = with_found base d f (find_field d.table base f).lookup (find_field d.table base f).table

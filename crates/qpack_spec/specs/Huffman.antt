@@ -4,14 +4,14 @@ use Rattle.std.specs.Prelude.{◌∷◌, ◌++◌, length, take, drop, slice_ind
 use Rattle.std.specs.Prelude.{Ok, Err, nat_lt, ◌==◌, if◌then◌else◌}
 use Rattle.std.specs.List.{flat_map, AllByRecursion, list_any, count_by, position_or_len}
 
--- why a payload means nothing: behind its last code stand thirty ones (`Unhandled`), or they don't
+-- why a payload is malformed: after its last code come thirty ones (`Unhandled`), or they don't
 pub data HuffmanFault : Type 0 where
   MissingBits : HuffmanFault
   Unhandled : HuffmanFault
 
 -- ---- bits
 
--- the lowest bits of a number, so many, the highest of them first
+-- this many of the lowest bits of a number, the highest of them first
 unfoldable pub bits_of : ℕ → ℕ → List ℕ
 bits_of zero n = []
 bits_of (suc k) n = (n / 2 ^ k % 2) ∷ bits_of k n
@@ -20,7 +20,7 @@ bits_of (suc k) n = (n / 2 ^ k % 2) ∷ bits_of k n
 abbrev pub bits_of_bytes : List ℕ → List ℕ
 bits_of_bytes bytes = flat_map (bits_of 8) bytes
 
--- so many ones
+-- this many ones
 unfoldable pub ones : ℕ → List ℕ
 ones zero = []
 ones (suc k) = 1 ∷ ones k
@@ -72,7 +72,7 @@ bytes_by_length =
     (10 ∷ 13 ∷ 22 ∷ []) ∷
     []
 
--- the bytes whose codes have so many bits
+-- the bytes whose codes have this many bits
 unfoldable pub bytes_of_length : ℕ → List ℕ
 bytes_of_length zero = []
 bytes_of_length (suc n) = slice_index_or bytes_by_length n []
@@ -105,7 +105,7 @@ pub record BitsMean (bits text : List ℕ) : Type 0 where
   pub few : padding < 8
   pub parts : bits ≡ bits_of_text text ++ ones padding
 
--- the bits mean nothing: behind the longest list of codes at their front stands a rest that doesn't end a text
+-- the bits are malformed: after the longest list of codes at their front comes a rest that doesn't end a text
 pub record BitsMeanNothing (bits : List ℕ) (fault : HuffmanFault) : Type 0 where
   pub text : List ℕ
   pub rest : List ℕ
@@ -119,18 +119,18 @@ pub record BitsMeanNothing (bits : List ℕ) (fault : HuffmanFault) : Type 0 whe
 abbrev pub PayloadMeans : List ℕ → List ℕ → Type 0
 PayloadMeans payload text = BitsMean (bits_of_bytes payload) text
 
--- the payload means nothing
+-- the payload is malformed
 abbrev pub PayloadMeansNothing : List ℕ → HuffmanFault → Type 0
 PayloadMeansNothing payload fault = BitsMeanNothing (bits_of_bytes payload) fault
 
 -- ---- the written payload
 
--- the number of which these are the bits, behind those of n
+-- the number with these bits, after those of n
 unfoldable pub number_from : ℕ → List ℕ → ℕ
 number_from n [] = n
 number_from n (bit ∷ bits) = number_from (2 * n + bit) bits
 
--- the first bits in so many bytes, the last of them filled up with ones
+-- the first bits in this many bytes, the last of them filled up with ones
 unfoldable pub bytes_of_bits : ℕ → List ℕ → List ℕ
 bytes_of_bits zero bits = []
 bytes_of_bits (suc k) bits = number_from 0 (take 8 (bits ++ ones 8)) ∷ bytes_of_bits k (drop 8 bits)
@@ -141,8 +141,8 @@ payload_of text = bytes_of_bits ((length (bits_of_text text) + 7) / 8) (bits_of_
 
 -- ---- the meaning of a payload, as reading from left to right
 
--- The first byte of a list of bits: `number` are the bits before them, `next` the number behind the last code
--- that is as long as those, and the rows are the bytes of the greater lengths.
+-- The first byte of a list of bits: `number` are the bits before them, `next` the number after the last code that is as
+-- long as those, and the rows are the bytes of the greater lengths.
 unfoldable pub code_at : List (List ℕ) → ℕ → ℕ → List ℕ → Result (ℕ × List ℕ) HuffmanFault
 code_at [] number next bits = Err Unhandled
 code_at (bytes ∷ more) number next [] = Err MissingBits
@@ -157,12 +157,12 @@ is_padding zero bits = false
 is_padding (suc k) [] = true
 is_padding (suc k) (bit ∷ bits) = if bit == 1 then is_padding k bits else false
 
--- a code that was read, or its fault, as an item, and the bits behind it: none after a fault
+-- a code that was read, or its fault, as an item, and the bits after it: none after a fault
 abbrev pub item_of : Result (ℕ × List ℕ) HuffmanFault → Option (Result ℕ HuffmanFault) × List ℕ
 item_of (Ok x) = (Some (Ok x.0), x.1)
 item_of (Err fault) = (Some (Err fault), [])
 
--- what comes next of a payload's bits: their end, a byte or a fault, and the bits behind it
+-- what comes next of a payload's bits: their end, a byte or a fault, and the bits after it
 unfoldable pub item_at : List ℕ → Option (Result ℕ HuffmanFault) × List ℕ
 item_at bits = if is_padding 8 bits then (None, []) else item_of (code_at bytes_by_length 0 0 bits)
 
@@ -171,7 +171,7 @@ abbrev pub with_front : List ℕ → Result (List ℕ) HuffmanFault → Result (
 with_front front (Ok text) = Ok (front ++ text)
 with_front front (Err fault) = Err fault
 
--- the text after an item, where `more` reads the bits behind it
+-- the text after an item, where `more` reads the bits that follow
 abbrev pub text_after : Option (Result ℕ HuffmanFault) → Result (List ℕ) HuffmanFault → Result (List ℕ) HuffmanFault
 text_after None more = Ok []
 text_after (Some (Ok b)) more = with_front (b ∷ []) more

@@ -38,7 +38,7 @@ abbrev pub PayloadsDontMeanBoth : Type 0
 PayloadsDontMeanBoth = (payload text : List ℕ) (fault : HuffmanFault) → PayloadMeans payload text
     → PayloadMeansNothing payload fault → ⊥
 
--- what means nothing has one fault
+-- a malformed payload has one fault
 abbrev pub PayloadsHaveOneFault : Type 0
 PayloadsHaveOneFault = (payload : List ℕ) (fault other : HuffmanFault) → PayloadMeansNothing payload fault
     → PayloadMeansNothing payload other → fault ≡ other
@@ -48,7 +48,7 @@ abbrev pub ReadingFindsTexts : Type 0
 ReadingFindsTexts =
     (payload text : List ℕ) → (text_of_bits (bits_of_bytes payload) ≡ Ok text) ↔ PayloadMeans payload text
 
--- and each fault exactly where the payload means nothing for it
+-- each fault is found exactly if the payload is malformed by it
 abbrev pub ReadingFindsPayloadFaults : Type 0
 ReadingFindsPayloadFaults =
     (payload : List ℕ) (fault : HuffmanFault)

@@ -62,7 +62,7 @@ written_encoder_instruction (InsertLiteralName name value) = written_string 6 1 
 written_encoder_instruction (Duplicate relative) = written_integer 5 0 relative
 written_encoder_instruction (SetCapacity capacity) = written_integer 5 1 capacity
 
--- the written encoder instructions, one behind the other
+-- the written encoder instructions, one after the other
 unfoldable pub written_encoder_instructions : List EncoderInstruction → List ℕ
 written_encoder_instructions [] = []
 written_encoder_instructions (i ∷ is) = written_encoder_instruction i ++ written_encoder_instructions is
@@ -73,7 +73,7 @@ written_decoder_instruction (Acknowledgment stream) = written_integer 7 1 stream
 written_decoder_instruction (Cancellation stream) = written_integer 6 1 stream
 written_decoder_instruction (Increment by) = written_integer 6 0 by
 
--- the written decoder instructions, one behind the other
+-- the written decoder instructions, one after the other
 unfoldable pub written_decoder_instructions : List DecoderInstruction → List ℕ
 written_decoder_instructions [] = []
 written_decoder_instructions (r ∷ rs) = written_decoder_instruction r ++ written_decoder_instructions rs

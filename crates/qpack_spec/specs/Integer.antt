@@ -24,7 +24,7 @@ abbrev pub groups_sum : List ℕ → ℕ
 groups_sum [] = 0
 groups_sum (c ∷ cs) = c % 128 + 128 * groups_sum cs
 
--- the value stands in the prefix alone
+-- the value is in the prefix alone
 pub record IsShort (n b : ℕ) (cs : List ℕ) (value : ℕ) : Type 0 where
   pub alone : cs ≡ []
   pub below : b % 2 ^ n < full n
@@ -36,12 +36,12 @@ pub record IsLong (n b : ℕ) (cs : List ℕ) (value : ℕ) : Type 0 where
   pub ends : EndsAtLast cs
   pub sum : value ≡ full n + groups_sum cs
 
--- the bytes stand for the flags above the prefix and the value, however many they are
+-- the bytes mean the flags above the prefix and the value, however many bytes they are
 abbrev pub StandsFor : ℕ → List ℕ → ℕ → ℕ → Type 0
 StandsFor n [] flags value = ⊥
 StandsFor n (b ∷ cs) flags value = (flags ≡ b / 2 ^ n) × (IsShort n b cs value ⊎ IsLong n b cs value)
 
--- the same with at most nine further bytes: what a reader accepts
+-- the bytes mean the flags and the value, with at most nine further bytes: what a reader accepts
 pub record SpellsInteger (n : ℕ) (encoding : List ℕ) (flags value : ℕ) : Type 0 where
   pub stands : StandsFor n encoding flags value
   pub few : length encoding ≤ 10
@@ -59,14 +59,14 @@ TruncatesInteger n bytes =
 
 -- ---- the same, as reading from left to right
 
--- at most k groups of seven bits, and the bytes behind them
+-- at most k groups of seven bits, and the bytes after them
 unfoldable pub groups_at : ℕ → List ℕ → Result (ℕ × List ℕ) IntegerFault
 groups_at zero bytes = Err Overflow
 groups_at (suc k) [] = Err UnexpectedEnd
 groups_at (suc k) (c ∷ cs) =
     if nat_lt c 128 then Ok (c, cs) else (groups_at k cs >>= λ r. Ok (c % 128 + 128 * r.0, r.1))
 
--- the flags, the value, and the bytes behind the integer
+-- the flags, the value, and the bytes after the integer
 unfoldable pub integer_at : ℕ → List ℕ → Result (ℕ × ℕ × List ℕ) IntegerFault
 integer_at n [] = Err UnexpectedEnd
 integer_at n (b ∷ cs) =

@@ -26,7 +26,7 @@ pub record IsWritable (n flags value : ℕ) : Type 0 where
   pub high : flags < 2 ^ (8 - n)
   pub low : value < 2 ^ 64
 
--- the written spelling stands for its flags and value, and no shorter byte list does
+-- the written spelling means its flags and value, and no shorter byte list does
 abbrev pub WrittenIntegersAreShortest : Type 0
 WrittenIntegersAreShortest =
     (n flags value : ℕ) → IsWritable n flags value
@@ -50,7 +50,7 @@ ReadingFindsSpellings =
     → (integer_at n bytes ≡ Ok (flags, value, rest)) ↔ ((encoding : List ℕ) × (bytes ≡ encoding ++ rest)
     × SpellsInteger n encoding flags value)
 
--- and each fault exactly where it stands
+-- each fault is found exactly if the bytes have it
 abbrev pub ReadingFindsFaults : Type 0
 ReadingFindsFaults =
     (n : ℕ) (bytes : List ℕ)

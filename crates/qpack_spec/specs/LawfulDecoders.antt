@@ -1,4 +1,4 @@
--- What a decoder that keeps to the standard may write on the decoder stream, and what an encoder keeps for any decoder,
+-- What a decoder that follows the standard may write on the decoder stream, and what an encoder keeps for any decoder,
 -- as statements (RFC 9204, sections 2.1, 2.2.2 and 4.4).
 use Rattle.std.specs.Prelude.{◌≡◌, ℕ, ◌+◌, ◌^◌, ◌<◌, ◌≤◌, max, Bool, false, List, [], ◌∷◌, ◌++◌, length, None, Some, Ok}
 use Rattle.std.specs.List.{AllByRecursion}
@@ -23,9 +23,9 @@ pub record HasDecoded (received stream : ℕ) (sections : List UnacknowledgedBlo
   pub others_are : without_oldest stream sections ≡ Some others
   pub decoded : required ≤ received
 
--- what a decoder may write next that has received so many insertions, of which so many are told, while these sections
--- are not acknowledged: an acknowledgment of the oldest section of a stream that it has decoded, which tells that its
--- insertions were received; the cancellation of a stream; and an increment above 0, of no more than was received
+-- what a decoder may write next that has received this many insertions and reported `told` of them, while these
+-- sections are not acknowledged: an acknowledgment of the oldest section of a stream that it has decoded, which reports
+-- that section's insertions too; the cancellation of a stream; and an increment above 0, of no more than was received
 -- (sections 2.1.4 and 4.4)
 abbrev pub MayWrite : (received told : ℕ) → List UnacknowledgedBlock → List DecoderInstruction → Type 0
 MayWrite received told sections [] = Unit {0}
@@ -63,7 +63,8 @@ pub record IsToBeInserted (t : Table) (l : FieldLine) : Type 0 where
 
 -- ---- what is promised
 
--- a strict encoder hears whatever such a decoder writes, and takes no more to be known than was received
+-- a strict encoder hears everything that such a decoder writes, and its known received count never exceeds what was
+-- received
 abbrev pub LawfulInstructionsAreHeard : Type 0
 LawfulInstructionsAreHeard =
     (t : Table) (received : ℕ) (more : List DecoderInstruction)
@@ -88,8 +89,8 @@ InsertionsGoOn =
     ≡ marked_fields (insert_count t) (with_new_entry (insert_count t) (empty_draft t) l.field) more)
     × (insert_count t < required_insert_count (marked_rule t (l ∷ more)))
 
--- whatever is chosen of the other fields, where nothing is under way a section whose first field is chosen to be
--- inserted requires a new insertion (section 2.1.2)
+-- under any choices for the other fields, if nothing is under way a section whose first field is chosen to be inserted
+-- requires a new insertion (section 2.1.2)
 abbrev pub ChosenInsertionsGoOn : Type 0
 ChosenInsertionsGoOn =
     (t : Table) (l : FieldLine) (more : List FieldLine) (unreferenced : Bool) (cs : List Chosen) → IsQuiet t

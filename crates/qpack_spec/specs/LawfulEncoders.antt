@@ -1,6 +1,5 @@
--- What an encoder that keeps to the standard may write, by the history of its insertions alone, and that a strict
--- decoder reads it, whatever front of the encoder stream it has received, as statements (RFC 9204, sections 2.1, 3.2
--- and 4.5).
+-- What an encoder that follows the standard may write, by the history of its insertions alone, and that a strict
+-- decoder reads it, after any front of the encoder stream, as statements (RFC 9204, sections 2.1, 3.2 and 4.5).
 use Rattle.std.specs.Prelude.{◌≡◌, ℕ, ◌+◌, ◌-◌, ◌%◌, ◌*◌, ◌^◌, ◌<◌, ◌≤◌, true, false, List, ◌++◌, length}
 use Rattle.std.specs.Prelude.{Some, IsOk, slice_get}
 use Rattle.std.specs.List.{AllByRecursion}
@@ -22,8 +21,8 @@ use Rattle.qpack_spec.specs.Window.{absolute_entry, with_value}
 -- ---- the encoder stream
 
 -- an encoder has written these instructions: a table that begins empty, of capacity 0, takes each in turn (sections
--- 3.2.2 and 3.2.3); these are the insertions that they make; and no entry was evicted that is not among the first so
--- many insertions, which it knows to be received (section 2.1.1)
+-- 3.2.2 and 3.2.3); these are the insertions that they make; and it evicted no entry past the first `known` insertions,
+-- which it knows to be received (section 2.1.1)
 pub record IsLawfulEncoder (maximum known : ℕ) (sent : List EncoderInstruction) (made : History) : Type 0 where
   pub taken : IsOk (apply_in_turn strict_apply (empty_table 0 (Some maximum) 0) sent)
   pub makes : Leads (initial_history 0 maximum) sent made
@@ -66,8 +65,8 @@ pub record SpellsField (made : History) (required base : ℕ) (encoding : List �
 
 -- ---- a section
 
--- a prefix tells this required insert count, encoded under this maximum capacity, and this base: at or above the count,
--- or below it (sections 4.5.1.1 and 4.5.1.2)
+-- a prefix encodes this required insert count, under this maximum capacity, and this base: at or above the count, or
+-- below it (sections 4.5.1.1 and 4.5.1.2)
 pub record TellsPrefix (maximum required base : ℕ) (p : Prefix) : Type 0 where
   pub none : required ≡ 0 → p.count ≡ 0
   pub some : 0 < required → p.count ≡ required % (2 * most_entries maximum) + 1
@@ -93,8 +92,8 @@ pub record IsLawfulSection (maximum : ℕ) (made : History) (required : ℕ) (fi
 
 -- ---- what is promised
 
--- an entry that is not evicted behind all instructions is not evicted behind any front of them that has it: dropped
--- counts only grow, and an absolute index stays what it is
+-- an entry that is not evicted after all instructions is not evicted after any front of them that has it: dropped
+-- counts only grow, and an absolute index does not change
 abbrev pub EntriesStayLive : Type 0
 EntriesStayLive =
     (maximum absolute : ℕ) (front others : List EncoderInstruction) (received made : History) (f : Field)
@@ -102,9 +101,10 @@ EntriesStayLive =
     → made.dropped < absolute → absolute ≤ length received.inserted → IsInsertion made.inserted absolute f
     → absolute_entry (window_of received) absolute ≡ Some f
 
--- behind any front of an encoder's instructions that has all that it knows to be received, a strict decoder whose limit
--- the sizes are within reads exactly the fields that the section means, with their marks, if it has received the
--- insertions that it requires, and else that it is blocked, and by how many
+-- after any front of an encoder's instructions that has all that it knows to be received, a strict decoder reads a
+-- section whose sizes are within its limit. If it has received the insertions that the section requires, it reads
+-- exactly the fields that the section means, with their marks. Otherwise it reads that the section is blocked, and by
+-- how many
 pub record ReadsLawfully (received : History) (limit required : ℕ) (fields : List FieldLine) (bytes : List ℕ) :
     Type 0 where
   pub read : required ≤ length received.inserted

@@ -43,7 +43,7 @@ pub record GoesOn (now last : Table) (taken sent : List EncoderInstruction) (res
   pub stream : IsLawfulStream now last (rest ++ behind) others
   pub refuses_nothing : IsNotRefused now rest
 
--- whatever a strict decoder takes of whatever piece comes first, it refuses nothing of a lawful stream
+-- after any first piece, whatever a strict decoder applied of it, it refuses nothing of a lawful stream
 abbrev pub LawfulStreamsAreNeverRefused : Type 0
 LawfulStreamsAreNeverRefused =
     (first now last : Table) (piece behind : List ℕ) (sent : List EncoderInstruction)

@@ -19,7 +19,7 @@ ReadSectionsAreShort =
     (w : Window) (bytes : List ℕ) (fields : List Field) (is_dynamic : Bool)
     → reading_of_bytes w bytes ≡ Fields fields is_dynamic → length bytes ≤ longest_section (total_size fields)
 
--- and none that means its fields alone
+-- no section that means its fields alone is longer either
 abbrev pub StatelessSectionsAreShort : Type 0
 StatelessSectionsAreShort =
     (limit : ℕ) (bytes : List ℕ) (fields : List Field) → MeansStateless limit bytes fields

@@ -46,7 +46,7 @@ pub mod Stateless
 pub mod StatelessMeaning
 -- how fields are written under any choices of an encoder (section 2.1)
 pub mod Chosen
--- sessions of two ends, and what any lawful peer keeps to
+-- sessions of two ends, and the rules for any lawful peer
 pub mod Session
 pub mod SessionLaws
 pub mod LawfulStreams

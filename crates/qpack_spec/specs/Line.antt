@@ -46,7 +46,7 @@ written_line (NamedDynamic relative value) = written_integer 4 4 relative ++ wri
 written_line (NamedPostBase post_base value) = written_integer 3 0 post_base ++ written_string 8 0 value
 written_line (Literal name value) = written_string 4 2 name ++ written_string 8 0 value
 
--- the written lines, one behind the other
+-- the written lines, one after the other
 unfoldable pub written_lines : List Line → List ℕ
 written_lines [] = []
 written_lines (l ∷ ls) = written_line l ++ written_lines ls

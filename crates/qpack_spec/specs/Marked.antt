@@ -22,7 +22,7 @@ abbrev pub marked_fields : ℕ → Draft → List FieldLine → Draft
 marked_fields base d [] = d
 marked_fields base d (l ∷ ls) = marked_fields base (marked_field base d l) ls
 
--- a block in progress behind the fields; its base is the count of insertions at its start
+-- a block in progress after the fields; its base is the count of insertions at its start
 unfoldable pub marked_rule : Table → List FieldLine → Draft
 marked_rule t ls = marked_fields (insert_count t) (empty_draft t) ls
 
@@ -35,7 +35,7 @@ written_marked_lines fs ls = written_lines ls
 unfoldable pub written_marked_block : List FieldLine → Block → List ℕ
 written_marked_block fs b = written_prefix b.prefix ++ written_marked_lines fs b.lines
 
--- ---- where no entry is at hand
+-- ---- without entries
 
 -- the line of a field: a marked one is a literal, by the least static field of its name
 abbrev pub stateless_line_marked : FieldLine → Line
@@ -69,7 +69,7 @@ abbrev pub HandleIsTheMarkedRule : Type 0
 HandleIsTheMarkedRule =
     (t : Table) (ls : List FieldLine) → handle_lines (insert_count t) (empty_draft t) ls ≡ marked_rule t ls
 
--- where no field is marked it is the rule, the lines are written as ever, and so is a block where no entry is at hand
+-- if no field is marked it is the rule, its lines are written as lines without marks, and so is a block without entries
 pub record IsTheRuleUnmarked (t : Table) (fs : List Field) : Type 0 where
   pub draft : marked_rule t (map unmarked fs) ≡ rule t fs
   pub lines : (ls : List Line) → written_marked_lines (map unmarked fs) ls ≡ written_lines ls

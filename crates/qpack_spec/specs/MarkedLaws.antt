@@ -49,7 +49,7 @@ MarkedSectionsAreRead =
     → total_size (fields_of_lines fields) ≤ limit
     → strict_reading w limit (written_marked_block fields b) ≡ Read fields required)
 
--- and it is blocked where it requires more than was received, whatever window its lines mean the fields under
+-- a section that requires more than was received is blocked, under any window that its lines mean the fields under
 abbrev pub MarkedSectionsAreBlocked : Type 0
 MarkedSectionsAreBlocked =
     (w later : Window) (limit required base : ℕ) (b : Block) (fields : List FieldLine)

@@ -5,7 +5,7 @@ use Rattle.qpack_spec.specs.Bytes.{◌>>=◌}
 use Rattle.qpack_spec.specs.Integer.{SpellsInteger, integer_at, written_integer}
 use Rattle.qpack_spec.specs.Form.{FormFault, HoldsIndex, or_bad_integer}
 
--- the encoded required insert count, the sign bit and the delta base, as they stand in the bytes
+-- the encoded required insert count, the sign bit and the delta base, as they are in the bytes
 pub record Prefix : Type 0 where
   pub count : ℕ
   pub sign : Bool
@@ -29,7 +29,7 @@ prefix_for maximum required base =
     then record { count = required % (2 * most_entries maximum) + 1; sign = false; delta = base - required }
     else record { count = required % (2 * most_entries maximum) + 1; sign = true; delta = required - base - 1 }
 
--- the required insert count that an encoded count stands for at a total of insertions, a table having at most so many
+-- the required insert count that an encoded count means at a total of insertions, for a table of at most this many
 -- entries: the number of its residue in the window around the total (section 4.5.1.1)
 pub record IsRequired (total entries count required : ℕ) : Type 0 where
   pub positive : 0 < required
@@ -54,19 +54,19 @@ read_required total maximum count =
     else if nat_eq (most_entries maximum) 0 || nat_lt (2 * most_entries maximum) count then Err OutOfRange
     else required_in_range (required_at (total + most_entries maximum) (most_entries maximum) count)
 
--- the base behind a required count (section 4.5.1.2); one below 0 is told, held at the least number of 64 bits
+-- the base after a required count (section 4.5.1.2); one below 0 is reported, saturated at the least number of 64 bits
 unfoldable pub read_base : Bool → ℕ → ℕ → Result ℕ PrefixFault
 read_base false required delta = if nat_lt (required + delta) (2 ^ 64) then Ok (required + delta) else Err OutOfRange
 read_base true required delta =
     if nat_lt delta required then Ok (required - delta - 1) else Err
     (BelowZero (negsuc (min (delta - required) (2 ^ 63 - 1))))
 
--- the base of a prefix whose required insert count is known; where nothing is required nothing counts from it, and it is
+-- the base of a prefix whose required insert count is known; if nothing is required nothing counts from it, and it is
 -- 0, whatever was read
 abbrev pub base_behind : Prefix → ℕ → Result ℕ PrefixFault
 base_behind p required = if nat_eq required 0 then Ok 0 else read_base p.sign required p.delta
 
--- the same to a strict decoder, which refuses a base below 0 also where nothing is required (section 4.5.1.2)
+-- the base of a prefix to a strict decoder, which refuses a base below 0 also if nothing is required (section 4.5.1.2)
 abbrev pub strict_base : Prefix → ℕ → Result ℕ PrefixFault
 strict_base p required = if nat_eq required 0 && not p.sign then Ok 0 else read_base p.sign required p.delta
 
@@ -83,14 +83,14 @@ with_base base_of (Ok required) = and_base required (base_of required)
 unfoldable pub read_prefix : ℕ → ℕ → Prefix → Result (ℕ × ℕ) PrefixFault
 read_prefix total maximum p = with_base (λ required. base_behind p required) (read_required total maximum p.count)
 
--- the same to a strict decoder (section 4.5.1.2)
+-- the required insert count and the base of a prefix to a strict decoder (section 4.5.1.2)
 unfoldable pub read_strict_prefix : ℕ → ℕ → Prefix → Result (ℕ × ℕ) PrefixFault
 read_strict_prefix total maximum p =
     with_base (λ required. strict_base p required) (read_required total maximum p.count)
 
 -- ---- bytes
 
--- the bytes are a prefix: the count with a prefix of 8 bits, then the delta with one of 7 behind the sign bit
+-- the bytes are a prefix: the count with a prefix of 8 bits, then the delta with one of 7 after the sign bit
 pub record SpellsPrefix (encoding : List ℕ) (p : Prefix) : Type 0 where
   pub head : List ℕ
   pub tail : List ℕ
@@ -108,7 +108,7 @@ sign_bit p = if p.sign then 1 else 0
 unfoldable pub written_prefix : Prefix → List ℕ
 written_prefix p = written_integer 8 0 p.count ++ written_integer 7 (sign_bit p) p.delta
 
--- the prefix at the front of the bytes, and the bytes behind it
+-- the prefix at the front of the bytes, and the bytes after it
 unfoldable pub prefix_at : List ℕ → Result (Prefix × List ℕ) FormFault
 prefix_at bytes =
     or_bad_integer (integer_at 8 bytes) >>= λ c. or_bad_integer (integer_at 7 c.2)

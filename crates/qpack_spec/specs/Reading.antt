@@ -9,8 +9,8 @@ use Rattle.qpack_spec.specs.Line.{NamedPostBase, Literal}
 use Rattle.qpack_spec.specs.Prefix.{Prefix, PrefixFault, read_prefix}
 use Rattle.qpack_spec.specs.Window.{Window, maximum_capacity, window_insert_count, with_value}
 
--- why a field section means nothing: its bytes, its prefix, or a line that references no entry: one below the window or
--- where nothing is live, one above it (its position is told), one behind the base, or no static field
+-- why a field section is malformed: its bytes, its prefix, or a line that references no entry: one below the window or
+-- in an empty one, one above it (with its position), one after the base, or no static field
 pub data Fault : Type 0 where
   BadForm : (fault : FormFault) → Fault
   BadPrefix : (fault : PrefixFault) → Fault
@@ -57,7 +57,7 @@ line_field w base (NamedDynamic relative value) = field_with_value value (relati
 line_field w base (NamedPostBase post_base value) = field_with_value value (post_base_field w base post_base)
 line_field w base (Literal name value) = Ok (record { name = name; value = value })
 
--- a field and those behind it
+-- a field and those after it
 abbrev pub prepend_field : Result Field Fault → Result (List Field) Fault → Result (List Field) Fault
 prepend_field (Ok f) (Ok fs) = Ok (f ∷ fs)
 prepend_field (Ok f) (Err e) = Err e
@@ -94,18 +94,18 @@ pub record Block : Type 0 where
   pub prefix : Prefix
   pub lines : List Line
 
--- what a decoder answers: the fields and whether anything is required, that entries are missing, or a fault
+-- the reading of a decoder: the fields and whether anything is required, that entries are missing, or a fault
 pub data Reading : Type 0 where
   Fields : (fields : List Field) (is_dynamic : Bool) → Reading
   Missing : (required : ℕ) → Reading
   Faulty : (fault : Fault) → Reading
 
--- the answer for fields, or for the first fault
+-- the reading for fields, or for the first fault
 abbrev pub reading_of_fields : Result (List Field) Fault → Bool → Reading
 reading_of_fields (Ok fs) is_dynamic = Fields fs is_dynamic
 reading_of_fields (Err e) is_dynamic = Faulty e
 
--- the answer behind a prefix. The whole prefix is read first, so a base below 0 is told before missing entries
+-- the reading after a prefix. The whole prefix is read first, so a base below 0 is reported before missing entries
 abbrev pub reading_behind : Window → List Line → Result (ℕ × ℕ) PrefixFault → Reading
 reading_behind w lines (Err e) = Faulty (BadPrefix e)
 reading_behind w lines (Ok p) =

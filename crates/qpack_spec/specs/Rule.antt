@@ -1,4 +1,4 @@
--- How the encoder writes a field section: which line stands for each field, and what is inserted (RFC 9204, section
+-- How the encoder writes a field section: which line represents each field, and what is inserted (RFC 9204, section
 -- 2.1).
 use Rattle.std.specs.Prelude.{ℕ, ◌+◌, ◌-◌, if◌then◌else◌, ◌&&◌, nat_le, List, [], ◌∷◌, ◌++◌, length, drop, Option, None}
 use Rattle.std.specs.Prelude.{Some}
@@ -61,7 +61,7 @@ with_new_entry base d f =
       instructions = d.instructions ++ instruction_for f (entries_left d.table f) ∷ [];
     }
 
--- a literal with the name of an entry, which stood at the block's start or behind it
+-- a literal with the name of an entry, which was live at the block's start or came after it
 abbrev pub name_reference_line : ℕ → ℕ → Field → Line
 name_reference_line base a f = if nat_le a base then NamedDynamic (base - a) f.value else NamedPostBase
     (a - base - 1) f.value
@@ -110,7 +110,7 @@ rule_fields base d (f ∷ fs) = rule_fields base (rule_field base d f) fs
 abbrev pub empty_draft : Table → Draft
 empty_draft t = record { table = without_references t; lines = []; instructions = [] }
 
--- the block in progress behind the fields; its base is the count of insertions at its start
+-- the block in progress after the fields; its base is the count of insertions at its start
 unfoldable pub rule : Table → List Field → Draft
 rule t fs = rule_fields (insert_count t) (empty_draft t) fs
 
@@ -127,6 +127,6 @@ block_of t d =
       lines = d.lines;
     }
 
--- the table behind it
+-- the table after it
 abbrev pub committed_table : Draft → ℕ → Table
 committed_table d stream = commit d.table stream (required_insert_count d)

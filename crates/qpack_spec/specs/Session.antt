@@ -26,8 +26,8 @@ use Rattle.qpack_spec.specs.Stateless.{saturated_size}
 use Rattle.qpack_spec.specs.WrittenLaws.{IsByteField}
 use Rattle.qpack_spec.specs.Taking.{apply_in_turn, TakesAllOf}
 
--- a block: its bytes, the required insert count that was answered, how long the encoder stream was at its end, and the
--- fields that were handed to the encoder
+-- a block: its bytes, the required insert count that the encoder returned, how long the encoder stream was at its end,
+-- and the fields that were passed to the encoder
 pub record KeptBlock : Type 0 where
   pub bytes : List ℕ
   pub required : ℕ
@@ -60,7 +60,7 @@ pub record Session : Type 0 where
   pub decoder_stream_taken : ℕ
   pub streams : List (ℕ × KeptStream)
 
--- what may happen (the session's surface): a block is written, decoded, so many bytes of a stream are delivered, a
+-- what may happen (the session's surface): a block is written, decoded, this many bytes of a stream are delivered, a
 -- block is acknowledged, a stream cancelled, a capacity set
 pub data Event : Type 0 where
   Encode : (stream : ℕ) (fields : List Field) → Event
@@ -76,7 +76,7 @@ pub data StreamFault : Type 0 where
   BadBytes : (fault : FormFault) → StreamFault
   BadInstruction : (refusal : TableRefusal) → StreamFault
 
--- what an event answers; any that takes memory may be refused it. An encode answers the required insert count of its
+-- the outcome of an event; any that takes memory may be refused it. An encode returns the required insert count of its
 -- block; a decode the fields, the sum of their sizes and whether any entry is required, or how many insertions it waits
 -- for, or a fault
 pub data Outcome : Type 0 where
@@ -110,7 +110,7 @@ abbrev pub with_kept_stream : Session → ℕ → KeptStream → Session
 with_kept_stream v s k = record v { streams = with_stream v.streams s k }
 
 -- how a session begins: both tables empty and of this capacity, this maximum capacity agreed (sections 3.2.2 and
--- 3.2.3), and so many blocks may be blocked (section 2.1.2)
+-- 3.2.3), and at most this many blocks may be blocked (section 2.1.2)
 abbrev pub initial_session : ℕ → ℕ → ℕ → Session
 initial_session capacity maximum limit =
     record {
@@ -227,7 +227,7 @@ with_block v s fs =
       streams = with_stream v.streams s (record k { blocks = k.blocks ++ b ∷ [] });
     }
 
--- the session behind a block that was given up: its insertions stand and were written
+-- the session after a block that was given up: its insertions stay and were written
 abbrev pub after_refused_encode : Session → List Field → Session
 after_refused_encode v fs =
     let d = rule v.encoder fs in
@@ -237,15 +237,15 @@ after_refused_encode v fs =
           ++ written_encoder_instructions d.instructions;
     }
 
--- the session behind a decoded block
+-- the session after a decoded block
 abbrev pub with_decoded : Session → ℕ → Session
 with_decoded v s = let k = stream_at v.streams s in with_kept_stream v s (record k { decoded = k.decoded + 1 })
 
--- the table behind some instructions
+-- the table after some instructions
 abbrev pub apply_encoder_instructions : Table → List EncoderInstruction → Result Table TableRefusal
 apply_encoder_instructions t is = apply_in_turn apply_encoder_instruction t is
 
--- the table behind some decoder instructions
+-- the table after some decoder instructions
 abbrev pub apply_decoder_instructions : Table → List DecoderInstruction → Result Table TableRefusal
 apply_decoder_instructions t rs = apply_in_turn apply_decoder_instruction t rs
 
@@ -270,8 +270,8 @@ increment_sum (Increment n ∷ rs) = n + increment_sum rs
 abbrev pub IsPiece : ℕ → Type 0
 IsPiece n = (1 ≤ n) × (n ≤ 64)
 
--- the pieces in which so many insertions are reported (section 4.4.3): as many of 64 as there can be, and then the
--- rest, if there is one
+-- the pieces in which this many insertions are reported (section 4.4.3): as many of 64 as possible, and then the rest,
+-- if there is one
 unfoldable pub pieces_of : ℕ → List ℕ
 pieces_of many = replicate (many / 64) 64 ++ (if nat_eq (many % 64) 0 then [] else many % 64 ∷ [])
 
@@ -281,7 +281,7 @@ is_consumed (NoEntry relative) = false
 is_consumed (NoStaticField index) = false
 is_consumed refusal = true
 
--- the session when the next n bytes were delivered to the decoder, so many consumed, and this table made
+-- the session when the next n bytes were delivered to the decoder, this many consumed, and this table made
 abbrev pub with_decoder_moved : Session → ℕ → Table → ℕ → ℕ → List ℕ → Session
 with_decoder_moved v n t consumed unreported decoder_stream =
     record v {
@@ -296,8 +296,9 @@ with_decoder_moved v n t consumed unreported decoder_stream =
 abbrev pub unreported_after : Session → Table → ℕ
 unreported_after v t = v.unreported + (insert_count t - insert_count v.decoder)
 
--- how a delivery to the decoder ends, behind lines that it took: nothing whole is left, and its insertions are
--- reported; it is refused memory; the next bytes are refused; or the next instruction is. Refused, it reports nothing
+-- how a delivery to the decoder ends, after lines that it applied: nothing whole is left, and its insertions are
+-- reported; memory is refused; the next bytes are refused; or the next instruction is. If any of these is refused, it
+-- reports nothing
 pub data EndsAtDecoder (v : Session) (n : ℕ) (t : Table) (front rest : List ℕ) (o : Outcome) (v' : Session) : Type 0
   where
     takes_all : Truncates encoder_instruction_form rest
@@ -317,15 +318,14 @@ pub data EndsAtDecoder (v : Session) (n : ℕ) (t : Table) (front rest : List �
         (unreported_after v t) v.decoder_stream
         → EndsAtDecoder v n t front rest o v'
 
--- the next n bytes are delivered to the decoder, and offered behind those that it left; it takes instructions at their
--- front
+-- the next n bytes are delivered to the decoder, after those that it left; it applies instructions at their front
 pub record DeliversToDecoder (v : Session) (n : ℕ) (o : Outcome) (v' : Session) : Type 0 where
   pub table : Table
   pub takes : TakesAllOf encoder_instruction_form apply_encoder_instruction v.decoder table
       (drop v.encoder_stream_taken (take (v.encoder_stream_delivered + n) v.encoder_stream))
       (λ front rest. EndsAtDecoder v n table front rest o v')
 
--- the session when the next n bytes were delivered to the encoder, so many consumed, and this table made
+-- the session when the next n bytes were delivered to the encoder, this many consumed, and this table made
 abbrev pub with_encoder_moved : Session → ℕ → Table → ℕ → Session
 with_encoder_moved v n t consumed =
     record v {
@@ -349,8 +349,8 @@ pub data EndsAtEncoder (v : Session) (n : ℕ) (t : Table) (front rest : List �
       → o ≡ Refused (BadInstruction e) → v' ≡ with_encoder_moved v n t (length front + length encoding)
       → EndsAtEncoder v n t front rest o v'
 
--- the next n bytes are delivered to the encoder, and offered behind those that it left; it takes decoder instructions
--- at their front
+-- the next n bytes are delivered to the encoder, after those that it left; it applies decoder instructions at their
+-- front
 pub record DeliversToEncoder (v : Session) (n : ℕ) (o : Outcome) (v' : Session) : Type 0 where
   pub table : Table
   pub takes : TakesAllOf decoder_instruction_form apply_decoder_instruction v.encoder table
@@ -366,7 +366,7 @@ abbrev pub is_read : Option Reading → Bool
 is_read (Some (Fields fs b)) = true
 is_read read = false
 
--- what a decode answers for a reading; a sum of sizes is held at 2^64 - 1
+-- the outcome of a decode for a reading; a sum of sizes saturates at 2^64 - 1
 abbrev pub decode_outcome : Reading → Outcome
 decode_outcome (Fields fs is_dynamic) = Decoded fs (saturated_size (total_size fs)) is_dynamic
 decode_outcome (Missing required) = MissingReferences required
@@ -379,7 +379,7 @@ pub record DecodesNext (v : Session) (s : ℕ) (o : Outcome) (v' : Session) : Ty
   pub answers : o ≡ decode_outcome (reading_of_bytes (window v.decoder) block.bytes)
   pub moves : v' ≡ (if is_read (Some (reading_of_bytes (window v.decoder) block.bytes)) then with_decoded v s else v)
 
--- an encode that is refused memory behind some of its fields
+-- an encode that is refused memory after some of its fields
 pub record GivesUp (v : Session) (fields : List Field) (o : Outcome) (v' : Session) : Type 0 where
   pub many : ℕ
   pub answers : o ≡ NoMemory
@@ -403,7 +403,7 @@ pub record RefusesCapacity (v : Session) (n : ℕ) (o : Outcome) (v' : Session) 
   pub answers : o ≡ CapacityRefused refusal
   pub stays : v' ≡ v
 
--- the session behind an acknowledgment of a block, which is written
+-- the session after an acknowledgment of a block, which is written
 abbrev pub with_acknowledged : Session → ℕ → Session
 with_acknowledged v s =
     let k = stream_at v.streams s in
@@ -411,7 +411,7 @@ with_acknowledged v s =
       decoder_stream = v.decoder_stream ++ written_decoder_instruction (Acknowledgment s);
     }
 
--- the session behind a cancellation of a stream, which is written
+-- the session after a cancellation of a stream, which is written
 abbrev pub with_cancelled : Session → ℕ → Session
 with_cancelled v s =
     let k = stream_at v.streams s in
@@ -439,7 +439,7 @@ pub record Skips (v : Session) (e : Event) (o : Outcome) (v' : Session) : Type 0
   pub answers : o ≡ Skipped reason
   pub stays : v' ≡ v
 
--- an event, what it answers, and the session behind it: skipped for the first reason that applies, or done
+-- an event, its outcome, and the session after it: skipped for the first reason that applies, or done
 abbrev pub Step : Session → Event → Outcome → Session → Type 0
 Step v e o v' = Skips v e o v' ⊎ ((skip_reason v e ≡ None) × LawfulStep v e o v')
 
@@ -453,13 +453,13 @@ pub record FitsMemory (v : Session) : Type 0 where
   pub encoder_stream_fits : length v.encoder_stream < 2 ^ 63
   pub blocks_fit : (s : ℕ) → AllByRecursion (λ b. length b.bytes < 2 ^ 63) (stream_at v.streams s).blocks
 
--- an event of a run: names and values are bytes, and what is kept behind it fits memory
+-- an event of a run: names and values are bytes, and what is kept after it fits memory
 pub record Passes (v : Session) (e : Event) (o : Outcome) (v' : Session) : Type 0 where
   pub has_bytes : IsByteEvent e
   pub goes : Step v e o v'
   pub fits : FitsMemory v'
 
--- events in turn, each with its answer, lead from a session to another
+-- events in turn, each with its outcome, lead from a session to another
 abbrev pub Run : Session → List (Event × Outcome) → Session → Type 0
 Run v [] v' = v ≡ v'
 Run v (p ∷ ps) v' = (next : Session) × Passes v p.0 p.1 next × Run next ps v'

@@ -1,11 +1,11 @@
--- What stands behind a session's definitions, as statements; the crate's law functions promise them.
+-- The laws of a session's definitions, as statements; the crate's law functions promise them.
 use Rattle.std.specs.Prelude.{◌≡◌, ◌<◌, ◌≤◌, ◌^◌, ◌↔◌, ℕ, true, false, length, filter, take, Some}
 use Rattle.qpack_spec.specs.Session.{sum_of, IsPiece, pieces_of, KeptStream, requires_entry, stream_at, skip_reason}
 use Rattle.qpack_spec.specs.Session.{Session, Event, Encode, Decode, ToDecoder, ToEncoder, Acknowledge, Cancel}
 use Rattle.qpack_spec.specs.Session.{ChangeCapacity, Outcome, NoMemory, Step}
 use Rattle.std.specs.List.{AllByRecursion}
 
--- every event has an answer at every session, without a refusal for memory: so what is promised of all answers is no
+-- every event has an outcome at every session, without a refusal for memory: so what is promised of all outcomes is no
 -- empty promise
 abbrev pub EventsHaveAnswers : Type 0
 EventsHaveAnswers = (v : Session) (e : Event) → (o : Outcome) × (v' : Session) × Step v e o v' × (o ≡ NoMemory → ⊥)

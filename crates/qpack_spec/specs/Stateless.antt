@@ -1,5 +1,5 @@
--- Field sections that reference no entry: what is written with no table at hand, and read so (RFC 9204, sections 2.1
--- and 4.5).
+-- Field sections that reference no entry: what is written without a table, and read so (RFC 9204, sections 2.1 and
+-- 4.5).
 use Rattle.std.specs.Prelude.{◌≡◌, ℕ, zero, suc, ◌+◌, ◌-◌, ◌^◌, min, false, if◌then◌else◌, nat_lt, List, [], ◌∷◌}
 use Rattle.std.specs.Prelude.{length, map, Option, None, Some, Result, Ok, Err}
 use Rattle.std.specs.List.{AllByRecursion}
@@ -26,11 +26,11 @@ abbrev pub stateless_line_of : Field → Option ℕ → Line
 stateless_line_of f (Some i) = IndexedStatic i
 stateless_line_of f None = stateless_literal f (static_name_index f.name)
 
--- the line of a field where no entry is at hand
+-- the line of a field without entries
 abbrev pub stateless_line : Field → Line
 stateless_line f = stateless_line_of f (static_index f)
 
--- the block of fields where no entry is at hand: nothing is required
+-- the block of fields without entries: nothing is required
 abbrev pub stateless_block : List Field → Block
 stateless_block fs =
     record { prefix = record { count = 0; sign = false; delta = 0 }; lines = map (λ f. stateless_line f) fs }
@@ -69,8 +69,8 @@ within_limit limit sum f =
     if nat_lt limit (saturated_size (sum + field_size f)) then Err
     (TooLong (saturated_size (sum + field_size f))) else Ok f
 
--- the fields of the lines in turn, in so many steps at most; a post-base line, whose first bits are 000, is refused by
--- its first byte alone
+-- the fields of the lines in turn, in at most this many steps; a post-base line, whose first bits are 000, is refused
+-- by its first byte alone
 unfoldable pub stateless_at : ℕ → ℕ → ℕ → List ℕ → Result (List Field) StatelessFault
 stateless_at steps limit sum [] = Ok []
 stateless_at zero limit sum (b ∷ bytes) = Ok []
@@ -79,7 +79,8 @@ stateless_at (suc steps) limit sum (b ∷ bytes) =
     else (or_bad_bytes (form_at line_form (b ∷ bytes)) >>= λ r. stateless_field r.0 >>= λ f. within_limit limit sum f
     >>= λ g. stateless_at steps limit (sum + field_size g) r.1 >>= λ fs. Ok (g ∷ fs))
 
--- what the bytes of a section mean alone, with a limit on the sum of sizes; the prefix is read, whatever it says
+-- what the bytes of a section mean alone, with a limit on the sum of sizes; the prefix is read, and its values are
+-- ignored
 unfoldable pub stateless_reading : ℕ → List ℕ → Result (List Field) StatelessFault
 stateless_reading limit bytes = or_bad_bytes (prefix_at bytes) >>= λ p. stateless_at (length p.1) limit 0 p.1
 

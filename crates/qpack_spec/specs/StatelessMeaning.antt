@@ -1,5 +1,5 @@
--- What a field section means where no table is at hand, up to a limit on the sum of sizes (RFC 9204, sections 2.2.1,
--- 3.2.1 and 4.5): its prefix and its lines, or the first fault in reading order.
+-- What a field section means without a table, up to a limit on the sum of sizes (RFC 9204, sections 2.2.1, 3.2.1 and
+-- 4.5): its prefix and its lines, or the first fault in reading order.
 use Rattle.std.specs.Prelude.{◌≡◌, ℕ, ◌+◌, ◌<◌, ◌≤◌, ◌↔◌, Bool, false, List, [], ◌∷◌, ◌++◌, Option, Result, Ok, Err}
 use Rattle.qpack_spec.specs.Field.{Field, field_size, total_size}
 use Rattle.qpack_spec.specs.Form.{FormFault, form_at}
@@ -17,7 +17,7 @@ use Rattle.qpack_spec.specs.Stateless.{stateless_reading, up_to_limit}
 abbrev pub SpellsStatelessField : List ℕ → Field → Type 0
 SpellsStatelessField encoding f = (l : Line) × SpellsLine encoding l × (stateless_field l ≡ Ok f)
 
--- the bytes are a prefix, whatever it says, and lines that mean the fields, whose sizes sum to at most the limit
+-- the bytes are a prefix with any values, and lines that mean the fields, whose sizes sum to at most the limit
 pub record MeansStateless (limit : ℕ) (bytes : List ℕ) (fields : List Field) : Type 0 where
   pub head : List ℕ
   pub lines : List ℕ
@@ -28,7 +28,7 @@ pub record MeansStateless (limit : ℕ) (bytes : List ℕ) (fields : List Field)
   pub within : saturated_size (total_size fields) ≤ limit
 
 -- why the next line gives no field, the sizes so far having this sum: its first byte says that it is a post-base line,
--- its bytes can't be read, it means nothing alone, or its field passes the limit
+-- its bytes can't be read, it has no meaning alone, or its field passes the limit
 pub data StopsLine (limit sum first : ℕ) (more : List ℕ) (e : StatelessFault) : Type 0 where
   post_base : first < 32 → e ≡ NamesEntry → StopsLine limit sum first more e
   in_bytes : 32 ≤ first → (fault : FormFault) → form_at line_form (first ∷ more) ≡ Err fault
@@ -39,7 +39,7 @@ pub data StopsLine (limit sum first : ℕ) (more : List ℕ) (e : StatelessFault
       → limit < saturated_size (sum + field_size f) → e ≡ TooLong (saturated_size (sum + field_size f))
       → StopsLine limit sum first more e
 
--- behind lines that mean fields, within the limit, the next line gives none
+-- after lines that mean fields, within the limit, the next line gives none
 pub record StopsBehind (limit sum : ℕ) (lines : List ℕ) (e : StatelessFault) : Type 0 where
   pub front : List ℕ
   pub first : ℕ
@@ -50,7 +50,7 @@ pub record StopsBehind (limit sum : ℕ) (lines : List ℕ) (e : StatelessFault)
   pub within : saturated_size (sum + total_size so_far) ≤ limit
   pub stops : StopsLine limit (sum + total_size so_far) first more e
 
--- why a section means nothing: its prefix can't be read, or a line stops it
+-- why a section is malformed: its prefix can't be read, or a line stops it
 pub data StopsStateless (limit : ℕ) (bytes : List ℕ) (e : StatelessFault) : Type 0 where
   in_prefix : (fault : FormFault) → prefix_at bytes ≡ Err fault → e ≡ BadSection (BadForm fault)
       → StopsStateless limit bytes e
@@ -88,8 +88,8 @@ pub data NamesNoEntry (bytes : List ℕ) (e : Fault) : Type 0 where
       → form_at line_form (first ∷ more) ≡ Err fault → e ≡ BadForm fault → NamesNoEntry bytes e
 
 -- what bytes are read as alone, with what they are read as under an empty table of capacity 0: the same fields, of
--- which none requires an entry; the same fault; a fault for a line that references an entry. Past the limit fields or a
--- fault may stand there
+-- which none requires an entry; the same fault; a fault for a line that references an entry. Past the limit the other
+-- reading may be fields or a fault
 abbrev pub AgreesWithoutTable : List ℕ → Result (List Field) StatelessFault → Reading → Type 0
 AgreesWithoutTable bytes (Ok fs) r = r ≡ Fields fs false
 AgreesWithoutTable bytes (Err (BadSection e)) r = r ≡ Faulty e

@@ -8,15 +8,15 @@ use Rattle.qpack_spec.specs.StaticTable.{static_name_index}
 abbrev pub StaticTableHas99 : Type 0
 StaticTableHas99 = length static_table ≡ 99
 
--- no field stands there twice
+-- no field is in the static table twice
 abbrev pub StaticFieldsDiffer : Type 0
 StaticFieldsDiffer = (i j : ℕ) (f : Field) → IsStaticAt i f → IsStaticAt j f → i ≡ j
 
--- looking for a field finds its index, or there is none
+-- looking up a field finds its index, or there is none
 abbrev pub StaticIndexIsLeast : Type 0
 StaticIndexIsLeast = (f : Field) → MatchOption (static_index f) (NoStatic (λ g. g ≡ f)) (IsLeastStatic (λ g. g ≡ f))
 
--- looking for a name finds the least index of a field with it, or there is none
+-- looking up a name finds the least index of a field with it, or there is none
 abbrev pub StaticNameIndexIsLeast : Type 0
 StaticNameIndexIsLeast =
     (name : List ℕ) → MatchOption (static_name_index name) (NoStatic (λ g. g.name ≡ name))

@@ -2,7 +2,7 @@
 -- block's.
 use Rattle.std.specs.Prelude.{◌≡◌, ℕ, List, [], ◌∷◌, ◌++◌, length}
 
--- the bytes are spellings of the lines, one behind the other
+-- the bytes are spellings of the lines, one after the other
 abbrev pub SpellsAll : {L : Type 0} → (List ℕ → L → Type 0) → List ℕ → List L → Type 0
 SpellsAll Spells bytes [] = bytes ≡ []
 SpellsAll Spells bytes (l ∷ ls) =
@@ -12,7 +12,7 @@ SpellsAll Spells bytes (l ∷ ls) =
 abbrev pub IsCutOff : {L : Type 0} → (List ℕ → L → Type 0) → List ℕ → Type 0
 IsCutOff {L} Spells rest = (encoding more : List ℕ) (l : L) → rest ≡ encoding ++ more → Spells encoding l → ⊥
 
--- the lines of a byte list, and the rest behind them, of which no front is a line
+-- the lines of a byte list, and the rest after them, of which no front is a line
 pub record Holds (L : Type 0) (Spells : List ℕ → L
     → Type 0) (bytes : List ℕ) (lines : List L) (rest : List ℕ) : Type 0 where
   pub front : List ℕ

@@ -10,8 +10,8 @@ StreamsHaveOneReading {L} form_of =
     (bytes : List ℕ) (ls ms : List L) (rest more : List ℕ) → Holds L (λ t l. Spells L form_of t l) bytes ls rest
     → Holds L (λ t l. Spells L form_of t l) bytes ms more → (ls ≡ ms) × (rest ≡ more)
 
--- of bytes that are lines, whatever piece comes first holds the first of them, and the others are those of what it
--- leaves with the bytes behind the piece
+-- of bytes that are lines, any first piece holds the first of them, and the others are those of what it leaves with the
+-- bytes after the piece
 abbrev pub PiecesHoldFronts : {L : Type 0} → (ℕ → Option (Form L)) → Type 0
 PiecesHoldFronts {L} form_of =
     (piece behind : List ℕ) (all ls : List L) (rest : List ℕ)

@@ -51,8 +51,8 @@ oldest_required stream bs = option_map required_by (find (λ b. nat_eq b.stream 
 abbrev pub known_at_least : ℕ → Table → Table
 known_at_least count t = with_increment t (count - t.known_received_count)
 
--- what a strict encoder makes of a decoder instruction: an acknowledgment tells too that all was received that its
--- section required (section 2.1.4), and an increment is of 1 at least and of insertions that were made (section 4.4.3)
+-- what a strict encoder makes of a decoder instruction: an acknowledgment also reports as received all that its section
+-- required (section 2.1.4), and an increment is of 1 at least and of insertions that were made (section 4.4.3)
 unfoldable pub strict_hear : Table → DecoderInstruction → Result Table HearingRefusal
 strict_hear t (Acknowledgment stream) =
     or_unknown stream (apply_decoder_instruction t (Acknowledgment stream))
@@ -63,7 +63,7 @@ strict_hear t (Increment by) =
     else if nat_lt (insert_count t) (t.known_received_count + by) then Err (PastInsertions by)
     else Ok (with_increment t by)
 
--- the table behind some instructions
+-- the table after some instructions
 abbrev pub hear_in_turn : Table → List DecoderInstruction → Result Table HearingRefusal
 hear_in_turn t [] = Ok t
 hear_in_turn t (i ∷ is) = strict_hear t i >>= λ u. hear_in_turn u is

@@ -1,7 +1,7 @@
 -- What a field section means to a strict decoder with a limit on its fields' sizes, each field with whether it is to
 -- stay a literal (RFC 9204, sections 2.2.1, 2.2.3, 4.5 and 7.1.3). It is the reading of the section, refused in some
--- cases more: a section longer than any within the limit, unread; a count where no entry can ever stand; a base below 0
--- where nothing is required; a line that references an entry past the required insert count; and a field at which the
+-- more cases: a section longer than any within the limit, unread; a count if there can never be an entry; a base below
+-- 0 if nothing is required; a line that references an entry past the required insert count; and a field at which the
 -- sizes pass the limit.
 use Rattle.std.specs.Prelude.{◌≡◌, ℕ, zero, suc, ◌+◌, ◌-◌, ◌/◌, ◌%◌, ◌^◌, ◌≤◌, ◌⊎◌, Bool, true, false}
 use Rattle.std.specs.Prelude.{if◌then◌else◌, ◌&&◌, nat_lt, nat_le, nat_eq, min, negsuc, List, [], ◌∷◌, length, map}
@@ -46,7 +46,7 @@ pub data SectionFault : Type 0 where
   CountAtZero : SectionFault
   InLine : (number offset : ℕ) (fault : LineFault) → SectionFault
 
--- what a strict decoder answers: the fields and the required insert count, the count where that exceeds the insertions
+-- the reading of a strict decoder: the fields and the required insert count, the count if it exceeds the insertions
 -- that were received, or a fault
 pub data StrictReading : Type 0 where
   Read : (fields : List FieldLine) (required : ℕ) → StrictReading
@@ -85,14 +85,14 @@ strict_field u l =
     then or_meaningless (line_field u.window u.base l)
     else Err (PastRequired (greatest_of (references_of_line u.base l)))
 
--- the field of the next line, which begins with this byte, and the bytes behind it; the sizes so far have this sum
+-- the field of the next line, which begins with this byte, and the bytes after it; the sizes so far have this sum
 unfoldable pub strict_line_at : LinesUnder → ℕ → ℕ → List ℕ → Result (FieldLine × List ℕ) LineFault
 strict_line_at u sum first more =
     or_meaningless (or_bad_form (form_at line_form (first ∷ more))) >>= λ r. strict_field u r.0
     >>= λ f. within_size u.limit sum f
     >>= λ g. Ok (record { field = g; never_indexed = is_never_indexed first }, r.1)
 
--- the fields of the lines in turn, in so many steps at most; so many lines were read, whose sizes have this sum
+-- the fields of the lines in turn, in at most this many steps; `number` lines were read, whose sizes have this sum
 unfoldable pub strict_lines_at : ℕ → LinesUnder → ℕ → ℕ → List ℕ → Result (List FieldLine) SectionFault
 strict_lines_at steps u number sum [] = Ok []
 strict_lines_at zero u number sum (b ∷ bytes) = Ok []
@@ -100,12 +100,12 @@ strict_lines_at (suc steps) u number sum (b ∷ bytes) =
     or_in_line (suc number) (u.section - length (b ∷ bytes)) (strict_line_at u sum b bytes)
     >>= λ r. strict_lines_at steps u (suc number) (sum + field_size r.0.field) r.1 >>= λ fs. Ok (r.0 ∷ fs)
 
--- the answer for the fields of the lines, or for the first fault
+-- the reading for the fields of the lines, or for the first fault
 abbrev pub lines_behind : ℕ → Result (List FieldLine) SectionFault → StrictReading
 lines_behind required (Ok fs) = Read fs required
 lines_behind required (Err e) = Refused e
 
--- the answer behind a prefix that was read; each line takes a byte at least
+-- the reading after a prefix that was read; each line takes a byte at least
 abbrev pub strict_behind : Window → ℕ → ℕ → List ℕ → Result (ℕ × ℕ) PrefixFault → StrictReading
 strict_behind w limit section rest (Err e) = Refused (InPrefix (BadPrefix e))
 strict_behind w limit section rest (Ok p) =
@@ -114,7 +114,7 @@ strict_behind w limit section rest (Ok p) =
     (strict_lines_at (length rest)
     (record { window = w; required = p.0; base = p.1; limit = limit; section = section }) 0 0 rest)
 
--- the answer where a prefix stands in front, or none
+-- the reading if a prefix is at the front, or none is
 abbrev pub strict_section_behind : Window → ℕ → ℕ → Result (Prefix × List ℕ) FormFault → StrictReading
 strict_section_behind w limit section (Err e) = Refused (InPrefix (BadForm e))
 strict_section_behind w limit section (Ok p) =
@@ -130,8 +130,8 @@ strict_reading w limit bytes =
 
 -- ---- what is promised
 
--- what the reading of a section is where a strict decoder answers so: the fields, the count and the fault of what both
--- read are the same; nothing is said where the strict one alone refuses
+-- what the reading of a section is if a strict decoder reads it so: the fields, the count and the fault of what both
+-- read are the same; it says nothing if only the strict one refuses
 abbrev pub SaysReading : Reading → StrictReading → Type 0
 SaysReading r (Read fields required) = r ≡ Fields (fields_of_lines fields) (nat_lt 0 required)
 SaysReading r (Blocked required) = r ≡ Missing required
@@ -161,15 +161,14 @@ pub record RefusesBelowZero (w : Window) (bytes : List ℕ) (r : StrictReading) 
   pub below : IsBelowZero (window_insert_count w) (maximum_capacity w.agreed_max w.capacity) prefix
   pub refused : r ≡ Refused (InPrefix (BadPrefix (BelowZero (negsuc (min prefix.delta (2 ^ 63 - 1))))))
 
--- a strict decoder answers what the section means, or refuses it; it refuses a base below 0 also where nothing is
--- required
+-- a strict decoder reads what the section means, or refuses it; it refuses a base below 0 also if nothing is required
 abbrev pub StrictReadingsAreReadings : Type 0
 StrictReadingsAreReadings =
     (w : Window) (limit : ℕ) (bytes : List ℕ)
     → SaysReading (reading_of_bytes w bytes) (strict_reading w limit bytes)
     ⊎ RefusesBelowZero w bytes (strict_reading w limit bytes)
 
--- and what it answers is within the limit
+-- what a strict decoder reads is within the limit
 abbrev pub StrictReadingsAreWithin : Type 0
 StrictReadingsAreWithin =
     (w : Window) (limit : ℕ) (bytes : List ℕ) (fields : List FieldLine) (required : ℕ)

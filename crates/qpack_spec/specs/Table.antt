@@ -117,11 +117,11 @@ unfoldable pub all_evictable : Table → ℕ → List Entry → Bool
 all_evictable t a [] = true
 all_evictable t a (e ∷ es) = if is_evictable t a e.sent then all_evictable t (suc a) es else false
 
--- so many of the oldest entries are evictable
+-- this many of the oldest entries are evictable
 abbrev pub can_evict : Table → ℕ → Bool
 can_evict t evicted = all_evictable t (suc t.dropped) (take evicted t.live)
 
--- how many entries go before a field stands (section 3.2.2)
+-- how many entries are evicted for a field (section 3.2.2)
 abbrev pub eviction_count_for : Table → Field → ℕ
 eviction_count_for t f = eviction_count t.capacity (fields_in t.live ++ f ∷ [])
 
@@ -163,8 +163,8 @@ last_position p (x ∷ xs) = later_position (last_position p xs) (p x)
 unfoldable pub newest_index : Table → (Field → Bool) → Option ℕ
 newest_index t p = option_map (λ i. t.dropped + i + 1) (last_position p (fields_in t.live))
 
--- a field is put: passed over at capacity 0, behind the 2^62th insertion and where an entry that is not evictable would
--- have to be evicted, refused if it is larger than the capacity (section 3.2.2)
+-- a field is inserted by a decoder: nothing happens at capacity 0, after the 2^62th insertion and if an entry that is
+-- not evictable would be evicted, and a field larger than the capacity is refused (section 3.2.2)
 unfoldable pub put : Table → Field → Result Table TableRefusal
 put t f =
     if nat_eq t.capacity 0 then Ok t

@@ -1,5 +1,5 @@
--- String literals with a prefix of n bits, n from 2 to 8: a flag, a length, and so many bytes, plain or coded
--- (RFC 7541, section 5.2; RFC 9204, section 4.1.2).
+-- String literals with a prefix of n bits, n from 2 to 8: a flag, a length, and that many bytes, plain or coded (RFC
+-- 7541, section 5.2; RFC 9204, section 4.1.2).
 use Rattle.std.specs.Prelude.{◌≡◌, ℕ, ◌+◌, ◌-◌, ◌*◌, ◌/◌, ◌%◌, ◌⊎◌, List, ◌++◌, length, take, drop, Result, Ok, Err}
 use Rattle.std.specs.Prelude.{[], ◌≢◌, ◌<◌, nat_lt, ◌==◌, if◌then◌else◌}
 use Rattle.qpack_spec.specs.Integer.{IntegerFault, Overflow, UnexpectedEnd, SpellsInteger, OverflowsInteger, integer_at}
@@ -35,7 +35,7 @@ SpellsString n encoding flags value =
     IsLiteral n encoding flags 0 value ⊎ ((payload : List ℕ) × IsLiteral n encoding flags 1 payload
     × PayloadMeans payload value)
 
--- the bytes are refused: the length overflows, or a whole coded payload means nothing
+-- the bytes are refused: the length overflows, or a whole coded payload is malformed
 abbrev pub RefusesString : ℕ → List ℕ → StringFault → Type 0
 RefusesString n encoding EndsEarly = ⊥
 RefusesString n encoding LengthOverflows = OverflowsInteger (n - 1) encoding
@@ -56,7 +56,7 @@ abbrev pub value_before : ℕ → List ℕ → Result (List ℕ) HuffmanFault �
 value_before flags rest (Ok value) = Ok (flags, value, rest)
 value_before flags rest (Err fault) = Err (BadHuffman fault)
 
--- the string behind its length, where the length's lowest flag says whether the payload is coded
+-- the string after its length, where the length's lowest flag says whether the payload is coded
 abbrev pub payload_at : ℕ → ℕ → List ℕ → Result (ℕ × List ℕ × List ℕ) StringFault
 payload_at flags len bytes =
     if nat_lt (length bytes) len then Err EndsEarly
@@ -69,7 +69,7 @@ string_behind (Err Overflow) = Err LengthOverflows
 string_behind (Err UnexpectedEnd) = Err EndsEarly
 string_behind (Ok x) = payload_at x.0 x.1 x.2
 
--- the flags, the value, and the bytes behind the string
+-- the flags, the value, and the bytes after the string
 unfoldable pub string_at : ℕ → List ℕ → Result (ℕ × List ℕ × List ℕ) StringFault
 string_at n bytes = string_behind (integer_at (n - 1) bytes)
 

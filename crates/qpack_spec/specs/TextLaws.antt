@@ -37,7 +37,7 @@ WrittenStringsAreLiterals =
     (n flags : ℕ) (value : List ℕ) → IsWritableString n flags value
     → SpellsString n (written_string n flags value) flags value
 
--- and is read back whole, whatever follows
+-- the written string is read back whole, whatever follows
 abbrev pub WrittenStringsAreReadBack : Type 0
 WrittenStringsAreReadBack =
     (n flags : ℕ) (value rest encoding more : List ℕ) (f : ℕ) (v : List ℕ) → IsWritableString n flags value
@@ -51,7 +51,7 @@ ReadingFindsStrings =
     → (string_at n bytes ≡ Ok (flags, value, rest)) ↔ ((encoding : List ℕ) × (bytes ≡ encoding ++ rest)
     × SpellsString n encoding flags value)
 
--- each refusal exactly where it stands
+-- each refusal is found exactly if the bytes have it
 abbrev pub ReadingFindsRefusals : Type 0
 ReadingFindsRefusals =
     (n : ℕ) (bytes : List ℕ)

@@ -8,7 +8,7 @@ use Rattle.qpack_spec.specs.Instruction.{encoder_instruction_form}
 
 -- ---- how many bytes
 
--- of a string whose length was read, behind which `rest` stands of `seen` bytes in all: the bytes up to its end
+-- of a string whose length was read, with `rest` after it of `seen` bytes in all: the bytes up to its end
 abbrev pub string_end : ℕ → ℕ → List ℕ → ℕ
 string_end seen len rest = seen - length rest + len
 
@@ -17,27 +17,27 @@ abbrev pub value_wanted : ℕ → Result (ℕ × ℕ × List ℕ) IntegerFault �
 value_wanted seen (Err e) = suc seen
 value_wanted seen (Ok x) = string_end seen x.1 x.2
 
--- the same behind an index, if that was read
+-- how many bytes are needed for a value after an index, if that was read
 abbrev pub value_behind_index_wanted : ℕ → Result (ℕ × ℕ × List ℕ) IntegerFault → ℕ
 value_behind_index_wanted seen (Err e) = suc seen
 value_behind_index_wanted seen (Ok i) = value_wanted seen (integer_at 7 i.2)
 
--- the same behind a name. One that isn't whole is wanted to its end, where it may be refused if it is coded; else its
--- value takes a byte more
+-- how many bytes are needed for a value after a name. If the name isn't whole: up to its end if it is coded, where it
+-- may be refused, and one byte more, of the value, if it is plain
 abbrev pub value_behind_name_wanted : ℕ → Result (ℕ × ℕ × List ℕ) IntegerFault → ℕ
 value_behind_name_wanted seen (Err e) = suc seen
 value_behind_name_wanted seen (Ok x) =
     if nat_lt (length x.2) x.1 then (if x.0 % 2 == 0 then suc (string_end seen x.1 x.2) else string_end seen x.1 x.2)
     else value_wanted seen (integer_at 7 (drop x.1 x.2))
 
--- how many bytes there must be in all before anything can stand in the form, or be refused
+-- how many bytes there must be in all before the form can be whole, or be refused
 abbrev pub wanted_in : {L : Type 0} → Option (Form L) → List ℕ → ℕ
 wanted_in None bytes = suc (length bytes)
 wanted_in (Some (Index n make)) bytes = suc (length bytes)
 wanted_in (Some (IndexAndValue n make)) bytes = value_behind_index_wanted (length bytes) (integer_at n bytes)
 wanted_in (Some (NameAndValue n make)) bytes = value_behind_name_wanted (length bytes) (integer_at (n - 1) bytes)
 
--- the same of an encoder instruction that begins so
+-- how many bytes an encoder instruction that begins so needs in all
 unfoldable pub wanted : List ℕ → ℕ
 wanted [] = 1
 wanted (b ∷ bytes) = wanted_in (encoder_instruction_form b) (b ∷ bytes)
@@ -54,12 +54,12 @@ abbrev pub least_string : Result (ℕ × ℕ × List ℕ) IntegerFault → ℕ
 least_string (Err e) = 0
 least_string (Ok x) = least_text x.0 x.1
 
--- the same of a value behind an index
+-- the least length of a value after an index
 abbrev pub least_value_behind_index : Result (ℕ × ℕ × List ℕ) IntegerFault → ℕ
 least_value_behind_index (Err e) = 0
 least_value_behind_index (Ok i) = least_string (integer_at 7 i.2)
 
--- the same of a name and a value
+-- the least length of a name and a value
 abbrev pub least_name_and_value : Result (ℕ × ℕ × List ℕ) IntegerFault → ℕ
 least_name_and_value (Err e) = 0
 least_name_and_value (Ok x) =
@@ -74,7 +74,7 @@ least_size_in (Some (Index n make)) bytes = 0
 least_size_in (Some (IndexAndValue n make)) bytes = least_value_behind_index (integer_at n bytes) + 32
 least_size_in (Some (NameAndValue n make)) bytes = least_name_and_value (integer_at (n - 1) bytes) + 32
 
--- the same of an encoder instruction that begins so
+-- the least size of the field that an encoder instruction inserts that begins so
 unfoldable pub least_field_size : List ℕ → ℕ
 least_field_size [] = 0
 least_field_size (b ∷ bytes) = least_size_in (encoder_instruction_form b) (b ∷ bytes)

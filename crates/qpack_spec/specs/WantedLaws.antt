@@ -8,13 +8,13 @@ use Rattle.qpack_spec.specs.Instruction.{EncoderInstruction, InsertStaticName, I
 use Rattle.qpack_spec.specs.Instruction.{Duplicate, SetCapacity, encoder_instruction_form, SpellsEncoderInstruction}
 use Rattle.qpack_spec.specs.Wanted.{wanted, least_field_size}
 
--- a truncated instruction stays one until so many bytes are there
+-- a truncated instruction stays truncated until this many bytes are there
 abbrev pub NothingStandsBeforeWanted : Type 0
 NothingStandsBeforeWanted =
     (bytes more : List ℕ) → Truncates encoder_instruction_form bytes → length (bytes ++ more) < wanted bytes
     → Truncates encoder_instruction_form (bytes ++ more)
 
--- the least size of the field that an instruction inserts, whatever name it references
+-- the least size of the field that an instruction inserts, with any name that it references
 unfoldable pub size_of_strings : EncoderInstruction → ℕ
 size_of_strings (InsertStaticName index value) = length value + 32
 size_of_strings (InsertDynamicName relative value) = length value + 32
@@ -29,7 +29,7 @@ FieldsAreAsLarge =
     → bytes ++ more ≡ encoding ++ rest → SpellsEncoderInstruction encoding i
     → least_field_size bytes ≤ size_of_strings i
 
--- the bytes that are wanted of one whose field may fit are bounded by the capacity
+-- the bytes that are needed for one whose field may fit are bounded by the capacity
 abbrev pub WaitingBytesAreFew : Type 0
 WaitingBytesAreFew =
     (bytes : List ℕ) (capacity : ℕ) → AreBytes bytes → Truncates encoder_instruction_form bytes

@@ -46,9 +46,9 @@ unfoldable pub eviction_count : ℕ → List Field → ℕ
 eviction_count capacity [] = 0
 eviction_count capacity (f ∷ fs) = if nat_le (total_size (f ∷ fs)) capacity then 0 else suc (eviction_count capacity fs)
 
--- why an instruction is refused: it references no live entry or no static field, a field is larger than the capacity or
--- a an entry that is not evictable stands against a capacity, a capacity is above the greatest one, or no block of the
--- stream is open
+-- why an instruction is refused: it references no live entry or no static field, a field is larger than the capacity, a
+-- capacity would evict an entry that is not evictable, a capacity is above the greatest one, or no block of the stream
+-- is open
 pub data TableRefusal : Type 0 where
   NoEntry : (relative : ℕ) → TableRefusal
   NoStaticField : (index : ℕ) → TableRefusal
@@ -71,7 +71,7 @@ or_refusal (Some x) e = Ok x
 abbrev pub with_value : List ℕ → Field → Field
 with_value value f = record { name = f.name; value = value }
 
--- an insertion at capacity 0 or behind the 2^62th is passed over, one larger than the capacity is refused
+-- an insertion at capacity 0 or after the 2^62th does nothing, one larger than the capacity is refused
 unfoldable pub insertion : Window → Field → Result Effect TableRefusal
 insertion w f =
     if nat_eq w.capacity 0 then Ok Ignored

@@ -68,7 +68,7 @@ IsByteLine (NamedDynamic relative value) = IsSmall relative × AreBytes value
 IsByteLine (NamedPostBase post_base value) = IsSmall post_base × AreBytes value
 IsByteLine (Literal name value) = AreBytes name × AreBytes value
 
--- the same of an encoder instruction
+-- the numbers of the encoder instruction are small, its strings bytes
 abbrev pub IsByteEncoderInstruction : EncoderInstruction → Type 0
 IsByteEncoderInstruction (InsertStaticName index value) = IsSmall index × AreBytes value
 IsByteEncoderInstruction (InsertDynamicName relative value) = IsSmall relative × AreBytes value

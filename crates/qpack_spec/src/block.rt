@@ -8,7 +8,7 @@ ghost use Rattle.qpack_spec.specs.StrictReading.{StrictReadingsAreReadings, Stri
 ghost use Rattle.qpack_spec.specs.StrictReading.{StrictPrefixesAgree, StrictSectionsAreRead};
 ghost use Rattle.qpack_spec.specs.WrittenLaws.{WrittenPrefixesAreSpellings, WrittenBlocksAreRead};
 
-/// An encoded count stands for one required insert count at most, and that is the one that is computed.
+/// An encoded count means one required insert count at most, and that is the one that is computed.
 pub fn counts_have_one_reading()
     ensures one { CountsHaveOneReading }
     ensures computed { CountsAreRead }
@@ -37,16 +37,16 @@ pub fn sections_are_short()
     ensures alone { StatelessSectionsAreShort }
 {}
 
-/// A strict decoder answers what a section means, or refuses it; and what it answers is within its limit. It reads a
-/// prefix as any reader does, except one that requires nothing and has the sign bit, whose base it refuses.
+/// A strict decoder reads what a section means, or refuses it; and what it reads is within its limit. It reads a prefix
+/// as any reader does, except one that requires nothing and has the sign bit, whose base it refuses.
 pub fn strict_readings_are_readings()
     ensures read { StrictReadingsAreReadings }
     ensures within { StrictReadingsAreWithin }
     ensures prefixes { StrictPrefixesAgree }
 {}
 
-/// And it reads every section that is written so, keeps to its required insert count, and is within the limit, with the
-/// marks of its fields; or says that it is blocked, while it requires more than was received.
+/// A strict decoder reads every section that is written so, follows its required insert count, and is within the limit,
+/// with the marks of its fields. While the section requires more than was received, it reads that it is blocked.
 pub fn strict_sections_are_read()
     ensures plain { StrictSectionsAreRead }
     ensures spelled { MarkedLinesAreSpellings }

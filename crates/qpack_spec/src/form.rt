@@ -29,14 +29,14 @@ pub fn reading_lines_is_the_relation()
     ensures truncation { ReadingFindsFormTruncation line_form }
 {}
 
-/// The same of an encoder instruction.
+/// Reading an encoder instruction from left to right is the relation of spellings, of refusals and of truncation.
 pub fn reading_instructions_is_the_relation()
     ensures spellings { ReadingFindsForms encoder_instruction_form }
     ensures refusals { ReadingFindsFormRefusals encoder_instruction_form }
     ensures truncation { ReadingFindsFormTruncation encoder_instruction_form }
 {}
 
-/// The same of a decoder instruction.
+/// Reading a decoder instruction from left to right is the relation of spellings, of refusals and of truncation.
 pub fn reading_decoder_instructions_is_the_relation()
     ensures spellings { ReadingFindsForms decoder_instruction_form }
     ensures refusals { ReadingFindsFormRefusals decoder_instruction_form }

@@ -19,7 +19,7 @@ pub fn written_integers_are_shortest()
     ensures { WrittenIntegersAreShortest }
 {}
 
-/// What is written is read back with its flags, whatever follows, up to the greatest value that is read.
+/// A written integer is read back with its flags, whatever follows, up to the greatest value that is read.
 pub fn written_integers_are_read_back()
     ensures { WrittenIntegersAreReadBack }
 {}

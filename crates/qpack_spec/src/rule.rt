@@ -38,8 +38,8 @@ pub fn marked_fields_are_literals()
     ensures unmarked { (t : Table) (fs : List Field) → IsTheRuleUnmarked t fs }
 {}
 
-/// Whatever an encoder chooses, each field has a line, a marked one a literal, and nothing is inserted at capacity 0.
-/// The rule for marked fields is one list of choices.
+/// Under any choices of an encoder, each field has a line, a marked one a literal, and nothing is inserted at capacity
+/// 0. The rule for marked fields is one list of choices.
 pub fn chosen_fields_have_lines()
     ensures lines { ChosenFieldsHaveLines }
     ensures insertions { NothingIsChosenAtZero }

@@ -3,7 +3,7 @@
 ghost use Rattle.qpack_spec.specs.SessionLaws.{EventsHaveAnswers, EventsAreSkippedExactly};
 ghost use Rattle.qpack_spec.specs.SessionLaws.{PiecesAddUp, PiecesAreSmall};
 
-/// Every event has an answer at every session, without a refusal for memory.
+/// Every event has an outcome at every session, without a refusal for memory.
 pub fn every_event_has_an_answer()
     ensures { EventsHaveAnswers }
 {}

@@ -8,12 +8,12 @@ pub fn static_table_has_99()
     ensures { StaticTableHas99 }
 {}
 
-/// No field stands in the table twice.
+/// No field is in the table twice.
 pub fn static_fields_differ()
     ensures { StaticFieldsDiffer }
 {}
 
-/// Looking for a field finds its index exactly if it stands there.
+/// Looking up a field finds its index exactly if it is in the table.
 pub fn static_index_is_least()
     ensures { StaticIndexIsLeast }
 {}

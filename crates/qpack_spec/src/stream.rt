@@ -11,7 +11,7 @@ pub fn streams_have_one_reading()
     ensures decoder_instructions { StreamsHaveOneReading decoder_instruction_form }
 {}
 
-/// Any piece of a stream holds the next of its instructions, and leaves the others with what comes behind it.
+/// Any piece of a stream holds the next of its instructions, and leaves the others with what comes after it.
 pub fn pieces_hold_fronts()
     ensures instructions { PiecesHoldFronts encoder_instruction_form }
     ensures decoder_instructions { PiecesHoldFronts decoder_instruction_form }

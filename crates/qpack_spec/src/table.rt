@@ -3,7 +3,7 @@
 ghost use Rattle.qpack_spec.specs.TableLaws.{EntriesAreInsertions, CapacitiesAreOfTheWindow};
 ghost use Rattle.qpack_spec.specs.TableLaws.{DecodersTableGoesAsItsWindow};
 
-/// A table's insertions and capacities are those of its window, whatever its entries are marked as.
+/// A table's insertions and capacities are those of its window, with any marks of its entries.
 pub fn tables_go_as_their_windows()
     ensures entries { EntriesAreInsertions }
     ensures capacities { CapacitiesAreOfTheWindow }

@@ -14,7 +14,7 @@ pub fn no_string_begins_another()
     ensures { NoStringBeginsAnother }
 {}
 
-/// What is written is a literal, and is read back with its flags, whatever follows.
+/// A written string is a literal, and is read back with its flags, whatever follows.
 pub fn written_strings_are_read_back()
     ensures literal { WrittenStringsAreLiterals }
     ensures back { WrittenStringsAreReadBack }

@@ -2,7 +2,7 @@
 
 ghost use Rattle.qpack_spec.specs.WantedLaws.{NothingStandsBeforeWanted, FieldsAreAsLarge, WaitingBytesAreFew};
 
-/// A truncated instruction stays one until as many bytes are there as are wanted.
+/// A truncated instruction stays truncated until as many bytes are there as it needs.
 pub fn nothing_stands_before_wanted()
     ensures { NothingStandsBeforeWanted }
 {}
@@ -12,8 +12,8 @@ pub fn fields_are_as_large()
     ensures { FieldsAreAsLarge }
 {}
 
-/// The bytes that are wanted of an instruction whose field may fit are at most four for each byte of the capacity, and
-/// ten more.
+/// The bytes that an instruction needs whose field may fit are at most four for each byte of the capacity, and ten
+/// more.
 pub fn waiting_bytes_are_few()
     ensures { WaitingBytesAreFew }
 {}

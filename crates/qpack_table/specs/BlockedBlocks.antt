@@ -22,13 +22,13 @@ counts_of b = map (λ e. e.0.number) (in_order b.kept (numbered b.keys))
 abbrev pub next_key : ℕ → BlockedKeys → CommitKey
 next_key required b = record { number = required; order = b.kept }
 
--- a block is kept behind others, which are there again once its key is taken out
+-- a block is kept after others, which are there again once its key is taken out
 pub record IsKeptBehind (required : ℕ) (old new : BlockedKeys) : Type 0 where
   pub kept : new.kept ≡ old.kept + 1
   pub back : remove_key (is_at (key_cmp (next_key required old))) new.keys ≡ old.keys
   pub numbered : AreNumbered old.kept (numbered old.keys)
 
--- the same if it is needed
+-- a block is kept after others, if it is blocked
 abbrev pub IsKeptIf : Bool → ℕ → BlockedKeys → BlockedKeys → Type 0
 IsKeptIf true required old new = IsKeptBehind required old new
 IsKeptIf false required old new = new ≡ old

@@ -1,4 +1,4 @@
--- What the encoder's handle answers.
+-- What the encoder's handle returns.
 use Rattle.std.specs.Prelude.{◌≡◌, ℕ, ◌+◌, ◌-◌, ◌<◌, ⊤, [], Bool, true, false, Result, Ok, Err, Option, Some, None}
 use Rattle.std.specs.Prelude.{IfSome, if◌then◌else◌, nat_lt}
 use Rattle.qpack_spec.specs.Field.{Field, is_field}
@@ -49,7 +49,7 @@ pub record IsSoughtIn (t : table.Table) (f : Field) (sought : SoughtField) : Typ
 abbrev pub AreHashesIn : Field → SoughtField → Type 0
 AreHashesIn f sought = IfSome sought.hashes (λ hashes. AreHashesOf hashes f)
 
--- the same of one that was found
+-- what is known of a field that was found, as of one that was sought
 abbrev pub IsFoundIn : table.Table → Field → FoundField → Type 0
 IsFoundIn t f found = IsSoughtIn t f found.sought
 
@@ -63,33 +63,33 @@ abbrev pub kept_index : Option ℕ → ℕ → Option ℕ
 kept_index None dropped = None
 kept_index (Some absolute) dropped = if nat_lt dropped absolute then Some absolute else None
 
--- an entry is handed out, which the block in progress then references
+-- an entry is returned, which the block in progress then references
 abbrev pub HandsOut : Lookup → Type 0
 HandsOut (AtStatic index) = ⊥
 HandsOut (AtRelative index absolute) = ⊤
 HandsOut (AtPostBase index absolute) = ⊤
 HandsOut handle.NotFound = ⊥
 
--- a field is inserted, or an entry of its name is handed out
+-- a field is inserted, or an entry of its name is returned
 abbrev pub InsertsOrHandsOut : Insertion → Type 0
 InsertsOrHandsOut (handle.NotInserted lookup) = HandsOut lookup
 InsertsOrHandsOut insertion = ⊤
 
--- what was looked for is found as the definition finds it, and referenced; memory is refused only where an entry is
--- handed out, and then nothing changes
+-- what was looked for is found as the definition finds it, and referenced; memory is refused only if an entry is
+-- returned, and then nothing changes
 abbrev pub Finds : Result DynamicLookupResult Error → Found → table.Table → table.Table → Type 0
 Finds (Ok lookup) found old new = let answer : Found = record { lookup = lookup_of lookup; table = new } in
     found ≡ answer
 Finds (Err e) found old new = (e ≡ Memory) × HandsOut found.lookup × (new ≡ old)
 
--- a field is inserted as the definition inserts it, or its name is found; memory is refused only where something is
--- inserted or handed out, and then nothing changes
+-- a field is inserted as the definition inserts it, or its name is found; memory is refused only if something is
+-- inserted or an entry is returned, and then nothing changes
 abbrev pub Inserts : Result DynamicInsertionResult Error → Insertable → table.Table → table.Table → Type 0
 Inserts (Ok insertion) inserted old new =
     let answer : Insertable = record { insertion = insertion_of insertion; table = new } in inserted ≡ answer
 Inserts (Err e) inserted old new = (e ≡ Memory) × InsertsOrHandsOut inserted.insertion × (new ≡ old)
 
--- what an insertion answers, whether or not its entry is referenced
+-- the result of an insertion, whether or not its entry is referenced
 abbrev pub insertion_at : table.Table → ℕ → Field → Insertion
 insertion_at t base f =
     answer_of (instruction_for f (entries_left t f)) (insert_count t - base) (insert_count t + 1)

@@ -9,6 +9,6 @@ use Rattle.qpack_table.specs.declared.dynamic.commits.CommitKey.{CommitKey}
 abbrev pub block_of : CommitKey × Vec ℕ → table.UnacknowledgedBlock
 block_of e = record { stream = e.0.number; entries = e.1.items }
 
--- the blocks in the order of their commits, so many having been opened
+-- the blocks in the order of their commits, after this many were opened
 abbrev pub blocks_of : ℕ → List (CommitKey × Vec ℕ) → List table.UnacknowledgedBlock
 blocks_of opened es = map block_of (in_order opened es)

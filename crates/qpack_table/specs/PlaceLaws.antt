@@ -6,8 +6,7 @@ use Rattle.qpack_table.specs.Positions.{positions_of, IsLive, IsPositionOf, IsNo
 use Rattle.qpack_table.specs.Positions.{relative_index}
 use Rattle.qpack_table.specs.Positions.{post_base_index}
 
--- an absolute index has an entry exactly where it is live, and the entry stands at its position (RFC 9204, section
--- 3.2.4)
+-- an absolute index has an entry exactly if it is live, and the entry is at its position (RFC 9204, section 3.2.4)
 abbrev pub EntriesStandAtPositions : Type 0
 EntriesStandAtPositions =
     (w : Window) (absolute : ℕ)
@@ -20,7 +19,8 @@ abbrev pub RecentEntriesAreNamed : Type 0
 RecentEntriesAreNamed = (w : Window) (relative : ℕ) → relative_entry w relative
     ≡ absolute_entry w (newest_relative_index (positions_of w) relative)
 
--- the field of a line's relative index stands at the position of what it names, unless that is dropped (section 3.2.5)
+-- the field of a line's relative index is at the position of the entry it references, unless that is dropped (section
+-- 3.2.5)
 abbrev pub RelativeFieldsAreNamed : Type 0
 RelativeFieldsAreNamed =
     (w : Window) (base relative : ℕ)

@@ -43,7 +43,7 @@ abbrev pub references_in : List table.UnacknowledgedBlock → List ℕ
 references_in [] = []
 references_in (b ∷ bs) = b.entries ++ references_in bs
 
--- no number stands there twice
+-- no number is there twice
 abbrev pub NoneTwice : List ℕ → Type 0
 NoneTwice xs = (a : ℕ) → times a xs ≤ 1
 
@@ -117,21 +117,21 @@ required_by b = greatest_of b.entries
 abbrev pub oldest_required : ℕ → List table.UnacknowledgedBlock → Option ℕ
 oldest_required stream bs = option_map required_by (find (λ b. nat_eq b.stream stream) bs)
 
--- the answer is whether the live entry at a position is evictable
+-- the result says whether the live entry at a position is evictable
 abbrev pub IsEvictableAt : table.Table → ℕ → Bool → Type 0
 IsEvictableAt t position answer =
     IfSome (slice_get t.live position) (λ e. answer ≡ is_evictable t (t.dropped + position + 1) e.sent)
 
--- ---- what the calls answer
+-- ---- what the calls return
 
--- the fault of a lookup that an error stands for (section 3.2)
+-- the fault of a lookup that an error reports (section 3.2)
 abbrev pub lookup_fault_of : Error → Option Fault
 lookup_fault_of (BadRelativeIndex index) = Some (BelowWindow index)
 lookup_fault_of (BadPostbaseIndex index) = Some (BehindBase index)
 lookup_fault_of (BadIndex position) = Some (AboveWindow position)
 lookup_fault_of e = None
 
--- the refusal of a change that an error stands for (sections 3.2.2, 3.2.3 and 4.4.1)
+-- the refusal of a change that an error reports (sections 3.2.2, 3.2.3 and 4.4.1)
 abbrev pub refusal_of : Error → Option TableRefusal
 refusal_of MaxTableSizeReached = Some DoesNotFit
 refusal_of MaximumTableSizeTooLarge = Some AboveMaximum
@@ -148,7 +148,7 @@ abbrev pub Changes : Result ⊤ Error → Result table.Table TableRefusal → ta
 Changes (Ok done) read old new = read ≡ Ok new
 Changes (Err e) read old new = IsRefusedFor read (refusal_of e) × (new ≡ old)
 
--- the same of a change that asks for memory where `asks` holds; refused that, the table is as before too
+-- a change that asks for memory if `asks` holds; if memory is refused, the table is unchanged too
 abbrev pub ChangesWithMemory : Type 0 → Result ⊤ Error → Result table.Table TableRefusal → table.Table → table.Table
     → Type 0
 ChangesWithMemory asks (Err Memory) read old new = asks × (new ≡ old)

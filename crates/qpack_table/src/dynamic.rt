@@ -45,11 +45,11 @@ pub enum Error {
     /// No live entry has this post-base index (RFC 9204, section 3.2.6).
     #[error("no entry at post-base index {0}")]
     BadPostbaseIndex(usize),
-    /// No live entry has this position, from 0 at the oldest: a base past the total points behind the newest.
+    /// No live entry has this position, from 0 at the oldest: a base past the total points after the newest.
     #[error("no entry at position {0}")]
     BadIndex(usize),
-    /// A field is larger than a capacity above 0, or an entry that may not go yet stands against a smaller capacity
-    /// (RFC 9204, sections 2.1.1 and 3.2.2).
+    /// A field is larger than a capacity above 0, or a smaller capacity would evict an entry that is not evictable (RFC
+    /// 9204, sections 2.1.1 and 3.2.2).
     #[error("no room within the capacity")]
     MaxTableSizeReached,
     /// A capacity is above the greatest that may be set: the maximum capacity, and never 2^30 bytes or more (RFC
@@ -62,10 +62,10 @@ pub enum Error {
     /// No block of this stream waits for an acknowledgment (RFC 9204, section 4.4.1).
     #[error("unknown stream {0}")]
     UnknownStreamId(u64),
-    /// Kept from the original, and never answered: what is tracked is never missing.
+    /// Kept from the original, and never returned: what is tracked is never missing.
     #[error("no tracking data")]
     NoTrackingData,
-    /// Kept from the original, and never answered: entries are not counted down by their references.
+    /// Kept from the original, and never returned: entries are not counted down by their references.
     #[error("invalid tracking count")]
     InvalidTrackingCount,
     /// No memory was left.

@@ -29,7 +29,7 @@ pub type RelativeIndex = usize;
 /// An index counted up from the first entry ever inserted, which has 1 (RFC 9204, section 3.2.4).
 pub type AbsoluteIndex = usize;
 
-/// Why an index references no live entry. Each tells the index as it was handed in.
+/// Why an index references no live entry. Each variant has the index that was passed.
 #[derive(Clone, Copy, Debug, PartialEq, Drop, ThisError)]
 pub enum Error {
     /// The entry of this relative index is dropped, or before the first one, or nothing is live.
@@ -77,7 +77,7 @@ impl Default for VirtualAddressSpace {
 }
 
 impl VirtualAddressSpace {
-    /// One entry more is inserted, of which fewer than 2^62 ever were; its absolute index is answered.
+    /// Counts one more entry as inserted, of which fewer than 2^62 ever were, and returns its absolute index.
     pub fn add(&mut self) -> AbsoluteIndex
         requires { self.old.total < 2 ^ 62 }
         ensures index { result ≡ self.old.total + 1 }
@@ -87,7 +87,7 @@ impl VirtualAddressSpace {
         self.inserted
     }
 
-    /// The oldest live entry is dropped, of which there must be one.
+    /// Drops the oldest live entry, of which there must be one.
     pub fn drop(&mut self)
         requires { self.old.dropped < self.old.total }
         ensures { self.new ≡ record self.old { dropped = self.old.dropped + 1 } }
@@ -95,7 +95,7 @@ impl VirtualAddressSpace {
         self.dropped += 1;
     }
 
-    /// The position of the entry that an instruction's relative index names, 0 the newest (RFC 9204,
+    /// Returns the position of the entry that an instruction's relative index references, 0 for the newest (RFC 9204,
     /// section 3.2.5).
     pub fn relative(&self, index: RelativeIndex) -> Result<usize, Error>
         ensures found { IfOk result (IsPositionOf self.now (newest_relative_index self.now index)) }
@@ -109,20 +109,20 @@ impl VirtualAddressSpace {
         self.position(absolute).ok_or(Error::RelativeIndex(index))
     }
 
-    /// Whether an absolute index is that of an entry that was dropped.
+    /// Returns whether an absolute index is that of an entry that was dropped.
     pub fn evicted(&self, index: AbsoluteIndex) -> bool
         ensures { IsTrue result ↔ WasEvicted self.now index }
     {
         index > 0 && index <= self.dropped
     }
 
-    /// The position of the entry that a line's relative index names under a base (RFC 9204, section
-    /// 3.2.5). That the base is at most the total is not tested: under a greater one the position may be
-    /// past that of the newest entry.
+    /// Returns the position of the entry that a line's relative index references under a base (RFC 9204, section
+    /// 3.2.5). It does not check that the base is at most the total: under a greater one the position may be past that
+    /// of the newest entry.
     pub fn relative_base(&self, base: usize, index: RelativeIndex) -> Result<usize, Error>
         ensures found { IfOk result (IsPositionOf self.now (relative_index base index)) }
         ensures tested { IsOk result ↔ IsNotEvicted self.now base index }
-        // Under a base up to the total it is answered exactly where the entry is live.
+        // Under a base up to the total it succeeds exactly if the entry is live.
         ensures live { base ≤ self.now.total → (IsOk result ↔ IsLive self.now (relative_index base index)) }
         ensures refused { IfErr result (λ e. e ≡ NoRelative index) }
     {
@@ -133,8 +133,8 @@ impl VirtualAddressSpace {
         self.position(absolute).ok_or(Error::RelativeIndex(index))
     }
 
-    /// The position of the entry that a post-base index names (RFC 9204, section 3.2.6). Where the sum
-    /// with the base does not fit it names none.
+    /// Returns the position of the entry that a post-base index references (RFC 9204, section 3.2.6). If the sum with
+    /// the base does not fit, it references none.
     pub fn post_base(&self, base: usize, index: RelativeIndex) -> Result<usize, Error>
         ensures found { IfOk result (IsPositionOf self.now (post_base_index base index)) }
         ensures live { IsOk result ↔ IsLive self.now (post_base_index base index) }
@@ -148,7 +148,7 @@ impl VirtualAddressSpace {
             .ok_or(Error::PostbaseIndex(index))
     }
 
-    /// The absolute index of the live entry at a position.
+    /// Returns the absolute index of the live entry at a position.
     pub fn index(&self, index: usize) -> Result<usize, Error>
         ensures found { IfOk result (λ absolute. IsLive self.now absolute × IsPositionOf self.now absolute index) }
         ensures live { IsOk result ↔ (index < live_count self.now) }
@@ -160,7 +160,7 @@ impl VirtualAddressSpace {
         Ok(self.dropped + index + 1)
     }
 
-    /// How many entries are live.
+    /// Returns how many entries are live.
     pub fn largest_ref(&self) -> usize
         ensures live { result ≡ live_count self.now }
         ensures parts { self.now.dropped + result ≡ self.now.total }
@@ -168,7 +168,7 @@ impl VirtualAddressSpace {
         self.inserted - self.dropped
     }
 
-    /// How many entries were ever inserted, 2^62 at most.
+    /// Returns how many entries were ever inserted, 2^62 at most.
     pub fn total_inserted(&self) -> usize
         ensures total { result ≡ self.now.total }
         ensures most { result ≤ 2 ^ 62 }
@@ -176,7 +176,7 @@ impl VirtualAddressSpace {
         self.inserted
     }
 
-    /// How many entries were dropped.
+    /// Returns how many entries were dropped.
     pub(crate) fn total_dropped(&self) -> usize
         ensures exact { result ≡ self.now.dropped }
         ensures most { result ≤ 2 ^ 62 }
@@ -184,8 +184,7 @@ impl VirtualAddressSpace {
         self.dropped
     }
 
-    /// The position of an absolute index, from 0 at the oldest live entry. Of dropped entries there is
-    /// none.
+    /// Returns the position of an absolute index, from 0 at the oldest live entry, or `None` if the entry was dropped.
     fn position(&self, absolute: AbsoluteIndex) -> Option<usize>
         ensures found { IfSome result (IsPositionOf self.now absolute) }
         ensures above { IsSome result ↔ (self.now.dropped < absolute) }

@@ -6,8 +6,8 @@ use Rattle.qpack_spec.specs.Integer.{UnexpectedEnd, SpellsInteger, integer_at}
 use Rattle.qpack_spec.specs.Form.{FormFault, BadInteger, is_cut, Form, RefusesIndex, Spells, Refuses, or_bad_integer}
 use Rattle.qpack_spec.specs.Form.{made_at}
 
--- how the forms are told from others: by the flags above a first integer with a prefix of n bits, once it is read, or
--- by the whole first byte
+-- how the forms are distinguished from others: by the flags above a first integer with a prefix of n bits, once it is
+-- read, or by the whole first byte
 pub data Kind (L : Type 0) : Type 0 where
   ByFlags : (n : ℕ) (named : ℕ → Option (Form L)) → Kind L
   ByFirstByte : (named : ℕ → Option (Form L)) → Kind L
@@ -26,7 +26,7 @@ form_for (ByFirstByte named) first = named first
 abbrev pub SpellsKind : {L : Type 0} → Kind L → List ℕ → L → Type 0
 SpellsKind {L} a encoding l = Spells L (form_for a) encoding l
 
--- behind first bits that are another form's, a whole integer is refused
+-- after first bits that are another form's, a whole integer is refused
 abbrev pub RefusesForeign : {L : Type 0} → Kind L → List ℕ → FormFault → Type 0
 RefusesForeign (ByFlags n named) [] fault = ⊥
 RefusesForeign (ByFlags n named) (b ∷ bs) fault = (named (b / 2 ^ n) ≡ None) × RefusesIndex n (b ∷ bs) fault
@@ -59,7 +59,7 @@ abbrev pub made_or_foreign : {L : Type 0} → ℕ → Option (Form L) → List �
 made_or_foreign bits None bytes = Err (Foreign bits)
 made_or_foreign bits (Some form) bytes = or_unreadable (made_at form bytes)
 
--- what stands at the front of the bytes, and the bytes behind it
+-- what is at the front of the bytes, and the bytes after it
 unfoldable pub kind_at : {L : Type 0} → Kind L → List ℕ → Result (L × List ℕ) KindFault
 kind_at (ByFlags n named) bytes =
     or_unreadable (or_bad_integer (integer_at n bytes)) >>= λ i. made_or_foreign i.0 (named i.0) bytes

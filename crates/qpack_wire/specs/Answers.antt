@@ -1,4 +1,4 @@
--- What readers of lines and instructions answer, as the definitions of their bytes have it.
+-- What readers of lines and instructions return, by the definitions of their bytes.
 use Rattle.std.specs.Prelude.{◌≡◌, ℕ, ◌⊎◌, List, ◌++◌, Option, None, Some, Result, Ok, Err, true, false, IfOk}
 use Rattle.qpack_spec.specs.Bytes.{Begins}
 use Rattle.qpack_spec.specs.Text.{EndsEarly, LengthOverflows, BadHuffman}
@@ -12,7 +12,7 @@ use Rattle.qpack_base.specs.declared.parse_error.ParseError.{ParseError}
 use Rattle.qpack_base.specs.declared.parse_error.ParseError.TheVariants.{Integer, String, InvalidPrefix, Memory}
 use Rattle.qpack_wire.specs.Alone.{KindFault, Unreadable, Foreign, is_cut_kind}
 
--- the fault that an error tells, where a reader of forms can answer it
+-- the fault that an error reports, if a reader of forms can return it
 abbrev pub fault_of : ParseError → Option KindFault
 fault_of (Integer e) = Some (Unreadable (BadInteger (integer_fault_of e)))
 fault_of (String string.UnexpectedEnd) = Some (Unreadable (BadString EndsEarly))
@@ -21,21 +21,21 @@ fault_of (String (string.HuffmanDecoding e)) = Some (Unreadable (BadString (BadH
 fault_of (InvalidPrefix bits) = Some (Foreign bits)
 fault_of e = None
 
--- the error tells this fault
+-- the error reports this fault
 abbrev pub Tells : ParseError → KindFault → Type 0
 Tells e fault = fault_of e ≡ Some fault
 
--- the answer is a refusal for this fault
+-- the result is an error for this fault
 abbrev pub Fails : {V : Type 0} → Result V ParseError → KindFault → Type 0
 Fails (Ok v) fault = ⊥
 Fails (Err e) fault = Tells e fault
 
--- the answer is seen as this value, and what moves moved
+-- the result is seen as this value, and what moves moved
 abbrev pub Gives : {V L : Type 0} → (V → L) → Result V ParseError → L → Type 0 → Type 0
 Gives view (Ok v) l moved = (view v ≡ l) × moved
 Gives view (Err e) l moved = ⊥
 
--- the answer is a refusal because the bytes end early
+-- the result is an error because the bytes end early
 abbrev pub FailsEarly : {V : Type 0} → Result V ParseError → Type 0
 FailsEarly r = (fault : KindFault) × (is_cut_kind fault ≡ true) × Fails r fault
 
@@ -62,7 +62,7 @@ ReadsSpelling {V} {L} view spells old new r =
     (encoding rest : List ℕ) (l : L) → spells encoding l → old.rest ≡ encoding ++ rest
     → Gives view r l (MovesPast encoding old new) ⊎ (r ≡ Err Memory)
 
--- each refusal exactly where it stands, unless memory is refused
+-- each refusal is reported exactly if the bytes have it, unless memory is refused
 abbrev pub TellsRefusal : {V : Type 0} → (List ℕ → KindFault → Type 0) → CursorView → Result V ParseError → Type 0
 TellsRefusal refuses old r =
     (fault : KindFault)
@@ -76,7 +76,7 @@ TellsEnd spells refuses old r =
     (FailsEarly r → IsTruncated spells refuses old.rest)
     × (IsTruncated spells refuses old.rest → FailsEarly r ⊎ (r ≡ Err Memory))
 
--- a reader decodes exactly the spellings, and tells each refusal and each early end
+-- a reader decodes exactly the spellings, and reports each refusal and each early end
 pub record Decodes {V L : Type 0} (view : V → L) (spells : List ℕ → L → Type 0) (refuses : List ℕ → KindFault → Type 0)
     (old new : CursorView) (r : Result V ParseError) : Type 0 where
   pub found : FindsSpelling view spells old new r
@@ -91,12 +91,12 @@ abbrev pub ReadAs : {A F : Type 0} → Result A F → Option F → Type 0
 ReadAs read None = ⊥
 ReadAs read (Some fault) = read ≡ Err fault
 
--- the error is the fault that was read, or want of memory
+-- the error is the fault that was read, or out of memory
 abbrev pub FailsForm : {A : Type 0} → ParseError → Result A KindFault → Type 0
 FailsForm Memory read = Unit {0}
 FailsForm e read = ReadAs read (fault_of e)
 
--- the answer is what was read, and the cursor stands behind it; or it is the fault
+-- the result is what was read, and the cursor is after it; or it is the fault
 abbrev pub ReadsForm : {V L : Type 0} → (V → L) → CursorView → CursorView → Result V ParseError
     → Result (L × List ℕ) KindFault → Type 0
 ReadsForm view old new (Ok v) read = (read ≡ Ok (view v, new.rest)) × (new.total ≡ old.total)

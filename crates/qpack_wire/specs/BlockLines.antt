@@ -19,7 +19,7 @@ field_of_first first =
     else if nat_lt first 128 then field.LiteralWithNameRef
     else field.Indexed
 
--- the line that a value of the code stands for
+-- the line that a value of the code represents
 abbrev pub line_of : BlockLine → Line
 line_of (block.Indexed l) = line_of_indexed l
 line_of (block.IndexedWithPostBase l) = line_of_indexed_with_post_base l
@@ -32,6 +32,6 @@ abbrev pub RefusesBlockLine : List ℕ → KindFault → Type 0
 RefusesBlockLine encoding (Unreadable fault) = RefusesLine encoding fault
 RefusesBlockLine encoding (Foreign bits) = ⊥
 
--- the line at the front of the bytes, and the bytes behind it
+-- the line at the front of the bytes, and the bytes after it
 abbrev pub line_at : List ℕ → Result (Line × List ℕ) KindFault
 line_at bytes = or_unreadable (form_at line_form bytes)

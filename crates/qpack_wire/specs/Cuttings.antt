@@ -1,14 +1,14 @@
--- A stream that comes in pieces, each offered behind what was left unread; the crate's law functions promise that the
+-- A stream that comes in pieces, each passed after the bytes left unread; the crate's law functions promise that the
 -- lines don't depend on the pieces.
 use Rattle.std.specs.Prelude.{◌≡◌, ℕ, List, [], ◌∷◌, ◌++◌}
 use Rattle.qpack_spec.specs.Stream.{Holds}
 
--- the pieces, one behind the other
+-- the pieces, one after the other
 abbrev pub joined_pieces : List (List ℕ) → List ℕ
 joined_pieces [] = []
 joined_pieces (piece ∷ pieces) = piece ++ joined_pieces pieces
 
--- each piece is offered behind the unread bytes, all whole lines are read, and the rest is offered again
+-- each piece is passed after the unread bytes, all whole lines are read, and the rest is passed again
 abbrev pub ReadInPieces : {L : Type 0} → (List ℕ → L → Type 0) → List ℕ → List (List ℕ) → List L → List ℕ → Type 0
 ReadInPieces spells unread [] lines rest = (lines ≡ []) × (rest ≡ unread)
 ReadInPieces {L} spells unread (piece ∷ pieces) lines rest =

@@ -1,4 +1,4 @@
--- The seven instructions, each read alone (RFC 9204, sections 4.3 and 4.4), and what values of the code stand for.
+-- The seven instructions, each read alone (RFC 9204, sections 4.3 and 4.4), and what values of the code represent.
 use Rattle.std.specs.Prelude.{ℕ, ◌/◌, ◌%◌, if◌then◌else◌, nat_eq, Option, None, Some}
 use Rattle.qpack_spec.specs.Form.{Form, Index, IndexAndValue, NameAndValue}
 use Rattle.qpack_spec.specs.Instruction as instruction
@@ -32,7 +32,7 @@ insert_with_name_ref = ByFlags 6 insert_with_name_ref_form
 abbrev pub insert_without_name_ref_form : ℕ → Option (Form EncoderInstruction)
 insert_without_name_ref_form first = if nat_eq (first / 64) 1 then Some (NameAndValue 6 InsertLiteralName) else None
 
--- an insertion with a literal name (section 4.3.3), told by its whole first byte
+-- an insertion with a literal name (section 4.3.3), known by its whole first byte
 abbrev pub insert_without_name_ref : Kind EncoderInstruction
 insert_without_name_ref = ByFirstByte insert_without_name_ref_form
 
@@ -76,7 +76,7 @@ stream_cancel_form flags = if nat_eq flags 1 then Some (Index 6 Cancellation) el
 abbrev pub stream_cancel : Kind DecoderInstruction
 stream_cancel = ByFlags 6 stream_cancel_form
 
--- ---- what values of the code stand for
+-- ---- what values of the code represent
 
 abbrev pub encoder_instruction_of_insert_with_name_ref : InsertWithNameRef → EncoderInstruction
 encoder_instruction_of_insert_with_name_ref (names.Static index value) = InsertStaticName index value.items

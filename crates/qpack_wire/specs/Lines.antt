@@ -1,5 +1,5 @@
 -- The five forms of a field line, each read alone (RFC 9204, sections 4.5.2 to 4.5.6), and the lines that values of the
--- code stand for.
+-- code represent.
 use Rattle.std.specs.Prelude.{ℕ, ◌/◌, ◌%◌, if◌then◌else◌, nat_lt, nat_eq, Option, None, Some}
 use Rattle.qpack_spec.specs.Form.{Form, Index, IndexAndValue, NameAndValue}
 use Rattle.qpack_spec.specs.Line as line
@@ -56,11 +56,11 @@ literal_with_post_base_name_ref = ByFlags 3 literal_with_post_base_name_ref_form
 abbrev pub literal_form : ℕ → Option (Form Line)
 literal_form first = if nat_eq (first / 32) 1 then Some (NameAndValue 4 line.Literal) else None
 
--- a literal field line with a literal name (section 4.5.6), told by its whole first byte
+-- a literal field line with a literal name (section 4.5.6), known by its whole first byte
 abbrev pub literal : Kind Line
 literal = ByFirstByte literal_form
 
--- ---- the lines that values of the code stand for
+-- ---- the lines that values of the code represent
 
 abbrev pub line_of_indexed : Indexed → Line
 line_of_indexed (indexes.Static index) = IndexedStatic index

@@ -1,5 +1,4 @@
--- Where reading asks for memory: at a string whose payload is not empty, once it stands whole
--- (RFC 9204, section 4.1.2).
+-- When reading asks for memory: at a string whose payload is not empty, once it is whole (RFC 9204, section 4.1.2).
 use Rattle.std.specs.Prelude.{◌≡◌, ℕ, ◌⊎◌, List, [], ◌∷◌, Option, None, Some, IsOkAnd}
 use Rattle.qpack_spec.specs.Bytes.{Begins}
 use Rattle.qpack_spec.specs.Integer.{integer_at}
@@ -9,7 +8,7 @@ use Rattle.qpack_spec.specs.Line.{Line, line_form, SpellsLine}
 use Rattle.qpack_spec.specs.Prefix.{Prefix, SpellsPrefix}
 use Rattle.qpack_wire.specs.Alone.{Kind, ByFlags, ByFirstByte}
 
--- the bytes are the front of the form, to the end of such a string: the name, or the value behind a whole index or name
+-- the bytes are the front of the form, to the end of such a string: the name, or the value after a whole index or name
 abbrev pub AsksForm : {L : Type 0} → Form L → List ℕ → Type 0
 AsksForm (Index n make) encoding = ⊥
 AsksForm (IndexAndValue n make) encoding = InTurn (λ t. (index : ℕ) × HoldsIndex n index t) (HoldsPayload 8) encoding
@@ -25,7 +24,7 @@ pub record Asks (L : Type 0) (form_of : ℕ → Option (Form L)) (encoding : Lis
   pub names : form_of first ≡ Some form
   pub asks : AsksForm form encoding
 
--- memory may be asked for: such a front stands at the front of the bytes
+-- memory may be asked for: such a front is at the front of the bytes
 abbrev pub AsksForMemory : {L : Type 0} → (ℕ → Option (Form L)) → List ℕ → Type 0
 AsksForMemory {L} form_of bytes = Begins (Asks L form_of) bytes
 
@@ -43,13 +42,13 @@ HoldsLine encoding = (l : Line) × SpellsLine encoding l
 abbrev pub AsksLine : List ℕ → Type 0
 AsksLine encoding = HoldsLine encoding ⊎ Asks Line line_form encoding
 
--- memory may be asked for: such bytes stand behind a prefix
+-- memory may be asked for: such bytes are after a prefix
 abbrev pub AsksSectionForMemory : List ℕ → Type 0
 AsksSectionForMemory bytes = Begins (InTurn HoldsPrefix AsksLine) bytes
 
 -- ---- the same of a form, as reading from left to right
 
--- such a string stands in the form at the front of the bytes
+-- the form at the front of the bytes has such a string
 abbrev pub AsksFormAt : {L : Type 0} → Option (Form L) → List ℕ → Type 0
 AsksFormAt None bytes = ⊥
 AsksFormAt (Some (Index n make)) bytes = ⊥
@@ -57,7 +56,7 @@ AsksFormAt (Some (IndexAndValue n make)) bytes = IsOkAnd (integer_at n bytes) (�
 AsksFormAt (Some (NameAndValue n make)) bytes =
     Begins (HoldsPayload n) bytes ⊎ IsOkAnd (string_at n bytes) (λ m. Begins (HoldsPayload 8) m.2)
 
--- the same of the form that the flags or the first byte name
+-- such a string is in the form that the flags or the first byte determine
 abbrev pub AsksAt : {L : Type 0} → Kind L → List ℕ → Type 0
 AsksAt (ByFlags n named) bytes = IsOkAnd (integer_at n bytes) (λ i. AsksFormAt (named i.0) bytes)
 AsksAt (ByFirstByte named) [] = ⊥

@@ -1,5 +1,4 @@
--- Calls of `next_line` one behind the other, until one reads no line; a law function promises that they find what the
--- bytes hold.
+-- Successive calls of `next_line`, until one reads no line; a law function promises that they find what the bytes hold.
 use Rattle.std.specs.Prelude.{◌≡◌, ℕ, List, [], ◌∷◌, Option, None, Some, Result, Ok, Err}
 use Rattle.qpack_base.specs.Cursor.{CursorView}
 use Rattle.qpack_base.specs.declared.parse_error.ParseError.{ParseError}

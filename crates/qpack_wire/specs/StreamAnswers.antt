@@ -1,4 +1,4 @@
--- What readers of instructions answer: one, none of a truncated front, or a refusal.
+-- What readers of instructions return: one, none for a truncated front, or an error.
 use Rattle.std.specs.Prelude.{◌≡◌, ℕ, ◌⊎◌, List, ◌++◌, Option, None, Some, Result, Ok, Err, true}
 use Rattle.qpack_base.specs.Cursor.{CursorView, MovesPast}
 use Rattle.qpack_base.specs.declared.prefix_int.Error.TheVariants as integer
@@ -16,7 +16,7 @@ FindsInstruction view spells old new (Ok (Some v)) = (encoding : List ℕ) × sp
     × MovesPast encoding old new
 FindsInstruction view spells old new (Err e) = Unit {0}
 
--- the answer is seen as this, and what moves moved
+-- the result is seen as this, and what moves moved
 abbrev pub GivesInstruction : {V L : Type 0} → (V → L) → Result (Option V) ParseError → L → Type 0 → Type 0
 GivesInstruction view (Ok None) l moved = ⊥
 GivesInstruction view (Ok (Some v)) l moved = (view v ≡ l) × moved
@@ -37,7 +37,7 @@ TellsNone spells refuses old r =
     × (IsTruncated spells refuses old.rest → (r ≡ Ok None) ⊎ (r ≡ Err Memory))
     × (FailsEarly r → ⊥)
 
--- a reader decodes exactly the spellings, tells each refusal, and answers none where the bytes are truncated
+-- a reader decodes exactly the spellings, reports each refusal, and returns none if the bytes are truncated
 pub record DecodesInstruction {V L : Type 0} (view : V → L) (spells : List ℕ → L → Type 0)
     (refuses : List ℕ → KindFault → Type 0) (old new : CursorView) (r : Result (Option V) ParseError) : Type 0 where
   pub found : FindsInstruction view spells old new r
@@ -58,20 +58,20 @@ abbrev pub EndsEarly : {A : Type 0} → Result A KindFault → Type 0
 EndsEarly (Ok x) = ⊥
 EndsEarly (Err fault) = is_cut_kind fault ≡ true
 
--- the error is a fault other than an early end
+-- the error is a fault, and no early end
 abbrev pub FailsWhole : {A : Type 0} → ParseError → Result A KindFault → Type 0
 FailsWhole (Integer integer.UnexpectedEnd) read = ⊥
 FailsWhole (String string.UnexpectedEnd) read = ⊥
 FailsWhole e read = FailsForm e read
 
--- the answer is what was read, and the cursor stands behind it; or none of an early end; or the fault
+-- the result is what was read, and the cursor is after it; or none for an early end; or the fault
 abbrev pub ReadsStream : {V L : Type 0} → (V → L) → CursorView → CursorView → Result (Option V) ParseError
     → Result (L × List ℕ) KindFault → Type 0
 ReadsStream view old new (Ok None) read = EndsEarly read
 ReadsStream view old new (Ok (Some v)) read = (read ≡ Ok (view v, new.rest)) × (new.total ≡ old.total)
 ReadsStream view old new (Err e) read = FailsWhole e read
 
--- an answer with none in place of an early end
+-- a result with none in place of an early end
 abbrev pub without_end : {V : Type 0} → Result V ParseError → Result (Option V) ParseError
 without_end (Ok v) = Ok (Some v)
 without_end (Err (Integer integer.UnexpectedEnd)) = Ok None

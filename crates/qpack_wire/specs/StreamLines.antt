@@ -36,14 +36,14 @@ decoder_instruction_of_first first =
     else if nat_lt first 128 then decoder.StreamCancel
     else decoder.HeaderAck
 
--- the encoder instruction that a value of the code stands for
+-- the encoder instruction that a value of the code represents
 abbrev pub encoder_instruction_of : EncoderLine → EncoderInstruction
 encoder_instruction_of (line.InsertWithNameRef i) = encoder_instruction_of_insert_with_name_ref i
 encoder_instruction_of (line.InsertWithoutNameRef i) = encoder_instruction_of_insert_without_name_ref i
 encoder_instruction_of (line.Duplicate i) = encoder_instruction_of_duplicate i
 encoder_instruction_of (line.DynamicTableSizeUpdate i) = encoder_instruction_of_dynamic_table_size_update i
 
--- the decoder instruction that a value of the code stands for
+-- the decoder instruction that a value of the code represents
 abbrev pub decoder_instruction_of : DecoderLine → DecoderInstruction
 decoder_instruction_of (decoder_instruction.InsertCountIncrement r) = decoder_instruction_of_insert_count_increment r
 decoder_instruction_of (decoder_instruction.HeaderAck r) = decoder_instruction_of_header_ack r
@@ -59,10 +59,10 @@ abbrev pub RefusesDecoderLine : List ℕ → KindFault → Type 0
 RefusesDecoderLine encoding (Unreadable fault) = RefusesDecoderInstruction encoding fault
 RefusesDecoderLine encoding (Foreign bits) = ⊥
 
--- the encoder instruction at the front of the bytes, and the bytes behind it
+-- the encoder instruction at the front of the bytes, and the bytes after it
 abbrev pub encoder_instruction_at : List ℕ → Result (EncoderInstruction × List ℕ) KindFault
 encoder_instruction_at bytes = or_unreadable (form_at encoder_instruction_form bytes)
 
--- the decoder instruction at the front of the bytes, and the bytes behind it
+-- the decoder instruction at the front of the bytes, and the bytes after it
 abbrev pub decoder_instruction_at : List ℕ → Result (DecoderInstruction × List ℕ) KindFault
 decoder_instruction_at bytes = or_unreadable (form_at decoder_instruction_form bytes)

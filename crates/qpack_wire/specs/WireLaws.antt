@@ -6,7 +6,7 @@ use Rattle.qpack_wire.specs.Alone.{KindFault}
 abbrev pub WrittenIsSpelled : {L : Type 0} → (List ℕ → L → Type 0) → (L → Type 0) → (L → List ℕ) → Type 0
 WrittenIsSpelled {L} spells writable written = (l : L) → writable l → spells (written l) l
 
--- and is read back whole, whatever follows
+-- what is written of a line is read back whole, whatever follows
 abbrev pub WrittenIsReadBack : {L : Type 0} → (List ℕ → Result (L × List ℕ) KindFault) → (L → Type 0) → (L → List ℕ)
     → Type 0
 WrittenIsReadBack {L} read writable written =

@@ -1,4 +1,4 @@
-//! The shapes of a form: reading a number alone, and writing an index or a name and a value behind it.
+//! The shapes of a form: reading a number alone, and writing an index or a name followed by a value.
 
 ghost use Rattle.std.specs.Prelude.{◌≡◌, ◌≤◌, ◌++◌, IfErr, Err};
 ghost use Rattle.qpack_spec.specs.Integer.{written_integer};

@@ -27,8 +27,8 @@ pub fn cutting_changes_nothing()
     ensures decoder_instructions { CuttingChangesNothing SpellsDecoderInstruction }
 {}
 
-/// Calls of `next_line` one behind the other, until one reads no line, find the instructions that the bytes hold, and
-/// leave the cursor at the rest: of all readings of these bytes the only one, as `streams_have_one_reading` says.
+/// Successive calls of `next_line`, until one reads no line, find the instructions that the bytes hold, and leave the
+/// cursor at the rest. That is the only reading of these bytes, as `streams_have_one_reading` says.
 pub fn next_lines_are_the_reading()
     ensures encoder { NextLinesAreTheReading encoder_instruction_of SpellsEncoderInstruction RefusesEncoderLine }
     ensures decoder { NextLinesAreTheReading decoder_instruction_of SpellsDecoderInstruction RefusesDecoderLine }

@@ -1,4 +1,4 @@
--- What the text calls answer.
+-- What the text calls return.
 use Rattle.std.specs.Prelude.{◌≡◌, ◌≢◌, ℕ, ◌-◌, List, [], ◌∷◌, length, take, drop, Result, Ok, Err, string_bytes}
 use Rattle.std.specs.Prelude.{if◌then◌else◌}
 use Rattle.std.specs.Prelude.{String}
@@ -28,13 +28,13 @@ fields_text (Err n) = Err n
 abbrev pub encode_answer : List ℕ → Result (List ℕ) ℕ
 encode_answer bytes = fields_text (fields_from 1 (lines_of bytes))
 
--- a fault is the one that stands in the text, or want of memory
+-- a fault is the one in the text, or out of memory
 abbrev pub FailsText : {A : Type 0} → Fault → Result A ℕ → Type 0
 FailsText (NoTab n) read = read ≡ Err n
 FailsText Memory read = Unit {0}
 FailsText fault read = ⊥
 
--- a fault is the number of the first line that is no event, or want of memory
+-- a fault is the number of the first line that is no event, or out of memory
 abbrev pub FailsEvents : {A : Type 0} → Fault → Result A ℕ → Type 0
 FailsEvents (BadEvent n) read = read ≡ Err n
 FailsEvents Memory read = Unit {0}
@@ -53,7 +53,7 @@ ReadsFields (Err fault) read = FailsText fault read
 abbrev pub without_feed : List ℕ → List ℕ
 without_feed bytes = if bytes_eq (drop (length bytes - 1) bytes) (10 ∷ []) then take (length bytes - 1) bytes else bytes
 
--- a fault of the bytes that a text stands for, or of the text itself, or want of memory
+-- a fault of the bytes that a text has in hexadecimal, or of the text itself, or out of memory
 abbrev pub FailsHexadecimal : Fault → ℕ → Result (List ℕ) FromHexError → Type 0
 FailsHexadecimal NotHexadecimal limit (Ok bytes) = ⊥
 FailsHexadecimal NotHexadecimal limit (Err e) = Unit {0}
@@ -62,13 +62,13 @@ FailsHexadecimal (Refused e) limit (Err h) = ⊥
 FailsHexadecimal Memory limit read = Unit {0}
 FailsHexadecimal fault limit read = ⊥
 
--- what the bytes that a text stands for decode to
+-- what the bytes that a text has in hexadecimal decode to
 abbrev pub DecodesText : Result Decoded Fault → ℕ → Result (List ℕ) FromHexError → Type 0
 DecodesText (Ok d) limit (Ok bytes) = DecodesStateless (Ok d) (stateless_reading limit bytes)
 DecodesText (Ok d) limit (Err e) = ⊥
 DecodesText (Err e) limit read = FailsHexadecimal e limit read
 
--- what a refused block is told as
+-- the fault for an error of the decoder
 abbrev pub fault_of_decoder : DecoderError → Fault
 fault_of_decoder decoder.Memory = Memory
 fault_of_decoder e = Refused e

@@ -242,7 +242,7 @@ abbrev pub connection_asked : Bool → List (List ℕ) → Result Command WordsF
 connection_asked is_check words =
     with_connection_words (connection_words is_check) words >>= λ w. finished_connection w
 
--- the same, or help
+-- the command of `show` or `check`, or help
 abbrev pub connection_of : Bool → List (List ℕ) → Result Command WordsFault
 connection_of is_check [] = connection_asked is_check []
 connection_of is_check (word ∷ words) =
@@ -284,7 +284,7 @@ finished_explain w =
 abbrev pub explain_asked : List (List ℕ) → Result Command WordsFault
 explain_asked words = with_explain_words explain_words words >>= λ w. finished_explain w
 
--- the same, or help
+-- the command of `explain`, or help
 abbrev pub explain_of : List (List ℕ) → Result Command WordsFault
 explain_of [] = explain_asked []
 explain_of (word ∷ words) =
@@ -317,7 +317,7 @@ KeepsWord OtherWords = ⊥
 KeepsWord (MissingWord t w) = Unit {0}
 KeepsWord (BadWord t w word) = Unit {0}
 
--- a refusal tells why words ask for nothing, or that there is no memory to keep the word at fault
+-- a refusal reports why words give no command, or that there is no memory to keep the word at fault
 abbrev pub TellsWords : Refusal → WordsFault → Type 0
 TellsWords refusal.Usage fault = fault ≡ OtherWords
 TellsWords (refusal.Missing t w) fault = fault ≡ MissingWord t w
@@ -326,12 +326,12 @@ TellsWords refusal.Input fault = ⊥
 TellsWords refusal.Output fault = ⊥
 TellsWords (refusal.Fault f) fault = (f ≡ Memory) × KeepsWord fault
 
--- what was read of words, or a refusal that tells why they ask for nothing
+-- what was read of words, or a refusal that reports why they give no command
 abbrev pub ReadsWords : {A : Type 0} → Result A Refusal → Result A WordsFault → Type 0
 ReadsWords (Ok x) read = read ≡ Ok x
 ReadsWords (Err r) read = (fault : WordsFault) × (read ≡ Err fault) × TellsWords r fault
 
--- a number was read, and the words after it are left; or a refusal tells why not
+-- a number was read, and the words after it are left; or a refusal reports why not
 abbrev pub SplitsNumber : {Z : Type 0} → Result (ℕ × Bor (List (String Z))) Refusal
     → Result (ℕ × List (List ℕ)) WordsFault → Type 0
 SplitsNumber (Ok r) read = read ≡ Ok (r.0, map string_bytes r.1.now)

@@ -23,7 +23,7 @@ use Rattle.qpk_qif.specs.declared.session.Fault.TheVariants as recording
 abbrev pub refused_text : List ℕ → List ℕ
 refused_text words = codes "refused " ++ words ++ codes "\n"
 
--- want of memory
+-- out of memory
 abbrev pub memory_words : List ℕ
 memory_words = codes "out of memory"
 
@@ -32,7 +32,7 @@ abbrev pub integer_words : IntegerError → List ℕ
 integer_words integer.Overflow = codes "value overflow"
 integer_words integer.UnexpectedEnd = codes "unexpected end"
 
--- the same by its name
+-- an integer that could not be read, by its name
 abbrev pub integer_name : IntegerError → List ℕ
 integer_name integer.Overflow = codes "Overflow"
 integer_name integer.UnexpectedEnd = codes "UnexpectedEnd"
@@ -43,7 +43,7 @@ window_name w =
     codes "BitWindow { byte: " ++ decimal w.byte ++ codes ", bit: " ++ decimal w.bit ++ codes ", count: "
     ++ decimal w.count ++ codes " }"
 
--- a Huffman coded payload that means nothing
+-- a malformed Huffman coded payload
 abbrev pub huffman_name : HuffmanDecodingError → List ℕ
 huffman_name (MissingBits w) = codes "MissingBits(" ++ window_name w ++ codes ")"
 huffman_name (Unhandled w code) = codes "Unhandled(" ++ window_name w ++ codes ", " ++ decimal code ++ codes ")"
@@ -57,7 +57,7 @@ string_name (string.HuffmanEncoding e) = codes "HuffmanEncoding(HuffmanEncodingE
 string_name string.BufSize = codes "BufSize"
 string_name string.Memory = codes "Memory"
 
--- the same in words
+-- a string that could not be read, in words
 abbrev pub string_words : StringError → List ℕ
 string_words string.UnexpectedEnd = codes "unexpected end"
 string_words (string.Integer e) = codes "could not parse integer: " ++ integer_words e
@@ -122,14 +122,14 @@ recording_words recording.Capacity = codes "capacity too large"
 recording_words recording.Limit = codes "limit of blocked streams too large"
 recording_words recording.Memory = memory_words
 
--- ---- what their parts answer
+-- ---- what their parts return
 
--- words, and behind them a number and more, if there is one
+-- words, followed by a number and more words, if there is one
 abbrev pub counted_words : List ℕ → Option ℕ → List ℕ → List ℕ
 counted_words front None back = front
 counted_words front (Some number) back = front ++ decimal number ++ back
 
--- the words of a refusal that tells of no other error, nor of a base
+-- the words of an error that contains no other error, nor a base
 abbrev pub TellsAlone : DecoderError → List ℕ → Type 0
 TellsAlone (decoder.InvalidInteger e) words = Unit {0}
 TellsAlone (decoder.InvalidString e) words = Unit {0}

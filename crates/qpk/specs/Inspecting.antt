@@ -28,7 +28,7 @@ use Rattle.qpk.specs.LineItems.{items_from}
 
 -- ---- the input: a line an event
 
--- bytes of the encoder stream, behind those that came before; or a block
+-- bytes of the encoder stream, after those that came before; or a block
 pub data Event : Type 0 where
   Piece : (bytes : List ℕ) → Event
   Section : (block : List ℕ) → Event
@@ -40,7 +40,7 @@ event_named name bytes =
     else if bytes_eq name (codes "b") then Some (Section bytes)
     else None
 
--- the same where the bytes could be read from hexadecimal
+-- the event of this name, if the bytes could be read from hexadecimal
 abbrev pub event_of_bytes : List ℕ → Result (List ℕ) FromHexError → Option Event
 event_of_bytes name (Ok bytes) = event_named name bytes
 event_of_bytes name (Err e) = None
@@ -53,7 +53,7 @@ event_of_field (Some f) = event_of_bytes f.name (decode_of f.value)
 abbrev pub event_of_line : List ℕ → Option Event
 event_of_line line = event_of_field (field_of_line line)
 
--- the event of each line, or the number of the first line that is none, the lines being numbered from n
+-- the event of each line, or the number of the first line that is no event, the lines being numbered from n
 abbrev pub events_from : ℕ → List (List ℕ) → Result (List Event) ℕ
 events_from n lines = items_from event_of_line n lines
 
@@ -123,14 +123,14 @@ prefix_text p = numbers_text (codes "prefix") p.0 p.1
 abbrev pub fields_text : List Field → List ℕ
 fields_text fs = numbers_text (codes "fields") (length fs) (saturated_size (total_size fs))
 
--- ---- an event of the encoder stream: the instructions that stand whole are applied in turn
+-- ---- an event of the encoder stream: the whole instructions are applied in turn
 
 -- each was applied, and what is left is truncated
 pub record InspectsAll (old new : Table) (bytes left out : List ℕ) : Type 0 where
   pub takes : TakesInstructions old new bytes left (Ok tt)
   pub text : out ≡ instructions_text takes.lines ++ received_text new
 
--- the one behind those that were applied is refused, and not for memory
+-- the one after those that were applied is refused, and not for memory
 pub record InspectsUntil (old : Table) (bytes : List ℕ) (e : DecoderError) (out : List ℕ) : Type 0 where
   pub new : Table
   pub left : List ℕ
@@ -148,8 +148,8 @@ pub record PrintsLines (t : Table) (bytes : List ℕ) (fs : List Field) (out : L
   pub reads : read_prefix (insert_count t) (maximum_capacity t.agreed_max t.capacity) block.prefix ≡ Ok prefix
   pub text : out ≡ prefix_text prefix ++ flat_map line_text block.lines ++ fields_text fs
 
--- what is printed of a block, as the table has it: which insert count it waits for, or that it is refused, in the words
--- of an error that tells its fault, or all of it
+-- what is printed of a block under the table: which insert count it waits for, or that it is refused, in the words of
+-- an error that reports its fault, or all of it
 abbrev pub PrintsReading : Table → List ℕ → Reading → List ℕ → Type 0
 PrintsReading t bytes (Missing required) out = out ≡ index_text (codes "missing") required
 PrintsReading t bytes (Faulty fault) out =

@@ -1,4 +1,4 @@
--- What the calls of an inspection answer.
+-- What the calls of an inspection return.
 use Rattle.std.specs.Prelude.{◌≡◌, ◌≢◌, ℕ, ◌^◌, ◌<◌, ◌≤◌, ⊤, Bool, true, false, List, [], ◌++◌, length, drop, map}
 use Rattle.std.specs.Prelude.{Option, None, Some, Result, Ok, Err, string_bytes, IsOk}
 use Rattle.std.specs.Global.{Vec}
@@ -32,7 +32,7 @@ use Rattle.qpk.specs.declared.text.Fault.TheVariants.{BadEvent, Refused, Capacit
 
 -- ---- the input
 
--- the event that a value of the code stands for
+-- the event that a value of the code represents
 abbrev pub event_of : ReadEvent → Event
 event_of (read_event.Piece bytes) = Piece bytes.items
 event_of (read_event.Section block) = Section block.items
@@ -71,7 +71,7 @@ abbrev pub AppliesWhole : Table → Table → List ℕ → EncoderInstruction �
 AppliesWhole old new encoding i (Ok done) = apply_encoder_instruction old i ≡ Ok new
 AppliesWhole old new encoding i (Err fault) = FailsWhole old new encoding fault
 
--- an instruction was applied, and its line is written behind what was
+-- an instruction was applied, and its line is written after the earlier text
 pub record InspectsOne (old new : Table) (bytes left before after : List ℕ) : Type 0 where
   pub takes : TakesOne old new bytes left
   pub text : after ≡ before ++ instruction_text takes.instruction
@@ -83,7 +83,7 @@ pub record StopsInspecting (old new : Table) (bytes : List ℕ) (e : DecoderErro
   pub same : new ≡ old
   pub room : e ≢ decoder.Memory
 
--- or want of memory
+-- the next instruction is refused, or out of memory
 abbrev pub FailsNext : Table → Table → List ℕ → List ℕ → List ℕ → Fault → Type 0
 FailsNext old new bytes before after (Refused e) = StopsInspecting old new bytes e × (after ≡ before)
 FailsNext old new bytes before after Memory = Unit {0}
@@ -102,7 +102,7 @@ FailsInstructions old bytes before after (Refused e) = (out : List ℕ) × Inspe
 FailsInstructions old bytes before after Memory = Unit {0}
 FailsInstructions old bytes before after fault = ⊥
 
--- so many bytes are taken, and the lines of their instructions are written behind what was
+-- this many bytes are consumed, and the lines of their instructions are written after the earlier text
 abbrev pub InspectsInstructions : Table → Table → List ℕ → List ℕ → List ℕ → Result ℕ Fault → Type 0
 InspectsInstructions old new bytes before after (Ok taken) =
     (out : List ℕ) × InspectsAll old new bytes (drop taken bytes) out × (after ≡ before ++ out) × (taken ≤ length bytes)
@@ -110,7 +110,7 @@ InspectsInstructions old new bytes before after (Err fault) = FailsInstructions 
 
 -- ---- blocks
 
--- the lines of a block are written behind what was, or memory was refused
+-- the lines of a block are written after the earlier text, or memory was refused
 abbrev pub InspectsBlock : Table → List ℕ → List ℕ → List ℕ → Result ⊤ Fault → Type 0
 InspectsBlock t bytes before after (Ok done) = (out : List ℕ) × PrintsBlock t bytes out × (after ≡ before ++ out)
 InspectsBlock t bytes before after (Err fault) = fault ≡ Memory
@@ -119,7 +119,8 @@ InspectsBlock t bytes before after (Err fault) = fault ≡ Memory
 abbrev pub block_of_lines : HeaderPrefix → List BlockLine → Block
 block_of_lines prefix lines = record { prefix = prefix_of prefix; lines = map line_of lines }
 
--- the lines of a block that was read, and decoded to these fields, are written behind what was, or memory was refused
+-- the lines of a block that was read, and decoded to these fields, are written after the earlier text, or memory was
+-- refused
 abbrev pub PrintsRead : Table → Block → List Field → List ℕ → List ℕ → Result ⊤ Fault → Type 0
 PrintsRead t block fs before after (Ok done) =
     (prefix : ℕ × ℕ)
@@ -127,7 +128,7 @@ PrintsRead t block fs before after (Ok done) =
     × (after ≡ before ++ (prefix_text prefix ++ flat_map line_text block.lines ++ fields_text fs))
 PrintsRead t block fs before after (Err fault) = fault ≡ Memory
 
--- the lines of a block that was decoded to these fields are written behind what was, or memory was refused
+-- the lines of a block that was decoded to these fields are written after the earlier text, or memory was refused
 abbrev pub PrintsSection : Table → List ℕ → List Field → List ℕ → List ℕ → Result ⊤ Fault → Type 0
 PrintsSection t bytes fs before after (Ok done) =
     (out : List ℕ) × PrintsLines t bytes fs out × (after ≡ before ++ out)
@@ -146,7 +147,8 @@ InspectsEvents t events before after (Ok done) =
     (out : List ℕ) × Inspects t [] events out None × (after ≡ before ++ out)
 InspectsEvents t events before after (Err fault) = FailsInspecting t events before after fault
 
--- the same by a decoder that begins empty, with this capacity, which is the agreed maximum too; or that is refused
+-- the events are inspected by a decoder that begins empty, with this capacity, which is the agreed maximum too; or the
+-- capacity is refused
 abbrev pub InspectsFromEmpty : ℕ → List Event → List ℕ → List ℕ → Result ⊤ Fault → Type 0
 InspectsFromEmpty capacity events before after (Err Capacity) = 2 ^ 30 ≤ capacity
 InspectsFromEmpty capacity events before after r =

@@ -1,4 +1,4 @@
--- What is said of an input that is answered.
+-- Remarks on an input that was processed.
 use Rattle.std.specs.Prelude.{◌≡◌, ℕ, ◌+◌, Bool, false, List, [], ◌∷◌, ◌++◌, codes, Option, None, Some, nat_eq}
 use Rattle.std.specs.Prelude.{if◌then◌else◌, ◌&&◌}
 use Rattle.std.specs.Option.{option_map}
@@ -6,7 +6,7 @@ use Rattle.std.specs.Fmt.{decimal}
 use Rattle.qpk.specs.declared.command.Command.{Command}
 use Rattle.qpk.specs.declared.command.Command.TheVariants.{EncodeLists}
 
--- a line feed stands in front
+-- a line feed is in front
 abbrev pub begins_with_feed : List ℕ → Bool
 begins_with_feed [] = false
 begins_with_feed (b ∷ bytes) = nat_eq b 10
@@ -24,7 +24,7 @@ return_note input = option_map (λ n.
     codes "qpk: line " ++ decimal n ++ codes ": the carriage return at its end belongs to the value\n")
     (return_line 1 input)
 
--- what is said of the input that a command answers: of header lists in QIF, and of no other
+-- the remark on the input of a command: on header lists in QIF, and on no other
 abbrev pub IsNoteOf : Command → List ℕ → Option (List ℕ) → Type 0
 IsNoteOf (EncodeLists settings) input note = note ≡ return_note input
 IsNoteOf command input note = note ≡ None

@@ -1,4 +1,4 @@
--- Why the program answers nothing, and how that is told.
+-- Why the program prints no output, and how that is reported.
 use Rattle.std.specs.Prelude.{◌≡◌, ℕ, ◌<◌, List, ◌++◌, codes, length, take, Option, ◌⊎◌, string_bytes}
 use Rattle.std.specs.Fmt.{decimal}
 use Rattle.std.specs.Io.KnownBytes.{Appends}
@@ -25,7 +25,7 @@ fault_text (Recording e) = recording_words e
 fault_text (Told reason) = string_bytes reason
 fault_text Memory = codes "refused: memory"
 
--- the line that tells it
+-- the line that reports it
 abbrev pub fault_line : Fault → List ℕ
 fault_line fault = codes "qpk: " ++ fault_text fault ++ codes "\n"
 
@@ -58,7 +58,7 @@ missing_line t w = usage_of t ++ codes "qpk: " ++ name_of w ++ codes " is missin
 abbrev pub bad_word_line : Topic → Wanted → List ℕ → List ℕ
 bad_word_line t w word = usage_of t ++ codes "qpk: \"" ++ word ++ codes "\" is " ++ wanted_words w ++ codes "\n"
 
--- the line that tells a refusal; of the words of an addition to the usage it tells how the command is called
+-- the line that reports a refusal; for words of a command beyond the usage's four it says how the command is called
 abbrev pub refusal_line : Refusal → List ℕ
 refusal_line refusal.Usage = usage_line
 refusal_line (refusal.Missing t w) = missing_line t w
@@ -67,7 +67,7 @@ refusal_line refusal.Input = codes "qpk: refused: input\n"
 refusal_line refusal.Output = codes "qpk: refused: output\n"
 refusal_line (refusal.Fault fault) = fault_line fault
 
--- its line may want memory: it tells a word, or a fault
+-- its line may ask for memory: it has a word, or a fault
 abbrev pub MayWantMemory : Refusal → Type 0
 MayWantMemory refusal.Usage = ⊥
 MayWantMemory (refusal.Missing t w) = Unit {0}
@@ -84,10 +84,10 @@ AppendsPart old new bytes = (n : ℕ) × (n < length bytes) × Appends old new (
 abbrev pub AppendsFront : Option (List ℕ) → Option (List ℕ) → List ℕ → Type 0
 AppendsFront old new line = Appends old new line ⊎ AppendsPart old new line
 
--- a refusal is told as itself, or, where its line may want memory, as want of it
+-- a refusal is reported as itself, or as out of memory if its line may ask for memory
 abbrev pub TellsAs : Refusal → Refusal → Type 0
 TellsAs r told = (told ≡ r) ⊎ (MayWantMemory r × (told ≡ refusal.Fault Memory))
 
--- this holds of the line by which a refusal is told
+-- this holds of the line that reports a refusal
 abbrev pub TellsBy : Refusal → (List ℕ → Type 0) → Type 0
 TellsBy r P = (told : Refusal) × TellsAs r told × P (refusal_line told)

@@ -19,15 +19,15 @@ use Rattle.qpk.specs.Scripts.{script_events}
 use Rattle.qpk.specs.declared.text.Fault.{Fault}
 use Rattle.qpk.specs.declared.text.Fault.TheVariants.{BadEvent, Capacity, Limit, Memory}
 
--- the error of the dynamic table that tells a refusal which needs no entry
+-- the error of the dynamic table that reports a refusal which needs no entry
 abbrev pub error_of_refusal : TableRefusal → Option TableError
 error_of_refusal DoesNotFit = Some table.MaxTableSizeReached
 error_of_refusal AboveMaximum = Some table.MaximumTableSizeTooLarge
 error_of_refusal (UnknownStream stream) = Some (table.UnknownStreamId stream)
 error_of_refusal refusal = None
 
--- what is printed of an event, by its answer, the bytes of the block that it made, if it made one, and the bytes that
--- it added to a stream; nothing is of a bad block and a refused stream, since no session answers these
+-- what is printed of an event, by its outcome, the bytes of the block that it made, if it made one, and the bytes that
+-- it added to a stream; nothing is printed of a bad block and a refused stream, since no session has these outcomes
 abbrev pub printed_answer : spec.Outcome → List ℕ → List ℕ → Option (List ℕ)
 printed_answer (spec.Encoded required) block added = Some (encoded_text required block added)
 printed_answer (spec.Decoded fs size is_dynamic) block added = Some (decoded_text size fs)
@@ -44,8 +44,8 @@ printed_answer spec.NoMemory block added = Some (refused_text memory_words)
 printed_answer (spec.BadBlock fault) block added = None
 printed_answer (spec.Refused fault) block added = None
 
--- the stream that an event adds bytes to, if it adds any: an encode and a capacity are told to the decoder, all else
--- to the encoder
+-- the stream that an event adds bytes to, if it adds any: an encode and a capacity add to the encoder stream, all else
+-- to the decoder stream
 abbrev pub written_stream : spec.Event → Session → List ℕ
 written_stream (spec.Encode stream fs) v = v.encoder_stream
 written_stream (spec.ChangeCapacity capacity) v = v.encoder_stream
@@ -69,9 +69,9 @@ abbrev pub made_block : spec.Event → Session → List ℕ
 made_block (spec.Encode stream fs) v = newest_bytes (stream_at v.streams stream).blocks
 made_block e v = []
 
--- an event that leads from a session to another asks for memory: a decode, where in the stream's oldest undecoded block
--- a line, or a string whose payload is not empty, stands whole behind a prefix; a delivery to the decoder, where behind
--- it insertions are still to be reported, or the next instruction that was delivered asks for memory; a delivery to the
+-- an event that leads from a session to another asks for memory: a decode, if in the stream's oldest undecoded block a
+-- prefix is followed by a whole line, or by a string whose payload is not empty; a delivery to the decoder, if after it
+-- insertions are still to be reported, or the next instruction that was delivered asks for memory; a delivery to the
 -- encoder never; any other event may, since it writes bytes
 abbrev pub MayWantMemory : spec.Event → Session → Session → Type 0
 MayWantMemory (spec.Decode stream) v next = AsksSectionForMemory (bytes_of_block (next_block v stream))
@@ -82,7 +82,7 @@ MayWantMemory (spec.ToDecoder bytes) v next =
 MayWantMemory (spec.ToEncoder bytes) v next = ⊥
 MayWantMemory e v next = ⊤
 
--- an event has an answer and leads to another session, and this is printed of it; it wants memory only where it asks
+-- an event has an outcome and leads to another session, and this is printed of it; memory is refused only if it asks
 -- for some
 pub record PrintsEvent (v : Session) (e : spec.Event) (next : Session) (out : List ℕ) : Type 0 where
   pub answer : spec.Outcome
@@ -107,7 +107,7 @@ pub record PrintsRun (capacity limit : ℕ) (text out : List ℕ) : Type 0 where
   pub last : Session
   pub prints : PrintsEvents first events last out
 
--- a fault of a script, told before that of its session; or want of memory
+-- a fault of a script, reported before that of its session; or out of memory
 abbrev pub HasRunFault : ℕ → ℕ → List ℕ → Fault → Type 0
 HasRunFault capacity limit text (BadEvent n) = script_events text ≡ Err n
 HasRunFault capacity limit text Capacity =
@@ -119,7 +119,7 @@ HasRunFault capacity limit text Limit =
 HasRunFault capacity limit text Memory = Unit {0}
 HasRunFault capacity limit text fault = ⊥
 
--- what a script prints, or the fault that stands there
+-- what a script prints, or the fault in it
 abbrev pub RunsScript : {Z : Type 0} → ℕ → ℕ → List ℕ → Result (String Z) Fault → Type 0
 RunsScript capacity limit text (Ok out) = PrintsRun capacity limit text (string_bytes out)
 RunsScript capacity limit text (Err fault) = HasRunFault capacity limit text fault
@@ -150,7 +150,7 @@ pub record PrintsMore (new : SessionView) (v : Session) (events : List spec.Even
 abbrev pub PrintsAll : SessionView → SessionView → List spec.Event → List ℕ → Type 0
 PrintsAll old new events out = (v : Session) → ShowsReached old v → PrintsMore new v events out
 
--- what events print stands behind what was printed, or memory was refused
+-- what events print comes after the earlier text, or memory was refused
 abbrev pub RunsEvents : SessionView → SessionView → List spec.Event → List ℕ → List ℕ → Result ⊤ Fault → Type 0
 RunsEvents old new events before after (Ok done) =
     (out : List ℕ) × PrintsAll old new events out × (after ≡ before ++ out)
@@ -174,7 +174,7 @@ pub record PrintsSession (capacity limit : ℕ) (events : List spec.Event) (out 
   pub last : Session
   pub prints : PrintsEvents first events last out
 
--- a session begins, and what events print stands behind what was printed; or it does not begin, or memory was refused
+-- a session begins, and what events print comes after the earlier text; or it does not begin, or memory was refused
 abbrev pub RunsSession : ℕ → ℕ → List spec.Event → List ℕ → List ℕ → Result ⊤ Fault → Type 0
 RunsSession capacity limit events before after (Ok done) =
     (out : List ℕ) × PrintsSession capacity limit events out × (after ≡ before ++ out)

@@ -30,7 +30,7 @@ number_of_digits (d ∷ digits) =
     then Some (digits_value 10 (d ∷ digits)) else None)
     else None
 
--- the number that a part says, behind a plus or not
+-- the number of a part, after a plus or not
 abbrev pub number_of : List ℕ → Option ℕ
 number_of part = number_of_digits (without_leading_plus part)
 
@@ -61,18 +61,18 @@ event_of_number name n =
     else if bytes_eq name (codes "setcapacity") then Some (ChangeCapacity n)
     else None
 
--- the same where no part stands behind the number
+-- the event of a name and a number, if no part follows the number
 abbrev pub event_alone : List ℕ → ℕ → List (List ℕ) → Option Event
 event_alone name n [] = event_of_number name n
 event_alone name n (part ∷ parts) = None
 
--- the event of a name, the number behind it, and the parts behind that
+-- the event of a name, the number after it, and the parts after that
 abbrev pub event_named : List ℕ → Option ℕ → List (List ℕ) → Option Event
 event_named name None parts = None
 event_named name (Some n) parts =
     if bytes_eq name (codes "encode") then encode_of n (fields_of_parts parts) else event_alone name n parts
 
--- the event of a line's parts: a name, a number, and what stands behind them
+-- the event of a line's parts: a name, a number, and the parts that follow
 abbrev pub event_of_parts : List (List ℕ) → Option Event
 event_of_parts [] = None
 event_of_parts (name ∷ []) = None
@@ -82,7 +82,7 @@ event_of_parts (name ∷ number ∷ parts) = event_named name (number_of number)
 abbrev pub event_of_line : List ℕ → Option Event
 event_of_line line = event_of_parts (parts_of line)
 
--- the event of each line, or the number of the first line that is none, the lines being numbered from n
+-- the event of each line, or the number of the first line that is no event, the lines being numbered from n
 abbrev pub script_from : ℕ → List (List ℕ) → Result (List Event) ℕ
 script_from n lines = items_from event_of_line n lines
 
@@ -90,9 +90,9 @@ script_from n lines = items_from event_of_line n lines
 abbrev pub script_events : List ℕ → Result (List Event) ℕ
 script_events text = script_from 1 (lines_of text)
 
--- ---- what reading a script answers
+-- ---- what reading a script returns
 
--- the parts that stand behind a part, if it has a TAB
+-- the parts after a part, if it has a TAB
 abbrev pub parts_behind : Option (Bor (List ℕ)) → List (List ℕ)
 parts_behind None = []
 parts_behind (Some rest) = parts_of rest.now
@@ -102,7 +102,7 @@ abbrev pub IsPairs : Option (Vec HeaderField) → Option (List Field) → Type 0
 IsPairs None read = read ≡ None
 IsPairs (Some fields) read = read ≡ Some (fields_in fields.items)
 
--- the same, or memory was refused
+-- the fields that were read of names and values by turns; or memory was refused
 abbrev pub ReadsPairs : Result (Option (Vec HeaderField)) Fault → Option (List Field) → Type 0
 ReadsPairs (Ok fields) read = IsPairs fields read
 ReadsPairs (Err fault) read = fault ≡ Memory

@@ -32,7 +32,7 @@ use Rattle.qpk.specs.declared.serve.Output.{Output}
 abbrev pub AsksFor : {Z : Type 0} → List (String Z) → Command → Type 0
 AsksFor words command = command_of (map string_bytes words) ≡ Ok command
 
--- no command is asked for
+-- the words give no command
 abbrev pub AsksForNothing : {Z : Type 0} → List (String Z) → Type 0
 AsksForNothing words = (fault : WordsFault) × (command_of (map string_bytes words) ≡ Err fault)
 
@@ -40,12 +40,12 @@ AsksForNothing words = (fault : WordsFault) × (command_of (map string_bytes wor
 abbrev pub printed_fields : List Field → List ℕ
 printed_fields fs = text_of_fields fs ++ codes "size " ++ decimal (saturated_size (total_size fs)) ++ 10 ∷ []
 
--- the same with the fields in hexadecimal
+-- fields as they are printed in hexadecimal: a line each, and the line of their size
 abbrev pub hexadecimal_answer : List Field → List ℕ
 hexadecimal_answer fs =
     hexadecimal_fields fs ++ codes "size " ++ decimal (saturated_size (total_size fs)) ++ 10 ∷ []
 
--- a command that reads no input: its answer is known, or its words have the bytes
+-- a command that reads no input: its output is known, or its words have the bytes
 abbrev pub ReadsNone : Command → Type 0
 ReadsNone (Help topic) = Unit {0}
 ReadsNone Version = Unit {0}
@@ -56,7 +56,7 @@ ReadsNone command = ⊥
 abbrev pub AsksForNone : {Z : Type 0} → List (String Z) → Type 0
 AsksForNone words = (command : Command) × AsksFor words command × ReadsNone command
 
--- the input that a command answers, where it is known: help and the version answer none
+-- the input that a command processes, if it is known: help and the version process none
 abbrev pub input_of : Command → Option (List ℕ) → Option (List ℕ)
 input_of (Help topic) input = Some []
 input_of Version input = Some []
@@ -69,8 +69,8 @@ FailsToRead (Help topic) r = ⊥
 FailsToRead Version r = ⊥
 FailsToRead command r = (r ≡ refusal.Input) ⊎ (r ≡ refusal.Fault Memory)
 
--- the output that answers a command's input; what is shown, judged and explained has the clauses of `qpk_show` and of the
--- crates below it, and its text none
+-- the output for a command's input; what is shown, judged and explained has the clauses of `qpk_show` and of the crates
+-- below it, and its text none
 abbrev pub Answers : Command → List ℕ → List ℕ → Type 0
 Answers (Help topic) input out = out ≡ help_text topic
 Answers Version input out = out ≡ version_line
@@ -108,7 +108,7 @@ abbrev pub Prints : Command → List ℕ → List ℕ → Option DecoderError �
 Prints command input out None = Answers command input out
 Prints command input out (Some e) = Stops command input out e
 
--- the fault that stands in a command's input, or want of memory
+-- the fault in a command's input, or out of memory
 abbrev pub HasFault : Command → List ℕ → Fault → Type 0
 HasFault (Help topic) input fault = fault ≡ Memory
 HasFault Version input fault = fault ≡ Memory
@@ -125,7 +125,7 @@ HasFault (ExplainInput options) input fault = Unit {0}
 HasFault (EncodeLists settings) input fault = Unit {0}
 HasFault (DecodeRecords settings) input fault = Unit {0}
 
--- only what is shown, judged or explained has something that is refused or found, which the status tells
+-- only what is shown, judged or explained has something that is refused or found, which the status reports
 abbrev pub MayFind : Command → Bool → Type 0
 MayFind (Show options) found = Unit {0}
 MayFind (Check options) found = Unit {0}
@@ -141,62 +141,62 @@ TellsFound (ExplainWords options) status = status ≡ 2
 TellsFound (ExplainInput options) status = status ≡ 2
 TellsFound command status = ⊥
 
--- the status of an answer
+-- the status of an output
 abbrev pub HasStatus : Command → ℕ → Type 0
 HasStatus command status = (status ≡ 0) ⊎ TellsFound command status
 
--- the output that a command's input asks for, or the fault that stands there
+-- the output that a command's input asks for, or the fault in it
 abbrev pub AnswersInput : Command → List ℕ → Result Output Fault → Type 0
 AnswersInput command input (Ok a) = Prints command input a.bytes.items a.refused
 AnswersInput command input (Err fault) = HasFault command input fault
 
--- a fault is told as this refusal, or as want of memory where none is left to tell it
+-- a fault is reported as this refusal, or as out of memory if there is none left to report it
 abbrev pub TellsRefusal : Fault → DecoderError → Type 0
 TellsRefusal fault e = (fault ≡ Refused e) ⊎ (fault ≡ Memory)
 
--- what is said of the input of a command, where that input is known: nothing but of header lists in QIF
+-- the remark on the input of a command, if that input is known: there is one only on header lists in QIF
 abbrev pub IsNote : Command → Option (List ℕ) → Option (List ℕ) → Type 0
 IsNote (EncodeLists settings) input note = IfSome input (λ bytes. IsNoteOf (EncodeLists settings) bytes note)
 IsNote command input note = note ≡ None
 
--- a command is answered: its output was written, and nothing else; and this is to be said of its input
+-- a command is done: its output was written, and nothing else; and this is the remark on its input
 abbrev pub IsAnsweredBy : Command → Option (List ℕ) → Option (List ℕ) → Option (List ℕ) → Option (List ℕ) → Type 0
 IsAnsweredBy command input old new note =
     IsNote command input note
     × IfSome (input_of command input) (λ bytes. (out : List ℕ) × Answers command bytes out × Appends old new out)
 
--- the command that the words ask for is
+-- the command that the words give is done
 abbrev pub IsAnswered : {Z : Type 0} → List (String Z) → Option (List ℕ) → Option (List ℕ) → Option (List ℕ)
     → Option (List ℕ) → Type 0
 IsAnswered words input old new note =
     (command : Command) × AsksFor words command × IsAnsweredBy command input old new note
 
--- the same, and the status
+-- the command that the words give is done, with this status
 abbrev pub EndsWell : {Z : Type 0} → List (String Z) → Option (List ℕ) → Option (List ℕ) → Option (List ℕ)
     → Option (List ℕ) → ℕ → Type 0
 EndsWell words input old new note status =
     (command : Command) × AsksFor words command × IsAnsweredBy command input old new note × HasStatus command status
 
--- what was said: all of it, or a part, where a write failed
+-- the remark was written: all of it, or a part if a write failed
 abbrev pub SaysNote : Option (List ℕ) → Option (List ℕ) → Option (List ℕ) → Type 0
 SaysNote old new None = new ≡ old
 SaysNote old new (Some line) = AppendsFront old new line
 
--- the command that the words ask for is answered, and the status tells that something was refused or found
+-- the command that the words give is done, and the status says that something was refused or found
 abbrev pub IsFound : {Z : Type 0} → List (String Z) → Option (List ℕ) → Option (List ℕ) → Option (List ℕ)
     → Option (List ℕ) → Option (List ℕ) → ℕ → Type 0
 IsFound words input old new said saying status =
     (note : Option (List ℕ)) × (command : Command) × AsksFor words command × IsAnsweredBy command input old new note
     × TellsFound command status × SaysNote said saying note
 
--- it ended for its words, which the refusal tells, and nothing was written
+-- it ended for its words, which the refusal reports, and nothing was written
 abbrev pub EndsForWords : {Z : Type 0} → List (String Z) → Option (List ℕ) → Option (List ℕ) → Refusal → Type 0
 EndsForWords words old new r =
     (fault : WordsFault) × (command_of (map string_bytes words) ≡ Err fault) × TellsWords r fault × (new ≡ old)
 
 -- why a command ended: the input could not be read, or it has a fault, and then nothing was written; or it was refused
--- further on, and then what stands before that was written; or what it asks for could not be written, but for a part of
--- it. The input is what the reader gives, where that is known, and the output what the writer held before and after
+-- further on, and then what comes before that was written; or what it asks for could not be written, except a part of
+-- it. The input is what the reader gives, if that is known, and the output what the writer had before and after
 abbrev pub EndsForCommand : Command → Option (List ℕ) → Option (List ℕ) → Option (List ℕ) → Refusal → Type 0
 EndsForCommand command input old new refusal.Usage = ⊥
 EndsForCommand command input old new (refusal.Missing topic wanted) = ⊥

@@ -36,13 +36,13 @@ pub enum Command {
     DecodeRecords(DecoderSettings),
     /// Decode the block of the input, up to a sum of sizes in bytes.
     Decode(u64),
-    /// The same, with the fields in hexadecimal.
+    /// Decode as `Decode` does, and print the fields in hexadecimal.
     DecodeHex(u64),
-    /// The same, with the fields as an object of JSON.
+    /// Decode as `Decode` does, and print the fields as an object of JSON.
     DecodeJson(u64),
     /// Inspect the events of the input, by a table of this capacity in bytes.
     Inspect(usize),
-    /// Run the events of the input on a session of this capacity in bytes, where so many blocks may be blocked.
+    /// Run the events of the input on a session of this capacity in bytes, with this limit of blocked blocks.
     Run(usize, usize),
     /// Show a connection.
     Show(ShowOptions),
@@ -54,8 +54,8 @@ pub enum Command {
     ExplainInput(ExplainOptions),
 }
 
-/// Returns what the words ask for, without the program's name; or that they ask for nothing, and of an addition to the
-/// usage's four commands what is missing, or the word at fault. Memory is asked for to keep that word.
+/// Returns the command that the words give, without the program's name; or that they give none. For a command beyond
+/// the usage's four it also returns what is missing, or the word at fault. It asks for memory to keep that word.
 pub fn read_command(alloc: Global, words: &[String]) -> Result<Command, Refusal>
     ensures { ReadsWords result (command_of (map string_bytes words.now)) }
 {
@@ -93,14 +93,14 @@ pub fn read_command(alloc: Global, words: &[String]) -> Result<Command, Refusal>
     Err(Refusal::Usage)
 }
 
-/// Whether a word asks for help.
+/// Returns whether a word asks for help.
 fn is_help(word: &str) -> bool
     ensures { result ≡ is_help word.now }
 {
     word == "--help" || word == "-h"
 }
 
-/// Returns the number that these words are, and nothing else.
+/// Returns the number that these words are, if they are one number.
 fn only_number(words: &[String]) -> Result<u64, Refusal>
     ensures { ReadsWords result (only_number (map string_bytes words.now)) }
 {
@@ -110,7 +110,7 @@ fn only_number(words: &[String]) -> Result<u64, Refusal>
     or_usage(word.as_str())
 }
 
-/// Returns the two numbers that these words are, and nothing else.
+/// Returns the two numbers that these words are, if they are two numbers.
 fn only_numbers(words: &[String]) -> Result<(u64, u64), Refusal>
     ensures { ReadsWords result (only_numbers (map string_bytes words.now)) }
 {
@@ -232,7 +232,7 @@ fn read_lists(alloc: Global, words: &[String]) -> Result<Command, Refusal>
     }))
 }
 
-/// Whether blocks are acknowledged, which a word says.
+/// Returns whether a word says that blocks are acknowledged.
 fn read_acknowledged(alloc: Global, word: &str) -> Result<bool, Refusal>
     ensures { ReadsWords result (read_acknowledged word.now) }
 {
@@ -593,7 +593,7 @@ fn with_explain_word(
     })
 }
 
-/// Whether a word begins as an option does.
+/// Returns whether a word begins as an option does.
 pub fn is_option(word: &str) -> bool
     ensures { result ≡ is_option word.now }
 {

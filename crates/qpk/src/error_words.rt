@@ -37,7 +37,7 @@ impl fmt::Display for DecoderWords<'_> {
     }
 }
 
-/// The same where it tells of no other error, nor of a base.
+/// Returns the words of an error that contains no other error, nor a base.
 fn lone_words(e: &DecoderError) -> Words
     ensures { TellsAlone e.now (counted_words result.front.now result.number result.back.now) }
 {
@@ -114,7 +114,7 @@ impl fmt::Display for EncoderWords<'_> {
     }
 }
 
-/// An integer that could not be read.
+/// Returns the words of an integer that could not be read.
 fn integer_words(e: &prefix_int::Error) -> &'static str
     ensures { result.now ≡ integer_words e.now }
 {
@@ -124,7 +124,7 @@ fn integer_words(e: &prefix_int::Error) -> &'static str
     }
 }
 
-/// The same by its name.
+/// Returns the name of an integer that could not be read.
 fn integer_name(e: &prefix_int::Error) -> &'static str
     ensures { result.now ≡ integer_name e.now }
 {
@@ -159,7 +159,7 @@ impl fmt::Display for StringWords<'_> {
     }
 }
 
-/// The same by its name.
+/// A string that could not be read, by its name.
 #[derive(Clone, Copy)]
 struct StringName<'a>(&'a prefix_string::Error);
 
@@ -182,7 +182,7 @@ impl fmt::Display for StringName<'_> {
     }
 }
 
-/// A Huffman coded payload that means nothing.
+/// A malformed Huffman coded payload.
 #[derive(Clone, Copy)]
 struct HuffmanName<'a>(&'a HuffmanDecodingError);
 
@@ -217,7 +217,7 @@ impl fmt::Display for WindowName<'_> {
     }
 }
 
-/// What the dynamic table refused, by its name.
+/// Returns the name of what the dynamic table refused.
 fn table_name(e: &dynamic::Error) -> Words
     ensures { counted_words result.front.now result.number result.back.now ≡ table_name e.now }
 {
@@ -235,7 +235,7 @@ fn table_name(e: &dynamic::Error) -> Words
     }
 }
 
-/// An index of no live entry, by the name of its kind.
+/// Returns the name of the kind of an index of no live entry.
 fn address_name(e: &vas::Error) -> Words
     ensures { counted_words result.front.now result.number result.back.now ≡ address_name e.now }
 {
@@ -246,7 +246,7 @@ fn address_name(e: &vas::Error) -> Words
     }
 }
 
-/// Words, and behind them a number and more, if there is one.
+/// Words, followed by a number and more words, if there is one.
 #[derive(Clone, Copy)]
 struct Words {
     front: &'static str,

@@ -25,7 +25,7 @@ use instructions::inspect_instructions;
 pub struct Inspection {
     /// The printed lines.
     pub text: String,
-    /// Why the events behind them were not inspected, if they were not.
+    /// Why the events after them were not inspected, if they were not.
     pub refused: Option<DecoderError>,
 }
 
@@ -63,7 +63,7 @@ fn inspect_from_empty(
     inspect_events(alloc, &mut decoder, events, text)
 }
 
-/// An empty decoder with this capacity in bytes, which is its agreed maximum too.
+/// Returns an empty decoder with this capacity in bytes, which is its agreed maximum too.
 fn new_decoder(alloc: Global, capacity: usize) -> Result<Decoder, Fault>
     ensures { MatchResult result
         (λ d. (capacity < 2 ^ 30) × (d.table ≡ empty_table capacity (Some capacity) 0))
@@ -75,7 +75,8 @@ fn new_decoder(alloc: Global, capacity: usize) -> Result<Decoder, Fault>
     }
 }
 
-/// An empty table with this capacity in bytes, which is its agreed maximum too; it is refused from 2^30 on.
+/// Returns an empty table with this capacity in bytes, which is its agreed maximum too. Fails if the capacity is 2^30
+/// or more.
 #[tactic(auto, using(crate::proofs::EmptyTables::resized_to_maximum, crate::proofs::EmptyTables::never_refused))]
 fn new_table(alloc: Global, capacity: usize) -> Result<DynamicTable, dynamic::Error>
     ensures { MatchResult result (λ t. (capacity < 2 ^ 30) × (t ≡ empty_table capacity (Some capacity) 0))

@@ -13,7 +13,7 @@ use serde_json::{Value, json};
 use std::alloc::{AllocError, Global};
 use std::str;
 
-/// The object of the fields that a block was decoded to, and the sum of their sizes, in a line.
+/// Returns the object of the fields that a block was decoded to, and the sum of their sizes, in a line.
 pub fn section_json(alloc: Global, decoded: &Decoded) -> Result<String, AllocError>
     requires { decoded.now.mem_size ≡ saturated_size (total_size (fields_in decoded.now.fields.items)) }
     ensures { IfOk result (λ text. string_bytes text ≡ section_json (fields_in decoded.now.fields.items)) }
@@ -24,7 +24,7 @@ pub fn section_json(alloc: Global, decoded: &Decoded) -> Result<String, AllocErr
     Ok(text)
 }
 
-/// The same as a value.
+/// Returns the object as a value.
 fn section_value(alloc: Global, decoded: &Decoded) -> Result<Value, AllocError>
     requires { decoded.now.mem_size ≡ saturated_size (total_size (fields_in decoded.now.fields.items)) }
     ensures { IfOk result (λ v. view v ≡ section_data (fields_in decoded.now.fields.items)) }
@@ -33,7 +33,7 @@ fn section_value(alloc: Global, decoded: &Decoded) -> Result<Value, AllocError>
     json!(in alloc; {"fields": fields, "size": decoded.mem_size})
 }
 
-/// An array of fields.
+/// Returns an array of fields.
 fn fields_value(alloc: Global, fields: &[HeaderField]) -> Result<Value, AllocError>
     ensures { IfOk result (λ v. view v ≡ fields_data (fields_in fields.now)) }
 {
@@ -44,7 +44,7 @@ fn fields_value(alloc: Global, fields: &[HeaderField]) -> Result<Value, AllocErr
     Ok(Value::Array(values))
 }
 
-/// The object of a field.
+/// Returns the object of a field.
 fn field_value(alloc: Global, field: &HeaderField) -> Result<Value, AllocError>
     ensures { IfOk result (λ v. view v ≡ field_data (field_of field.now)) }
 {

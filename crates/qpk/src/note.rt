@@ -1,4 +1,4 @@
-//! What is said of an input that is answered.
+//! Remarks on an input that was processed.
 
 ghost use Rattle.std.specs.Prelude.{◌≡◌, IfErr, IfOk, string_bytes};
 ghost use Rattle.std.specs.Option.{option_map};
@@ -9,7 +9,7 @@ use crate::command::Command;
 use crate::text::Fault;
 use std::alloc::{AllocError, Global};
 
-/// The line that is said of the input that a command answers, if one is.
+/// Returns the remark on the input of a command, as a line, if there is one.
 pub fn note_of(alloc: Global, command: Command, input: &[u8]) -> Result<Option<String>, Fault>
     ensures note { IfOk result (λ note. IsNoteOf command input.now (option_map string_bytes note)) }
     ensures memory { IfErr result (λ fault. fault ≡ Memory) }
@@ -20,7 +20,7 @@ pub fn note_of(alloc: Global, command: Command, input: &[u8]) -> Result<Option<S
     }
 }
 
-/// The line that says that a carriage return belongs to a value, if one stands before a line feed.
+/// Returns the line that says that a carriage return belongs to a value, if there is one before a line feed.
 fn return_note(alloc: Global, input: &[u8]) -> Result<Option<String>, AllocError>
     ensures { IfOk result (λ note. option_map string_bytes note ≡ return_note input.now) }
 {
@@ -33,7 +33,7 @@ fn return_note(alloc: Global, input: &[u8]) -> Result<Option<String>, AllocError
     Ok(Some(note))
 }
 
-/// The number, counted from 1, of the first line that ends in a carriage return and a line feed.
+/// Returns the number, counted from 1, of the first line that ends in a carriage return and a line feed.
 fn return_line(input: &[u8]) -> Option<usize>
     ensures { result ≡ return_line 1 input.now }
 {

@@ -11,8 +11,8 @@ use h3_qpack::{Decoded, DecoderError};
 use std::alloc::AllocError;
 
 /// Appends what an event prints: its outcome, with the bytes of the block that it made, if it made one, and those that
-/// it added to a stream, in lower-case hexadecimal, `-` if empty. Where it is refused, this is told in the words of
-/// its error.
+/// it added to a stream, in lower-case hexadecimal, `-` if empty. If it is refused, it prints that in the words of its
+/// error.
 pub fn push_outcome_lines(
     text: &mut String,
     outcome: &Outcome,

@@ -1,4 +1,4 @@
-//! The lines that are printed, by whichever command: each is appended to a text that is lent.
+//! The lines that commands print: each is appended to a borrowed text.
 
 ghost use Rattle.std.specs.Prelude.{◌≡◌, ◌++◌, IfSome, OnOk, string_bytes};
 ghost use Rattle.qpack_base.specs.HeaderFields.{field_of};

@@ -1,4 +1,4 @@
-//! Why the program answers nothing, and the line that tells it.
+//! Why the program prints no output, and the line that reports it.
 
 ghost use Rattle.std.specs.Prelude.{◌≡◌, IfOk, OnErr};
 ghost use Rattle.std.specs.Cow.{cow_str_bytes};
@@ -11,7 +11,7 @@ use crate::usage::{Topic, usage, usage_of};
 use std::alloc::{AllocError, Global};
 use std::borrow::CowStr;
 
-/// Why nothing was answered.
+/// Why there is no output.
 #[derive(Debug, Drop)]
 pub enum Refusal {
     /// The words are none of the usage's, and no addition to them.
@@ -22,7 +22,7 @@ pub enum Refusal {
     BadWord(Topic, Wanted, String),
     /// The input could not be read.
     Input,
-    /// The answer could not be written.
+    /// The output could not be written.
     Output,
     /// The input has a fault, or no memory was left.
     Fault(Fault),
@@ -62,8 +62,8 @@ impl From<Fault> for Refusal {
 }
 
 impl Refusal {
-    /// Returns the line that tells it; of the words of an addition, after the lines of how it is called. Memory is asked
-    /// for only to tell a word, the number of a line, or a refusal of the decoder.
+    /// Returns the line that reports it; for words of a command beyond the usage's four, after the lines of how it is
+    /// called. It asks for memory only to print a word, the number of a line, or a refusal of the decoder.
     pub fn line(&self, alloc: Global) -> Result<CowStr<'static, Global>, AllocError>
         ensures line { IfOk result (λ line. cow_str_bytes line ≡ refusal_line self.now) }
         ensures memory { OnErr result (MayWantMemory self.now) }
@@ -81,7 +81,7 @@ impl Refusal {
     }
 }
 
-/// The lines of how a command is called, and the line that tells that a word is missing.
+/// Returns the lines of how a command is called, and the line that reports a missing word.
 fn missing_line(
     alloc: Global,
     topic: Topic,
@@ -96,7 +96,7 @@ fn missing_line(
     Ok(CowStr::Owned(line))
 }
 
-/// The name of a word in the lines of how a command is called.
+/// Returns the name of a word in the lines of how a command is called.
 fn name_of(wanted: Wanted) -> &'static str
     ensures { result.now ≡ name_of wanted }
 {
@@ -114,7 +114,7 @@ fn name_of(wanted: Wanted) -> &'static str
     }
 }
 
-/// The lines of how a command is called, and the line that tells a word at fault.
+/// Returns the lines of how a command is called, and the line that reports a word at fault.
 fn bad_word_line(
     alloc: Global,
     topic: Topic,
@@ -128,7 +128,7 @@ fn bad_word_line(
     Ok(CowStr::Owned(format!(in alloc; "{usage}qpk: \"{word}\" is {words}\n")?))
 }
 
-/// What a word is not.
+/// Returns what a word is not.
 fn wanted_words(wanted: Wanted) -> &'static str
     ensures { result.now ≡ wanted_words wanted }
 {
@@ -141,7 +141,7 @@ fn wanted_words(wanted: Wanted) -> &'static str
     }
 }
 
-/// The line that tells a fault.
+/// Returns the line that reports a fault.
 fn fault_line(alloc: Global, fault: &Fault) -> Result<CowStr<'static, Global>, AllocError>
     ensures { IfOk result (λ line. cow_str_bytes line ≡ fault_line fault.now) }
 {

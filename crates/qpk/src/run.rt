@@ -14,8 +14,8 @@ use h3_qpack::dynamic;
 use h3_qpack::session::{Event, Session};
 use std::alloc::{AllocError, Global};
 
-/// Runs the events of a script, a line each, on a session with this capacity in bytes and this limit of blocked blocks;
-/// answers what they print. The script is read whole before the session begins.
+/// Runs the events of a script, a line each, on a session with this capacity in bytes and this limit of blocked blocks,
+/// and returns what they print. It reads the whole script before the session begins.
 pub fn run_script(
     alloc: Global,
     capacity: usize,
@@ -44,7 +44,7 @@ fn run_session(
     run_events(&mut session, events, text)
 }
 
-/// A session with this capacity in bytes and this limit of blocked blocks.
+/// Returns a session with this capacity in bytes and this limit of blocked blocks.
 fn begin(alloc: Global, capacity: usize, limit: usize) -> Result<Session, Fault>
     ensures { BeginsRun result capacity limit }
 {
@@ -78,7 +78,7 @@ fn run_event(session: &mut Session, event: &Event, text: &mut String) -> Result<
     push_outcome_lines(text, &outcome, made_block(session, event), added)
 }
 
-/// The stream that an event adds bytes to, if it adds any.
+/// Returns the stream that an event adds bytes to, if it adds any.
 fn written_stream<'a>(session: &'a Session, event: &Event) -> &'a [u8]
     ensures { result.now ≡ stored_stream_bytes (event_of event.now) session.now }
 {
@@ -88,7 +88,7 @@ fn written_stream<'a>(session: &'a Session, event: &Event) -> &'a [u8]
     }
 }
 
-/// The newest block of the stream that is encoded for, empty if there is none.
+/// Returns the newest block of the stream that is encoded for, empty if there is none.
 fn made_block<'a>(session: &'a Session, event: &Event) -> &'a [u8]
     ensures { result.now ≡ stored_block_bytes (event_of event.now) session.now }
 {

@@ -14,7 +14,7 @@ pub(crate) mod parts;
 
 use parts::{read_field_parts, read_number, split_part};
 
-/// The events of a script, a line each; or the first line that is none.
+/// Returns the events of a script, a line each, or the first line that is no event.
 pub fn read_script(alloc: Global, text: &[u8]) -> Result<Vec<Event>, Fault>
     ensures { ReadsScript result (script_events text.now) }
 {
@@ -50,7 +50,7 @@ impl FromLine for Event {
     }
 }
 
-/// The event of this name that has a number alone.
+/// Returns the event of this name that has a number alone.
 fn number_event(name: &[u8], number: u64) -> Option<Event>
     ensures { IsItem event_of result (event_of_number name.now number) }
 {

@@ -46,17 +46,17 @@ struct Output {
     has_found: bool,
 }
 
-/// What is to be said of an input that was answered, and the exit status.
+/// The remark on an input that was processed, and the exit status.
 #[derive(Drop)]
 struct Ending {
     note: Option<String>,
     status: u8,
 }
 
-/// Runs the program on its words, without its name, and its three streams, and returns the exit status:
-/// 0 if the answer was written to the output; 2 if it was, and `show` or `explain` has something in it that is refused; 1 if
-/// it was, and `check` found something, and else with the line of the refusal written to the faults. A write to the faults
-/// that fails is passed over.
+/// Runs the program on its words, without its name, and its three streams, and returns the exit status. It is 0 if the
+/// output was written. It is 2 if it was, and `show` or `explain` has something in it that is refused. It is 1 if it
+/// was, and `check` found something; and 1 in every other case, with the line of the refusal written to the faults. A
+/// write to the faults that fails is ignored.
 pub fn serve<R: Read, W: Write, E: Write>(
     alloc: Global,
     words: &[String],
@@ -64,14 +64,14 @@ pub fn serve<R: Read, W: Write, E: Write>(
     output: &mut W,
     faults: &mut E,
 ) -> u8
-    // At status 0 the answer to the input was written, and nothing else but what is said of header lists in QIF.
+    // At status 0 the output for the input was written, and on the faults only a remark on header lists in QIF.
     ensures answered { result ≡ 0 → (note : Option (List ℕ))
         × IsAnswered words.now (R.remaining input.old) (W.contents output.old) (W.contents output.new) note
         × SaysNote (E.contents faults.old) (E.contents faults.new) note }
-    // Else why: other words, an input that can't be read or has a fault, a refusal further on, before which all is
+    // Otherwise why: other words, an input that can't be read or has a fault, a refusal further on, before which all is
     // written, or an output that can't be written, which then has a part of what is asked for. The line of it is
-    // written to the faults, as far as they take it. There is no other status.
-    // Or the answer was written, and the status tells that something was refused or found.
+    // written to the faults, as far as they take it. There is no other status. Or the output was written, and the
+    // status says that something was refused or found.
     ensures refused { result ≢ 0 → ((result ≡ 1) × (refusal : Refusal)
         × EndsFor words.now (R.remaining input.old) (W.contents output.old) (W.contents output.new) refusal
         × AppendsFront (E.contents faults.old) (E.contents faults.new) (refusal_line refusal))
@@ -89,7 +89,7 @@ pub fn serve<R: Read, W: Write, E: Write>(
     }
 }
 
-/// Writes what is said of an input to the faults, if anything is.
+/// Writes the remark on an input to the faults, if there is one.
 fn say_note<E: Write>(note: Option<String>, faults: &mut E)
     ensures { SaysNote (E.contents faults.old) (E.contents faults.new) (option_map string_bytes note) }
 {
@@ -105,8 +105,8 @@ fn say<E: Write>(line: &str, faults: &mut E)
     let _ = write_bytes(faults, line.as_bytes());
 }
 
-/// Writes the line of a refusal to the faults, or that of want of memory where none is left to make it, and returns the
-/// exit status 1.
+/// Writes the line of a refusal to the faults, or that of out of memory if there is none left to make it, and returns
+/// the exit status 1.
 pub fn refuse<E: Write>(alloc: Global, refusal: &Refusal, faults: &mut E) -> u8
     ensures status { result ≡ 1 }
     ensures told { TellsBy refusal.now (AppendsFront (E.contents faults.old) (E.contents faults.new)) }
@@ -119,7 +119,7 @@ pub fn refuse<E: Write>(alloc: Global, refusal: &Refusal, faults: &mut E) -> u8
     1
 }
 
-/// Answers the words and the input at the output, and gives what is to be said of the input, and the status.
+/// Writes the output for the words and the input, and returns the remark on the input, and the status.
 fn run<R: Read, W: Write>(
     alloc: Global,
     words: &[String],
@@ -137,7 +137,7 @@ fn run<R: Read, W: Write>(
     run_command(alloc, command, words, input, output)
 }
 
-/// Answers a command of these words and the input at the output, and gives what is to be said of the input, and the status.
+/// Writes the output for a command of these words and the input, and returns the remark on the input, and the status.
 #[tactic(auto, using(crate::proofs::Tellings::stops_inspecting))]
 fn run_command<R: Read, W: Write>(
     alloc: Global,
@@ -167,7 +167,7 @@ fn run_command<R: Read, W: Write>(
     }
 }
 
-/// Returns the status of a command's answer, in which something is refused or found, or not.
+/// Returns the status of a command whose output has something refused or found, or not.
 fn status_of(command: Command, has_found: bool) -> u8
     requires { MayFind command has_found }
     ensures { HasStatus command result }
@@ -182,7 +182,7 @@ fn status_of(command: Command, has_found: bool) -> u8
     }
 }
 
-/// Returns the input that a command answers: all of it, none for help, and the bytes of the words where they have them.
+/// Returns the input that a command processes: all of it, none for help, and the bytes of the words if they have them.
 fn read_input<R: Read>(
     alloc: Global,
     command: Command,
@@ -232,7 +232,7 @@ fn bytes_of(alloc: Global, words: &[String]) -> Result<Vec<u8>, AllocError> {
     Ok(bytes)
 }
 
-/// What is written for an input, and the refusal that ends it.
+/// Returns what is written for an input, and the refusal that ends it.
 fn answer(alloc: Global, command: Command, input: &[u8]) -> Result<Output, Fault>
     ensures answers { AnswersInput command input.now result }
     ensures found { IfOk result (λ a. MayFind command a.has_found) }
@@ -279,7 +279,7 @@ fn help(alloc: Global, topic: Topic) -> Result<String, AllocError>
     Ok(text)
 }
 
-/// An answer in which something may be refused or found.
+/// Returns an output that may have something refused or found.
 fn viewed(view: View) -> Output
     ensures { result.refused ≡ None }
 {
@@ -290,7 +290,7 @@ fn viewed(view: View) -> Output
     }
 }
 
-/// An answer in text that no refusal ends.
+/// Returns an output in text that no refusal ends.
 fn whole(text: String) -> Output
     ensures bytes { result.bytes.items ≡ string_bytes text }
     ensures refused { result.refused ≡ None }
@@ -299,7 +299,7 @@ fn whole(text: String) -> Output
     of_bytes(text.into_bytes())
 }
 
-/// An answer that no refusal ends.
+/// Returns an output that no refusal ends.
 fn of_bytes(bytes: Vec<u8>) -> Output
     ensures bytes { result.bytes ≡ bytes }
     ensures refused { result.refused ≡ None }
@@ -312,7 +312,7 @@ fn of_bytes(bytes: Vec<u8>) -> Output
     }
 }
 
-/// The fields, a line each, and the line of their size.
+/// Returns the fields, a line each, and the line of their size.
 fn show_fields(alloc: Global, decoded: &Decoded) -> Result<String, NoMemory>
     requires { decoded.now.mem_size ≡ saturated_size (total_size (fields_in decoded.now.fields.items)) }
     ensures { IfOk result (λ text. string_bytes text ≡ printed_fields (fields_in decoded.now.fields.items)) }
@@ -323,7 +323,7 @@ fn show_fields(alloc: Global, decoded: &Decoded) -> Result<String, NoMemory>
     Ok(text)
 }
 
-/// What is written for a block whose fields are told in hexadecimal, up to a sum of sizes in bytes.
+/// Returns the output for a block whose fields are printed in hexadecimal, up to a sum of sizes in bytes.
 fn decode_to_hexadecimal(alloc: Global, input: &[u8], limit: u64) -> Result<Output, Fault>
     ensures answers { AnswersInput (DecodeHex limit) input.now result }
     ensures found { IfOk result (λ a. a.has_found ≡ false) }
@@ -332,7 +332,7 @@ fn decode_to_hexadecimal(alloc: Global, input: &[u8], limit: u64) -> Result<Outp
     Ok(whole(text))
 }
 
-/// What is written for a block whose fields are told as an object of JSON, up to a sum of sizes in bytes.
+/// Returns the output for a block whose fields are printed as an object of JSON, up to a sum of sizes in bytes.
 fn decode_to_json(alloc: Global, input: &[u8], limit: u64) -> Result<Output, Fault>
     ensures answers { AnswersInput (DecodeJson limit) input.now result }
     ensures found { IfOk result (λ a. a.has_found ≡ false) }
@@ -341,7 +341,7 @@ fn decode_to_json(alloc: Global, input: &[u8], limit: u64) -> Result<Output, Fau
     Ok(whole(text))
 }
 
-/// The fields in hexadecimal, a line each, and the line of their size.
+/// Returns the fields in hexadecimal, a line each, and the line of their size.
 fn show_hexadecimal(alloc: Global, decoded: &Decoded) -> Result<String, NoMemory>
     requires { decoded.now.mem_size ≡ saturated_size (total_size (fields_in decoded.now.fields.items)) }
     ensures { IfOk result (λ text. string_bytes text ≡ hexadecimal_answer (fields_in decoded.now.fields.items)) }

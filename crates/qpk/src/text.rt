@@ -31,11 +31,11 @@ pub enum Fault {
     BadEvent(usize),
     /// The text is no hexadecimal.
     NotHexadecimal,
-    /// Bytes were not decoded: those that the text stands for, or those of an event.
+    /// Bytes were not decoded: those of the text in hexadecimal, or those of an event.
     Refused(DecoderError),
     /// A table may not have this capacity.
     Capacity,
-    /// So many blocks may not be blocked.
+    /// The limit of blocked blocks is too large.
     Limit,
     /// Header lists were not encoded to a recording, or a recording was not decoded.
     Recording(session::Fault),
@@ -122,8 +122,8 @@ impl From<DecoderError> for Fault {
     }
 }
 
-/// The stateless block of the fields of the text's lines, `name TAB value` each, in lower-case
-/// hexadecimal; or the first line without a TAB.
+/// Returns the stateless block of the fields of the text's lines, `name TAB value` each, in lower-case hexadecimal; or
+/// the first line without a TAB.
 pub fn encode_text(alloc: Global, text: &[u8]) -> Result<String, Fault>
     ensures { EncodesText result (encode_answer text.now) }
 {
@@ -136,7 +136,7 @@ pub fn encode_text(alloc: Global, text: &[u8]) -> Result<String, Fault>
     Ok(hex::encode(alloc, block.as_slice())?)
 }
 
-/// The fields of the text's lines.
+/// Returns the fields of the text's lines.
 fn read_field_lines(alloc: Global, text: &[u8]) -> Result<Vec<HeaderField>, Fault>
     ensures { ReadsFields result (fields_from 1 (lines_of text.now)) }
 {
@@ -158,8 +158,8 @@ impl FromLine for HeaderField {
     }
 }
 
-/// The fields of the block that the text stands for in hexadecimal, in either case, with or without
-/// a line feed at its end, up to a sum of sizes.
+/// Returns the fields of the block that the text has in hexadecimal, in either case, with or without a line feed at its
+/// end, up to a sum of sizes.
 pub fn decode_text(alloc: Global, text: &[u8], max_size: u64) -> Result<Decoded, Fault>
     ensures { DecodesText result max_size (decode_of (without_feed text.now)) }
 {

@@ -1,4 +1,4 @@
--- What the calls that read lists answer.
+-- What the calls that read lists return.
 use Rattle.std.specs.Prelude.{◌≡◌, ℕ, List, [], ◌∷◌, ◌++◌, map, Result, Ok, Err}
 use Rattle.std.specs.Global.{Vec}
 use Rattle.qpack_spec.specs.Field.{Field}

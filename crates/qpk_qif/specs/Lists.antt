@@ -1,4 +1,4 @@
--- Header lists in QIF: a field a line, an empty line behind each list, and comments.
+-- Header lists in QIF: a field a line, an empty line after each list, and comments.
 use Rattle.std.specs.Prelude.{◌≡◌, ℕ, ◌+◌, List, [], ◌∷◌, ◌++◌, Option, Some, None, Result, Ok, Err, nat_eq}
 use Rattle.std.specs.Prelude.{if◌then◌else◌}
 use Rattle.std.specs.List.{AllByRecursion, flat_map}
@@ -7,7 +7,7 @@ use Rattle.qpk_qif.specs.Lines.{lines_of, field_of_line}
 
 -- ---- reading
 
--- what a line is: the end of a list, a comment, a field, or none of these, for want of a TAB
+-- what a line is: the end of a list, a comment, a field, or none of these, without a TAB
 pub data LineMeaning : Type 0 where
   Ends : LineMeaning
   Comment : LineMeaning
@@ -24,7 +24,7 @@ abbrev pub meaning_of_line : List ℕ → LineMeaning
 meaning_of_line [] = Ends
 meaning_of_line (b ∷ bytes) = if nat_eq b 35 then Comment else held (field_of_line (b ∷ bytes))
 
--- a field more at the front of the first list, which it begins where there is none
+-- one more field at the front of the first list, which it begins if there is none
 abbrev pub with_field : Field → List (List Field) → List (List Field)
 with_field f [] = (f ∷ []) ∷ []
 with_field f (fs ∷ lists) = (f ∷ fs) ∷ lists
@@ -67,8 +67,8 @@ abbrev pub IsNoComment : List ℕ → Type 0
 IsNoComment [] = Unit {0}
 IsNoComment (b ∷ bytes) = b ≡ 35 → ⊥
 
--- a field that can stand in a text: its name has no TAB, no line feed and no '#' at its front, and its value has no
--- line feed
+-- a field that a text can have: its name has no TAB, no line feed and no '#' at its front, and its value has no line
+-- feed
 pub record IsPlain (f : Field) : Type 0 where
   pub tabs : AllByRecursion (λ b. b ≡ 9 → ⊥) f.name
   pub feeds : AllByRecursion (λ b. b ≡ 10 → ⊥) f.name

@@ -80,7 +80,7 @@ impl Model for Lists {
     ghost view = { λ l. record { ended = lists_in l.ended.items; open_list = fields_in l.«open».items } };
 }
 
-/// The header lists of a text; or the first line that is none of the lines of QIF.
+/// Returns the header lists of a text, or the first line that is no line of QIF.
 pub fn read_lists(alloc: Global, text: &[u8]) -> Result<Vec<Vec<HeaderField>>, ListFault>
     ensures { ReadsLists result (lists_of text.now) }
 {
@@ -97,7 +97,7 @@ pub fn read_lists(alloc: Global, text: &[u8]) -> Result<Vec<Vec<HeaderField>>, L
     Ok(lists.finish()?)
 }
 
-/// What the line of this number is.
+/// Returns what the line of this number is.
 fn read_line(alloc: Global, line: &[u8], number: usize) -> Result<Line, ListFault>
     ensures { ReadsLine result number (meaning_of_line line.now) }
 {
@@ -112,7 +112,7 @@ fn read_line(alloc: Global, line: &[u8], number: usize) -> Result<Line, ListFaul
 }
 
 impl Lists {
-    /// No lists.
+    /// Returns an empty list.
     fn new(alloc: Global) -> Lists
         ensures { result ≡ record { ended = []; open_list = [] } }
     {
@@ -136,7 +136,7 @@ impl Lists {
         }
     }
 
-    /// All lists: behind those that ended the last one, if it has a field.
+    /// Returns all lists: those that ended, then the last one, if it has a field.
     fn finish(self) -> Result<Vec<Vec<HeaderField>>, AllocError>
         ensures { IfOk result (λ lists. lists_in lists.items ≡ all_gathered self) }
     {
@@ -148,7 +148,7 @@ impl Lists {
     }
 }
 
-/// Appends a list: each field as a line, and an empty line. On error some of it may stand.
+/// Appends a list: each field as a line, and an empty line. On error a part of it may remain.
 pub fn push_list(out: &mut Vec<u8>, fields: &[HeaderField]) -> Result<(), AllocError>
     ensures { OnOk result (out.new.items ≡ out.old.items ++ text_of_list (fields_in fields.now)) }
 {
@@ -158,7 +158,7 @@ pub fn push_list(out: &mut Vec<u8>, fields: &[HeaderField]) -> Result<(), AllocE
     Ok(out.push(b'\n')?)
 }
 
-/// Appends a field as a line. On error some of it may stand.
+/// Appends a field as a line. On error a part of it may remain.
 fn push_field(out: &mut Vec<u8>, field: &HeaderField) -> Result<(), AllocError>
     ensures { OnOk result (out.new.items ≡ out.old.items ++ text_of_field (field_of field.now)) }
 {

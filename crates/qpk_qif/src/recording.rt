@@ -1,5 +1,5 @@
 //! Recordings of the offline interop format: 8 bytes of a stream's number and 4 of a length, each with the most
-//! significant byte first, and so many bytes.
+//! significant byte first, and that many bytes.
 
 ghost use Rattle.std.specs.Prelude.{◌≡◌, ◌++◌, ◌<◌, ◌^◌, OnOk, IfSome, length};
 ghost use Rattle.qpk_qif.specs.Records.{written_record, CutsRecord};
@@ -15,11 +15,11 @@ pub struct Record<'a> {
     pub bytes: &'a [u8],
 }
 
-/// The first record, and what stands behind it; none where it does not stand whole.
+/// Returns the first record, and the input after it; `None` if there is no whole one.
 pub fn split_record(input: &[u8]) -> Option<(Record<'_>, &[u8])>
-    // What is answered stands at the front.
+    // What it returns is at the front.
     ensures found { IfSome result (λ r. input.now ≡ written_record r.0.stream r.0.bytes.now ++ r.1.now) }
-    // And what stands at the front is answered.
+    // It returns a record that is at the front.
     ensures only { CutsRecord input.now result }
     ensures shorter { IfSome result (λ r. length r.1.now < length input.now) }
 {
@@ -34,7 +34,7 @@ pub fn split_record(input: &[u8]) -> Option<(Record<'_>, &[u8])>
     Some((Record { stream, bytes }, rest))
 }
 
-/// Appends a record. On error some of it may stand.
+/// Appends a record. On error a part of it may remain.
 pub fn push_record(out: &mut Vec<u8>, stream: u64, bytes: &[u8]) -> Result<(), AllocError>
     requires { length bytes.now < 2 ^ 32 }
     ensures { OnOk result (out.new.items ≡ out.old.items ++ written_record stream bytes.now) }

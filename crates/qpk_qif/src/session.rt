@@ -1,7 +1,7 @@
 //! Header lists encoded to a recording, and a recording decoded to header lists (RFC 9204).
 //!
-//! Lists are encoded on the streams 1, 2, 3 and so on. The maximum table capacity is the capacity that is asked for. The
-//! first record of an encoded recording sets it, where it is above 0: so a decoder whose table begins at capacity 0
+//! Lists are encoded on the streams 1, 2, 3 and so on. The maximum table capacity is the capacity that is asked for.
+//! The first record of an encoded recording sets it, if it is above 0: so a decoder whose table begins at capacity 0
 //! (RFC 9204, section 3.2.2) reads the recording, and so does one whose table has the whole capacity from the start, as
 //! it has in the offline interop. Decoding begins with the whole capacity, and so reads recordings of either kind.
 //!
@@ -45,7 +45,7 @@ pub struct DecoderSettings {
 /// Why lists were not encoded, or a recording was not decoded. Lines, lists and records are counted from 1.
 #[derive(Clone, Copy, Debug, PartialEq, Drop, ThisError)]
 pub enum Fault {
-    /// This line of the text is none of the lines of QIF.
+    /// This line of the text is no line of QIF.
     #[error("line {0}: no tab")]
     NoTab(usize),
     /// The block of this list, or the instructions before it, have 2^32 bytes or more.
@@ -54,7 +54,7 @@ pub enum Fault {
     /// The encoder refuses the acknowledgment of this list's block.
     #[error("list {0}: {1}")]
     NotHeard(u64, EncoderError),
-    /// This record does not stand whole.
+    /// This record is not whole.
     #[error("record {0}: cut off")]
     Cut(usize),
     /// The instructions of this record, or its block, are refused.
@@ -72,7 +72,7 @@ pub enum Fault {
     /// A table may not have this capacity, which is 2^30 or more.
     #[error("capacity too large")]
     Capacity,
-    /// So many blocks may not be blocked, 65,535 or more.
+    /// The limit of blocked blocks is 65,535 or more.
     #[error("limit of blocked streams too large")]
     Limit,
     /// No memory was left.
@@ -117,7 +117,7 @@ impl From<dynamic::Error> for Fault {
     }
 }
 
-/// The recording of the lists of a text in QIF: for each list a record of stream 0 with the instructions of the
+/// Returns the recording of the lists of a text in QIF: for each list a record of stream 0 with the instructions of the
 /// encoder, if there are any, and one of the list's stream with its block.
 pub fn encode_lists(
     alloc: Global,
@@ -135,8 +135,8 @@ pub fn encode_lists(
     Ok(recording)
 }
 
-/// The lists of a recording, in QIF, in the order of their streams' numbers, and of one stream in the order of its
-/// records. A block that waits for insertions is kept, and read once they came. An empty recording has no list.
+/// Returns the lists of a recording, in QIF, in the order of their streams' numbers, and of one stream in the order of
+/// its records. A block that waits for insertions is kept, and read once they came. An empty recording has no list.
 pub fn decode_records(
     alloc: Global,
     settings: DecoderSettings,

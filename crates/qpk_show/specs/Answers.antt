@@ -1,4 +1,4 @@
--- What the calls of an onlooker answer.
+-- What the calls of an onlooker return.
 use Rattle.std.specs.Prelude.{◌≡◌, ℕ, ◌^◌, ◌-◌, min, List, map, option_map, Option, None, Some, Result, Ok, Err}
 use Rattle.std.specs.Global.{Vec}
 use Rattle.qpack_spec.specs.Field.{Field}
@@ -64,23 +64,23 @@ AnswersLine view new (Err e) step = (fault : KindFault) × (fault_of e ≡ Some 
 abbrev pub under : ReadUnder → Under
 under u = record { window = window u.table.now; required = u.required; base = u.base; section = u.section }
 
--- the line that a value of the code stands for
+-- the line that a value of the code represents
 abbrev pub shown_of : ReadLine → LineShown
 shown_of l =
     record { offset = l.offset; line = line_of l.line; never_indexed = l.never_indexed; field = field_of l.field }
 
--- the lines that values of the code stand for
+-- the lines that values of the code represent
 abbrev pub lines_of : List ReadLine → List LineShown
 lines_of ls = map shown_of ls
 
--- the value of the code tells this fault; an index is told up to the greatest number of 64 bits
+-- the value of the code reports this fault; an index is reported up to the greatest number of 64 bits
 abbrev pub TellsFault : ReadFault → LineFault → Type 0
 TellsFault (line.Unreadable e) fault = (k : KindFault) × (fault_of e ≡ Some k) × (fault ≡ Unreadable k)
 TellsFault (line.PastRequired index) fault =
     (absolute : ℕ) × (index ≡ min absolute (2 ^ 64 - 1)) × (fault ≡ PastRequired absolute)
 TellsFault (line.Meaningless e) fault = (f : Fault) × Tells e f × (fault ≡ Meaningless f)
 
--- the error of bytes that are no line, and that of a line that means nothing; want of memory stays what it is
+-- the error of bytes that are no line, and that of a line without a meaning; out of memory stays itself
 abbrev pub unreadable_line : ParseError → LineError
 unreadable_line Memory = error.Memory
 unreadable_line e = error.Fault (line.Unreadable e)
@@ -89,7 +89,7 @@ abbrev pub meaningless_line : DecoderError → LineError
 meaningless_line decoder.Memory = error.Memory
 meaningless_line e = error.Fault (line.Meaningless e)
 
--- the error tells the fault that was read; or memory was refused
+-- the error reports the fault that was read; or memory was refused
 abbrev pub FailsLine : {A : Type 0} → LineError → Result A LineFault → Type 0
 FailsLine error.Memory read = Unit {0}
 FailsLine (error.Fault e) read = (fault : LineFault) × TellsFault e fault × (read ≡ Err fault)
@@ -99,12 +99,12 @@ abbrev pub GivesField : Result HeaderField LineError → Result Field LineFault 
 GivesField (Ok f) read = read ≡ Ok (field_of f)
 GivesField (Err e) read = FailsLine e read
 
--- the line at the front of the bytes, and the cursor stands behind it; or why it can't be read
+-- the line at the front of the bytes, and the cursor is after it; or why it can't be read
 abbrev pub DecodesLine : CursorView → Result BlockLine LineError → Result (Line × List ℕ) KindFault → Type 0
 DecodesLine new (Ok l) read = read ≡ Ok (line_of l, new.rest)
 DecodesLine new (Err e) read = FailsLine e (or_unreadable_line read)
 
--- the line that is shown, and the cursor stands behind it; or why there is none
+-- the line that is shown, and the cursor is after it; or why there is none
 abbrev pub ReadsLine : CursorView → Result ReadLine LineError → Result (LineShown × List ℕ) LineFault → Type 0
 ReadsLine new (Ok l) read = read ≡ Ok (shown_of l, new.rest)
 ReadsLine new (Err e) read = FailsLine e read
@@ -119,7 +119,7 @@ IsStop (Some s) stop =
 abbrev pub AreLines : Vec ReadLine × Option ReadStop → Shown → Type 0
 AreLines r s = (lines_of r.0.items ≡ s.0) × IsStop r.1 s.1
 
--- the value of the code tells why there is no section
+-- the value of the code reports why there is no section
 abbrev pub TellsRefusal : ReadRefusal → PrefixRefusal → Type 0
 TellsRefusal (prefix.NoPrefix e) refusal = (k : KindFault) × (fault_of e ≡ Some k) × (refusal ≡ NoPrefix k)
 TellsRefusal (prefix.BadPrefix e) refusal = (f : PrefixFault) × (e ≡ error_of_prefix f) × (refusal ≡ BadPrefix f)
@@ -185,13 +185,13 @@ abbrev pub ShowsOne : Result ReadShown NoMemory → Observed → Option (one.Sho
 ShowsOne (Ok s) new next = (x : one.Shown) × IsShown s x × (next ≡ Some (x, new))
 ShowsOne (Err e) new next = Unit {0}
 
--- the same, or nothing is to be shown
+-- what is shown next, and what is left then; or nothing is to be shown; or memory was refused
 abbrev pub ShowsNext : Result (Option ReadShown) NoMemory → Observed → Observed → Option (one.Shown × Observed) → Type 0
 ShowsNext (Ok (Some s)) old new next = (x : one.Shown) × IsShown s x × (next ≡ Some (x, new))
 ShowsNext (Ok None) old new next = (next ≡ None) × (new ≡ old)
 ShowsNext (Err e) old new next = Unit {0}
 
--- ---- what is refused; want of memory is no thing that is shown
+-- ---- what is refused; out of memory is not a thing that is shown
 
 abbrev pub no_memory : NoMemory
 no_memory = record {}

@@ -21,7 +21,7 @@ nothing_awaited = record { known = 0; sent = [] }
 abbrev pub with_sent : Awaited → ℕ → ℕ → Awaited
 with_sent w stream required = record w { sent = w.sent ++ record { stream = stream; required = required } ∷ [] }
 
--- the known received count, where so many insertions are known to be received too
+-- the known received count, if this many insertions are known to be received too
 abbrev pub known_with : ℕ → ℕ → ℕ
 known_with known required = if nat_lt known required then required else known
 

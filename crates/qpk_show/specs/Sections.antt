@@ -41,8 +41,8 @@ pub data PrefixRefusal : Type 0 where
   BadPrefix : (fault : PrefixFault) → PrefixRefusal
   CountAtZero : PrefixRefusal
 
--- a section: its required insert count, its base, its lines, and the stop that ends them early; or it waits for so many
--- insertions; or it is refused for its prefix
+-- a section: its required insert count, its base, its lines, and the stop that ends them early; or it waits for this
+-- many insertions; or it is refused for its prefix
 pub data Reading : Type 0 where
   Lines : (required base : ℕ) (lines : List LineShown) (stop : Option Stop) → Reading
   Blocked : (required : ℕ) → Reading
@@ -60,7 +60,7 @@ abbrev pub or_unreadable_line : {A : Type 0} → Result A KindFault → Result A
 or_unreadable_line (Ok x) = Ok x
 or_unreadable_line (Err fault) = Err (Unreadable fault)
 
--- a line that means nothing
+-- a line without a meaning
 abbrev pub or_meaningless : {A : Type 0} → Result A Fault → Result A LineFault
 or_meaningless (Ok x) = Ok x
 or_meaningless (Err fault) = Err (Meaningless fault)
@@ -75,7 +75,7 @@ shown_field u l =
     if nat_le (reference_of u.base l) u.required then or_meaningless (line_field u.window u.base l)
     else Err (PastRequired (reference_of u.base l))
 
--- the line that begins with this byte, at the front of these bytes of the section, and the bytes behind it
+-- the line that begins with this byte, at the front of these bytes of the section, and the bytes after it
 abbrev pub shown_line_at : Under → ℕ → List ℕ → Result (LineShown × List ℕ) LineFault
 shown_line_at u first bytes =
     or_unreadable_line (line_at bytes) >>= λ r. shown_field u r.0
@@ -92,23 +92,23 @@ Shown = List LineShown × Option Stop
 abbrev pub with_line : LineShown → Shown → Shown
 with_line l s = (l ∷ s.0, s.1)
 
--- a line that was read, in front of those behind it; or the stop at it, so many bytes before the end of the section
+-- a line that was read, before those that follow it; or the stop at it, this many bytes before the end of the section
 abbrev pub with_next : Under → ℕ → (List ℕ → Shown) → Result (LineShown × List ℕ) LineFault → Shown
 with_next u left behind (Ok r) = with_line r.0 (behind r.1)
 with_next u left behind (Err fault) = ([], Some (record { offset = u.section - left; fault = fault }))
 
--- the lines in turn, in so many steps at most, until one gives no field
+-- the lines in turn, in at most this many steps, until one gives no field
 unfoldable pub shown_lines_at : ℕ → Under → List ℕ → Shown
 shown_lines_at steps u [] = ([], None)
 shown_lines_at zero u (b ∷ bytes) = ([], None)
 shown_lines_at (suc steps) u (b ∷ bytes) =
     with_next u (length (b ∷ bytes)) (λ rest. shown_lines_at steps u rest) (shown_line_at u b (b ∷ bytes))
 
--- all lines of the bytes behind a prefix; each takes a byte at least
+-- all lines of the bytes after a prefix; each takes a byte at least
 abbrev pub shown_lines : Under → List ℕ → Shown
 shown_lines u bytes = shown_lines_at (length bytes) u bytes
 
--- the section behind a prefix that is in range or not
+-- the section after a prefix that is in range or not
 abbrev pub shown_behind : Table → ℕ → List ℕ → Result (ℕ × ℕ) PrefixFault → Reading
 shown_behind t section rest (Err fault) = Refused (BadPrefix fault)
 shown_behind t section rest (Ok p) =
@@ -118,7 +118,7 @@ shown_behind t section rest (Ok p) =
     Lines p.0 p.1 s.0 s.1
     )
 
--- the section where a prefix stands in front, or none
+-- the section if a prefix is at the front, or none is
 abbrev pub shown_section_behind : Table → ℕ → Result (Prefix × List ℕ) KindFault → Reading
 shown_section_behind t section (Err fault) = Refused (NoPrefix fault)
 shown_section_behind t section (Ok p) =

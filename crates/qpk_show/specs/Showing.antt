@@ -23,8 +23,8 @@ pub record Arrived : Type 0 where
   pub bytes : List ℕ
   pub waits_for : Option ℕ
 
--- what came of a connection: the table behind the instructions that were taken, how many streams may be blocked, the
--- two streams, the sections that are not shown yet, in the order in which they came, and what the decoder stream may tell
+-- what came of a connection: the table after the instructions that were applied, the limit of blocked streams, the two
+-- streams, the sections that are not shown yet, in the order in which they came, and what the decoder stream may report
 pub record Observed : Type 0 where
   pub table : Table
   pub limit : ℕ
@@ -45,7 +45,7 @@ observed_at_first maximum limit =
       awaited = nothing_awaited;
     }
 
--- a section more, behind those that came before
+-- one more section, after those that came before
 abbrev pub with_section : Observed → ℕ → List ℕ → Observed
 with_section o stream section =
     record o { arrived = o.arrived ++ record { stream = stream; bytes = section; waits_for = None } ∷ [] }
@@ -58,9 +58,10 @@ abbrev pub without_stream : Observed → ℕ → Observed
 without_stream o stream = record o { arrived = of_other_streams stream o.arrived }
 
 -- what is shown: an encoder instruction that was applied, at the offset of its stream where it begins, with the field
--- that it inserts; one that the table refuses; bytes that are none; a decoder instruction; one that the sections and
--- insertions before it refuse; bytes that are none; a section of a stream, and whether it was blocked before; one that is
--- blocked until so many insertions; and one that would be, where no more streams may be blocked (section 2.1.2)
+-- that it inserts; one that the table refuses; bytes that are no instruction; a decoder instruction; one that the
+-- sections and insertions before it refuse; bytes that are no instruction; a section of a stream, and whether it was
+-- blocked before; one that is blocked until this many insertions; and one that would be, if the limit of blocked
+-- streams permitted it (section 2.1.2)
 pub data Shown : Type 0 where
   Applied : (offset : ℕ) (instruction : EncoderInstruction) (inserted : Option Field) → Shown
   NotApplied : (offset : ℕ) (instruction : EncoderInstruction) (refusal : TableRefusal) → Shown
@@ -102,7 +103,7 @@ abbrev pub may_wait : ℕ → List Arrived → ℕ → Bool
 may_wait limit arrived stream =
     list_any (λ a. waits_on stream a) arrived || nat_lt (blocked_streams arrived) limit
 
--- a section that was taken from this index waits there for so many insertions, if it may
+-- a section that was taken from this index waits there for this many insertions, if it may
 abbrev pub blocked_at : Observed → ℕ → Arrived → ℕ → Shown × Observed
 blocked_at o index a required =
     if may_wait o.limit o.arrived a.stream

@@ -4,7 +4,7 @@ use Rattle.std.specs.Prelude.{Err}
 use Rattle.qpack_wire.specs.Alone.{KindFault, is_cut_kind}
 use Rattle.qpk_show.specs.declared.stream.Cut.{Cut}
 
--- the bytes that came, how many of them were taken, and whether those behind are refused
+-- the bytes that came, how many of them were consumed, and whether those after them are refused
 pub record Stream : Type 0 where
   pub received : List ℕ
   pub taken : ℕ
@@ -18,8 +18,8 @@ unread s = drop s.taken s.received
 abbrev pub refused : Stream → Stream
 refused s = record s { is_refused = true }
 
--- what reading answers: the line that was read, or none where none stands whole, or why there is none; and the stream
--- behind it
+-- the result of reading: the line that was read, or none if none is whole, or why there is none; and the stream after
+-- it
 abbrev pub line_read : {L : Type 0} → Stream → Result (L × List ℕ) KindFault → Result (Option L) KindFault × Stream
 line_read s (Ok r) = (Ok (Some r.0), record s { taken = length s.received - length r.1 })
 line_read s (Err fault) = if is_cut_kind fault then (Ok None, s) else (Err fault, refused s)
@@ -29,8 +29,8 @@ abbrev pub next_of : {L : Type 0} → (List ℕ → Result (L × List ℕ) KindF
     → Result (Option L) KindFault × Stream
 next_of read s = if s.is_refused then (Ok None, s) else line_read s (read (unread s))
 
--- the front of a line that does not stand whole, where nothing is taken any more: the bytes that are not taken, if some
--- are and they are not refused
+-- the front of a line that is not whole, once nothing more is taken: the bytes that are not consumed, if there are some
+-- and they are not refused
 abbrev pub cut_of : Stream → Option Cut
 cut_of s =
     if s.is_refused || nat_eq (length s.received - s.taken) 0 then None

@@ -25,11 +25,11 @@ pub enum HearingFault {
     ZeroIncrement,
     /// It raises the known received count by this, above the insertions made (RFC 9204, section 4.4.3).
     PastInsertions(usize),
-    /// It acknowledges a section of this stream, which has none that waits (RFC 9204, section 4.4.1).
+    /// It acknowledges a section of this stream, on which none waits (RFC 9204, section 4.4.1).
     UnknownStream(u64),
 }
 
-/// What the decoder stream may tell.
+/// What the decoder stream may report.
 #[derive(Debug, Drop)]
 pub(crate) struct Awaited {
     /// How many insertions are known to be received.
@@ -128,14 +128,14 @@ impl Awaited {
     }
 }
 
-/// The known received count, where this many insertions are known to be received too.
+/// Returns the known received count, if this many insertions are known to be received too.
 fn known_with(known: usize, required: usize) -> usize
     ensures { result ≡ known_with known required }
 {
     if known < required { required } else { known }
 }
 
-/// The index of the first section of a stream.
+/// Returns the index of the first section of a stream.
 fn first_on(sent: &[Sent], stream: u64) -> Option<usize>
     ensures { result ≡ position (λ s. nat_eq s.stream stream) sent.now }
 {

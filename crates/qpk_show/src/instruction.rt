@@ -34,7 +34,7 @@ pub fn apply_instruction(
     apply_line(table, line)
 }
 
-/// Whether an instruction inserts a field that it spells (RFC 9204, sections 4.3.2 and 4.3.3).
+/// Returns whether an instruction inserts a field that it spells (RFC 9204, sections 4.3.2 and 4.3.3).
 fn inserts(line: &EncoderLine) -> bool
     ensures { result ≡ inserts (encoder_instruction_of line.now) }
 {
@@ -76,7 +76,7 @@ fn apply_line(
     }
 }
 
-/// The field that an insertion with a name reference asks for (RFC 9204, section 4.3.2).
+/// Returns the field that an insertion with a name reference asks for (RFC 9204, section 4.3.2).
 #[tactic(auto, unfolding(qpack_spec::specs::Table::apply_encoder_instruction))]
 fn with_name(table: &ReceivedTable, line: &InsertWithNameRef) -> Result<HeaderField, DecoderError>
     ensures { FindsToInsert table.now (encoder_instruction_of_insert_with_name_ref line.now) result }
@@ -91,7 +91,7 @@ fn with_name(table: &ReceivedTable, line: &InsertWithNameRef) -> Result<HeaderFi
     }
 }
 
-/// The field that a duplicate asks for (RFC 9204, section 4.3.4).
+/// Returns the field that a duplicate asks for (RFC 9204, section 4.3.4).
 #[tactic(auto, unfolding(qpack_spec::specs::Table::apply_encoder_instruction))]
 fn duplicated(table: &ReceivedTable, index: usize) -> Result<HeaderField, DecoderError>
     ensures { FindsToInsert table.now (DuplicateOf index) result }

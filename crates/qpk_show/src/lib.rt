@@ -1,5 +1,5 @@
 //! A QPACK connection (RFC 9204) as an onlooker sees it, who has the bytes of both streams and the field sections: what
-//! each instruction and each line is, where it stands, and what it means.
+//! each instruction and each line is, where it is, and what it means.
 #![tactic(auto)]
 
 pub mod awaited;

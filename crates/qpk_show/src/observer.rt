@@ -62,7 +62,7 @@ impl Model for Arrived {
 }
 
 impl Arrived {
-    /// Whether it can be read now: it was not tried yet, or what it waits for has come.
+    /// Returns whether it can be read now: it was not tried yet, or what it waits for has come.
     fn is_due(&self, inserted: usize) -> bool
         ensures { result ≡ is_due inserted self.now }
     {
@@ -72,14 +72,14 @@ impl Arrived {
         }
     }
 
-    /// Whether it waits.
+    /// Returns whether it waits.
     fn is_waiting(&self) -> bool
         ensures { result ≡ is_waiting self.now }
     {
         self.waits_for.is_some()
     }
 
-    /// Whether it waits on this stream.
+    /// Returns whether it waits on this stream.
     fn waits_on(&self, stream: u64) -> bool
         ensures { result ≡ waits_on stream self.now }
     {
@@ -103,9 +103,9 @@ impl Model for Observer {
 }
 
 impl Observer {
-    /// An onlooker to whom nothing came, of a connection with this maximum table capacity in bytes, where so many
-    /// streams may be blocked. The table begins at capacity 0 (RFC 9204, section 3.2.2). A maximum from 2^30 on is
-    /// refused.
+    /// Returns an onlooker who has seen nothing, of a connection with this maximum table capacity in bytes and this
+    /// limit of blocked streams. The table begins at capacity 0 (RFC 9204, section 3.2.2). Returns `None` if the
+    /// maximum is 2^30 or more.
     pub fn new(alloc: Global, maximum: usize, limit: usize) -> Option<Observer>
         ensures { MatchOption result (2 ^ 30 ≤ maximum)
             (λ o. (maximum < 2 ^ 30) × (o ≡ observed_at_first maximum limit)) }
@@ -124,21 +124,21 @@ impl Observer {
         })
     }
 
-    /// The table behind the instructions that were shown.
+    /// Returns the table after the instructions that were shown.
     pub fn table(&self) -> &ReceivedTable
         ensures { result.now ≡ self.now.table }
     {
         &self.table
     }
 
-    /// The front of an encoder instruction that does not stand whole, where nothing is to be shown.
+    /// Returns the front of an encoder instruction that is not whole, once there is nothing to show.
     pub fn encoder_cut(&self) -> Option<Cut>
         ensures { result ≡ cut_of self.now.encoder_stream }
     {
         self.encoder_stream.cut()
     }
 
-    /// The front of a decoder instruction that does not stand whole, where nothing is to be shown.
+    /// Returns the front of a decoder instruction that is not whole, once there is nothing to show.
     pub fn decoder_cut(&self) -> Option<Cut>
         ensures { result ≡ cut_of self.now.decoder_stream }
     {
@@ -169,7 +169,7 @@ impl Observer {
         self.decoder_stream.receive(bytes)
     }
 
-    /// A field section of a stream comes.
+    /// Receives a field section of a stream.
     pub fn receive_section(&mut self, stream: u64, section: &[u8]) -> Result<(), AllocError>
         ensures { OnOk result (self.new ≡ with_section self.old stream section.now) }
     {
@@ -182,14 +182,14 @@ impl Observer {
         Ok(())
     }
 
-    /// Reading of a stream is given up: its sections that are not shown are dropped.
+    /// Gives up reading a stream: drops its sections that are not shown.
     pub fn cancel(&mut self, stream: u64)
         ensures { self.new ≡ without_stream self.old stream }
     {
         drop_stream(&mut self.arrived, stream);
     }
 
-    /// Shows the next thing, or none where more has to come. For want of memory what is left is unspecified.
+    /// Shows the next thing, or `None` if more has to come. If memory runs out, what is left is unspecified.
     #[tactic(auto, unfolding(crate::specs::Showing::next_shown))]
     pub fn next(&mut self) -> Result<Option<Shown>, NoMemory>
         ensures { ShowsNext result self.old self.new (next_shown self.old) }
@@ -200,7 +200,7 @@ impl Observer {
         }
     }
 
-    /// The index of the first section that can be read now.
+    /// Returns the index of the first section that can be read now.
     fn due(&self) -> Option<usize>
         ensures { result ≡ position (λ a. is_due (insert_count self.now.table) a) self.now.arrived }
     {
@@ -288,7 +288,7 @@ impl Observer {
         Ok(Shown::BlockedUntil { stream, required })
     }
 
-    /// Whether a section of this stream may wait (RFC 9204, section 2.1.2).
+    /// Returns whether a section of this stream may wait (RFC 9204, section 2.1.2).
     fn may_wait(&self, stream: u64) -> bool
         ensures { result ≡ may_wait self.now.limit self.now.arrived stream }
     {
@@ -343,7 +343,7 @@ impl Observer {
         }
     }
 
-    /// Holds a decoder instruction that was taken against the sections and insertions before it. On error the stream ends.
+    /// Checks a decoder instruction against the sections and insertions before it. On error the stream ends.
     fn show_told(&mut self, offset: usize, line: DecoderLine) -> Shown
         ensures { ShowsOne (Ok result) self.new (Some (heard self.old offset (decoder_instruction_of line)
             self.old.decoder_stream (hear (insert_count self.old.table) self.old.awaited
@@ -363,21 +363,21 @@ impl Observer {
     }
 }
 
-/// Whether a section waits on this stream.
+/// Returns whether a section waits on this stream.
 fn any_waits_on(arrived: &[Arrived], stream: u64) -> bool
     ensures { result ≡ list_any (λ a. waits_on stream a) arrived.now }
 {
     arrived.iter().any(|a| a.waits_on(stream))
 }
 
-/// Whether a section waits, and none of these on its stream.
+/// Returns whether a section waits, and none of these on its stream.
 fn is_last_on_its_stream(first: &Arrived, more: &[Arrived]) -> bool
     ensures { result ≡ (is_waiting first.now && not (list_any (λ a. waits_on first.now.stream a) more.now)) }
 {
     first.is_waiting() && !any_waits_on(more, first.stream)
 }
 
-/// How many streams have a section that waits.
+/// Returns how many streams have a section that waits.
 #[tactic(auto, unfolding(crate::specs::Showing::blocked_streams))]
 fn blocked_streams(arrived: &[Arrived]) -> usize
     ensures { result ≡ blocked_streams arrived.now }
@@ -420,7 +420,7 @@ fn no_decoder_instruction(offset: usize, error: ParseError) -> Result<Option<Sho
     }
 }
 
-/// An instruction that is refused, unless memory was.
+/// Returns an instruction that is refused, or out of memory.
 fn not_applied(offset: usize, line: EncoderLine, error: DecoderError) -> Result<Shown, NoMemory>
     ensures { result ≡ not_applied offset line error }
 {

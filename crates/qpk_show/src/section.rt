@@ -82,10 +82,10 @@ pub enum Reading {
         base: usize,
         /// The lines that mean a field, in order.
         lines: Vec<LineShown>,
-        /// The line behind them that means none, if there is one.
+        /// The line after them that means no field, if there is one.
         stop: Option<Stop>,
     },
-    /// It waits for so many insertions.
+    /// It waits for this many insertions.
     Blocked(usize),
     /// It is refused for its prefix.
     Refused(PrefixRefusal),
@@ -111,7 +111,7 @@ enum LineError {
     Memory,
 }
 
-/// The error of bytes that are no line; want of memory stays what it is.
+/// Returns the error of bytes that are no line; out of memory stays itself.
 fn unreadable(e: ParseError) -> LineError
     ensures { result ≡ unreadable_line e }
 {
@@ -121,7 +121,7 @@ fn unreadable(e: ParseError) -> LineError
     }
 }
 
-/// The error of a line that means nothing; want of memory stays what it is.
+/// Returns the error of a line without a meaning; out of memory stays itself.
 fn meaningless(e: DecoderError) -> LineError
     ensures { result ≡ meaningless_line e }
 {
@@ -142,7 +142,7 @@ struct Under<'a> {
     section: usize,
 }
 
-/// The field that a line means (RFC 9204, sections 4.5.2 to 4.5.6).
+/// Returns the field that a line means (RFC 9204, sections 4.5.2 to 4.5.6).
 #[tactic(auto, unfolding(qpack_spec::specs::Reading::line_field))]
 fn shown_field(
     table: &DynamicTableDecoder<NoIndex>,
@@ -163,7 +163,7 @@ fn shown_field(
     }
 }
 
-/// The field that an indexed field line means.
+/// Returns the field that an indexed field line means.
 #[tactic(auto, unfolding(qpack_spec::specs::Reading::line_field, qpack_spec::specs::Reading::static_field))]
 fn field_of_indexed(
     table: &DynamicTableDecoder<NoIndex>,
@@ -178,7 +178,7 @@ fn field_of_indexed(
     }
 }
 
-/// The field that a literal field line with a name reference means.
+/// Returns the field that a literal field line with a name reference means.
 #[tactic(auto, unfolding(qpack_spec::specs::Reading::line_field, qpack_spec::specs::Reading::static_field))]
 fn field_of_literal_with_name_ref(
     table: &DynamicTableDecoder<NoIndex>,
@@ -197,8 +197,7 @@ fn field_of_literal_with_name_ref(
     }
 }
 
-/// The greatest absolute index that a line references under a base, 0 if it references no entry; held at the greatest
-/// number.
+/// Returns the greatest absolute index that a line references under a base, 0 if it references no entry. It saturates.
 #[tactic(auto, unfolding(qpack_spec::specs::Reading::references_of_line, qpack_spec::specs::Reading::greatest_of))]
 fn reference_of(base: usize, line: &BlockLine) -> usize
     ensures { result ≡ min (reference_of base (line_of line.now)) (2 ^ 64 - 1) }
@@ -216,7 +215,7 @@ fn reference_of(base: usize, line: &BlockLine) -> usize
     }
 }
 
-/// Whether a line references an entry past the required insert count (RFC 9204, section 2.2.3).
+/// Returns whether a line references an entry past the required insert count (RFC 9204, section 2.2.3).
 #[tactic(auto, unfolding(qpack_spec::specs::Reading::references_of_line, qpack_spec::specs::Reading::greatest_of))]
 fn is_past(required: usize, base: usize, line: &BlockLine) -> bool
     ensures { IsTrue result ↔ required < reference_of base (line_of line.now) }
@@ -234,14 +233,14 @@ fn is_past(required: usize, base: usize, line: &BlockLine) -> bool
     }
 }
 
-/// The absolute index of a post-base index, at most 2^64 - 1 (RFC 9204, section 3.2.6).
+/// Returns the absolute index of a post-base index, at most 2^64 - 1 (RFC 9204, section 3.2.6).
 fn behind(base: usize, index: usize) -> usize
     ensures { result ≡ min (base + index + 1) (2 ^ 64 - 1) }
 {
     base.saturating_add(index).saturating_add(1)
 }
 
-/// Whether the first byte of a line asks that its field stay a literal (RFC 9204, sections 4.5.4 to 4.5.6).
+/// Returns whether the first byte of a line asks that its field stay a literal (RFC 9204, sections 4.5.4 to 4.5.6).
 #[tactic(auto, unfolding(qpack_spec::specs::StrictReading::is_never_indexed))]
 fn is_never_indexed(first: u8) -> bool
     ensures { result ≡ is_never_indexed first }
@@ -257,7 +256,7 @@ fn is_never_indexed(first: u8) -> bool
     }
 }
 
-/// The line at the cursor, or why it can't be read.
+/// Returns the line at the cursor, or why it can't be read.
 fn decode_line(alloc: Global, buf: &mut Cursor) -> Result<BlockLine, LineError>
     ensures exact { DecodesLine buf.new result (line_at buf.old.rest) }
 {
@@ -268,7 +267,7 @@ fn decode_line(alloc: Global, buf: &mut Cursor) -> Result<BlockLine, LineError>
 }
 
 impl Under<'_> {
-    /// The field that a line means, if it references nothing past the required insert count.
+    /// Returns the field that a line means, if it references nothing past the required insert count.
     fn field_of(&self, line: &BlockLine) -> Result<HeaderField, LineError>
         ensures { GivesField result (shown_field (under self.now) (line_of line.now)) }
     {
@@ -328,7 +327,7 @@ pub fn read_section(table: &ReceivedTable, section: &[u8]) -> Result<Reading, No
     }
 }
 
-/// Reads a section of this length behind its prefix.
+/// Reads a section of this length after its prefix.
 fn read_behind(
     table: &ReceivedTable,
     section: usize,

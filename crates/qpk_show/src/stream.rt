@@ -39,7 +39,7 @@ impl Model for Stream {
 }
 
 impl Stream {
-    /// A stream of which nothing came.
+    /// Returns a stream of which nothing came.
     pub fn new(alloc: Global) -> Stream
         ensures { result ≡ record { received = []; taken = 0; is_refused = false } }
     {
@@ -50,14 +50,14 @@ impl Stream {
         }
     }
 
-    /// How many bytes were taken: the offset of the next line, from 0.
+    /// Returns how many bytes were taken: the offset of the next line, from 0.
     pub fn taken(&self) -> usize
         ensures { result ≡ self.now.taken }
     {
         self.taken
     }
 
-    /// The bytes that are not taken, if some are and they are not refused.
+    /// Returns the bytes that are not taken, if some are and they are not refused.
     pub fn cut(&self) -> Option<Cut>
         ensures { result ≡ cut_of self.now }
     {
@@ -71,7 +71,7 @@ impl Stream {
         })
     }
 
-    /// Appends bytes. On error, which is want of memory alone, nothing changes.
+    /// Appends bytes. On error, which is `Memory` only, nothing changes.
     pub fn receive(&mut self, bytes: &[u8]) -> Result<(), AllocError>
         ensures ok { OnOk result (self.new ≡ record self.old { received = self.old.received ++ bytes.now }) }
         ensures err { OnErr result (self.new ≡ self.old) }
@@ -86,8 +86,8 @@ impl Stream {
         self.is_refused = true;
     }
 
-    /// Takes the next line, or none where none stands whole. At bytes that are no line the stream is refused, and no
-    /// line is taken of it any more.
+    /// Takes the next line, or `None` if none is whole. At bytes that are no line the stream is refused, and no more
+    /// lines are taken of it.
     pub fn next<W: Wire>(&mut self, alloc: Global) -> Result<Option<W>, ParseError>
         ensures answers { AnswersLine W.line_of self.new result (next_of W.read self.old) }
         ensures stays { result ≡ Ok None → self.new ≡ self.old }

@@ -32,7 +32,7 @@ pub(crate) const CUT_SECTION: &str =
 /// The required insert count is too low.
 pub(crate) const PAST_REQUIRED: &str =
     "the encoder writes a required insert count that is too low, or takes the base for it";
-/// The entry is gone.
+/// The entry was evicted.
 pub(crate) const EVICTED: &str =
     "the encoder evicted an entry that a section still needs, or its base is wrong";
 /// MaxEntries differs.

@@ -30,8 +30,8 @@ pub struct CheckOptions {
     pub settings: Settings,
 }
 
-/// Judges a recording: a finding a line, or one line that says that there is none. Refused are a maximum capacity from
-/// 2^30 on, and an input that is no recording.
+/// Judges a recording: a finding a line, or one line that says that there is none. Fails if the maximum capacity is
+/// 2^30 or more, or if the input is no recording.
 pub fn check(alloc: Global, options: CheckOptions, input: &[u8]) -> Result<View, Fault> {
     let recording = read_recording(alloc, options.qif, input)?;
     let mut judge = Judge {
@@ -88,7 +88,7 @@ struct Waiting {
     end: Option<End>,
 }
 
-/// What was seen of one encoder and of the decoder that answers it.
+/// What was seen of one encoder and of its decoder.
 #[derive(Drop)]
 struct Judged {
     encoder_instructions: usize,
@@ -135,7 +135,7 @@ impl Judged {
         }
     }
 
-    /// A section begins to wait.
+    /// Notes that a section begins to wait.
     fn wait(&mut self, place: Place<'_>, stream: u64, required: usize) -> Result<(), AllocError> {
         self.waiting.push(Waiting {
             stream,
@@ -147,25 +147,25 @@ impl Judged {
         Ok(())
     }
 
-    /// The first section of a stream that waits waits no more.
+    /// Notes that the first section of a stream that waits no longer does.
     fn end_wait(&mut self, stream: u64) {
         if let Some(index) = self.waiting.iter().position(|w| w.stream == stream) {
             self.waiting.remove(index);
         }
     }
 
-    /// No section of a stream waits any more.
+    /// Notes that no section of a stream waits any more.
     fn give_up(&mut self, stream: u64) {
         self.waiting.retain(|w| w.stream != stream);
     }
 
-    /// Whether a stream had a section with a required insert count.
+    /// Returns whether a stream had a section with a required insert count.
     fn had_section(&self, stream: u64) -> bool {
         self.referencing.iter().any(|s| *s == stream)
     }
 }
 
-/// Someone who is shown a recording, and judges it.
+/// A watcher that judges a recording.
 #[derive(Drop)]
 struct Judge {
     report: Report,
@@ -216,7 +216,7 @@ impl Judge {
     }
 }
 
-/// Judges what is seen of an encoder, and of the decoder that answers it.
+/// Judges what is seen of an encoder and of its decoder.
 fn judge_sight(
     alloc: Global,
     judged: &mut Judged,
@@ -353,7 +353,7 @@ fn judge_too_many_blocked(
     report.add(place, subject, reason.as_str(), findings::TOO_MANY_BLOCKED)
 }
 
-/// Whether a refusal follows from an encoder stream that was refused.
+/// Returns whether a refusal follows from an encoder stream that was refused.
 fn follows(judged: &Judged, fault: HearingFault) -> bool {
     match fault {
         HearingFault::PastInsertions(_) => judged.is_broken,
@@ -361,7 +361,7 @@ fn follows(judged: &Judged, fault: HearingFault) -> bool {
     }
 }
 
-/// Whether the stream that an instruction acknowledges had a section with a required insert count.
+/// Returns whether the stream that an instruction acknowledges had a section with a required insert count.
 fn had_section(judged: &Judged, line: &DecoderLine) -> bool {
     match line {
         DecoderLine::HeaderAck(HeaderAck(stream)) => judged.had_section(*stream),

@@ -12,7 +12,7 @@ pub(crate) struct Entry<'a> {
     pub(crate) field: &'a HeaderField,
 }
 
-/// The live entries of a table, the newest first.
+/// Returns the live entries of a table, the newest first.
 pub(crate) fn live_entries(table: &ReceivedTable) -> LiveEntries<'_> {
     LiveEntries {
         table,
@@ -24,7 +24,7 @@ pub(crate) fn live_entries(table: &ReceivedTable) -> LiveEntries<'_> {
 #[derive(Drop)]
 pub(crate) struct LiveEntries<'a> {
     table: &'a ReceivedTable,
-    /// Their relative indexes, and behind these such as have no entry.
+    /// Their relative indexes, and after these some without an entry.
     relative: Range<usize>,
 }
 

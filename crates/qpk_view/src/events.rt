@@ -86,7 +86,7 @@ fn words_of<'a>(alloc: Global, text: &'a str) -> Result<Vec<&'a str>, Fault> {
     Ok(words)
 }
 
-/// Whether these words are none, or a comment.
+/// Returns whether these words are none, or a comment.
 fn is_left_out(words: &[&str]) -> bool {
     match words.first() {
         Some(word) => word.as_bytes().starts_with(b"#"),
@@ -112,7 +112,7 @@ fn split_time<'a, 'b>(
     }
 }
 
-/// Whether a string of JSON has this text without an escape, and a terminal shows it.
+/// Returns whether a string of JSON has this text without an escape, and a terminal shows it.
 fn is_printed_as_it_is(text: &str) -> bool {
     text.as_bytes().iter().all(|byte| !byte.is_ascii_control() && *byte != b'"' && *byte != b'\\')
 }
@@ -234,7 +234,7 @@ fn read_bytes(alloc: Global, line: usize, words: &[&str]) -> Result<(Vec<u8>, bo
     }
 }
 
-/// The fault of half a byte within the input.
+/// Returns the fault of half a byte within the input.
 fn half_a_byte(alloc: Global, line: usize) -> Result<Fault, Fault> {
     Ok(Fault::Input(format!(in alloc; "line {line}: its last byte has one digit")?))
 }

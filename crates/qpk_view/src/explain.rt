@@ -35,7 +35,7 @@ pub struct ExplainOptions {
     pub max_capacity: usize,
 }
 
-/// Explains bytes in hexadecimal: a row a byte. Refused is a text that is not hexadecimal.
+/// Explains bytes in hexadecimal: a row a byte. Fails if the text is not hexadecimal.
 pub fn explain(alloc: Global, options: ExplainOptions, text: &[u8]) -> Result<View, Fault> {
     let bytes = read_text(alloc, text)?;
     let mut rows = Rows::new(alloc, &bytes);
@@ -68,7 +68,7 @@ fn read_text(alloc: Global, text: &[u8]) -> Result<Vec<u8>, Fault> {
     }
 }
 
-/// The fault of a text that is not hexadecimal.
+/// Returns the fault of a text that is not hexadecimal.
 fn no_digits(alloc: Global) -> Result<Fault, Fault> {
     Ok(Fault::Input(String::from_str(alloc, "the bytes are not hexadecimal")?))
 }

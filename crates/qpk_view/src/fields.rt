@@ -1,6 +1,6 @@
-//! Fields as text that can be read one way only: `NAME: VALUE`. A backslash stands twice, and a byte that is no
-//! printable character of ASCII, and in a name a blank too, as `\x` and two digits. So the first colon with a blank
-//! after it separates name and value.
+//! Fields as text that can be read one way only: `NAME: VALUE`. A backslash is written twice. A byte that is no
+//! printable character of ASCII, and in a name a blank too, is written as `\x` and two digits. So the first colon with
+//! a blank after it separates name and value.
 
 use qpack_base::field::HeaderField;
 use std::alloc::AllocError;
@@ -17,7 +17,7 @@ pub(crate) fn push_name(text: &mut String, field: &HeaderField) -> Result<(), Al
     push_bytes(text, field.name.as_slice(), b'!')
 }
 
-/// Appends bytes; those from `least` to the tilde, but the backslash, stand for themselves.
+/// Appends bytes; those from `least` to the tilde, except the backslash, as they are.
 pub(crate) fn push_bytes(text: &mut String, bytes: &[u8], least: u8) -> Result<(), AllocError> {
     for byte in bytes {
         push_byte(text, *byte, least)?;

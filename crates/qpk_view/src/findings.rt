@@ -71,7 +71,7 @@ fn broken(section: &'static str, code: Code, cause: &'static str) -> Rule {
     }
 }
 
-/// The rule of an encoder instruction at an offset, which the table refuses.
+/// Returns the rule of an encoder instruction at an offset, which the table refuses.
 pub(crate) fn rule_of_instruction(
     offset: usize,
     line: &EncoderLine,
@@ -91,7 +91,7 @@ pub(crate) fn rule_of_instruction(
     }
 }
 
-/// Why there may be no room for an insertion.
+/// Returns why there may be no room for an insertion.
 fn cause_of_no_room(table: &ReceivedTable) -> &'static str {
     if table.max_mem_size() > 0 {
         return causes::TOO_LARGE;
@@ -102,7 +102,7 @@ fn cause_of_no_room(table: &ReceivedTable) -> &'static str {
     causes::NO_CAPACITY
 }
 
-/// Why an instruction may reference no entry.
+/// Returns why an instruction may reference no entry.
 fn cause_of_no_entry(offset: usize, line: &EncoderLine) -> &'static str {
     if is_encoder_type(offset, line) {
         causes::ENCODER_TYPE
@@ -111,12 +111,12 @@ fn cause_of_no_entry(offset: usize, line: &EncoderLine) -> &'static str {
     }
 }
 
-/// The rule of bytes of a stream that are no instruction.
+/// Returns the rule of bytes of a stream that are no instruction.
 pub(crate) fn rule_of_bytes(code: Code, error: ParseError) -> Rule {
     broken(section_of(error), code, causes::UNREADABLE)
 }
 
-/// The section that bytes break which can't be read.
+/// Returns the section that bytes break which can't be read.
 fn section_of(error: ParseError) -> &'static str {
     match error {
         ParseError::String(_) => "4.1.2",
@@ -124,7 +124,8 @@ fn section_of(error: ParseError) -> &'static str {
     }
 }
 
-/// The rule of a decoder instruction at an offset that is refused. Its stream had a section to acknowledge or not.
+/// Returns the rule of a decoder instruction at an offset that is refused. Its stream had a section to acknowledge or
+/// not.
 pub(crate) fn rule_of_hearing(
     offset: usize,
     line: &DecoderLine,
@@ -142,7 +143,7 @@ pub(crate) fn rule_of_hearing(
     }
 }
 
-/// Why an increment may pass the insertions.
+/// Returns why an increment may pass the insertions.
 fn cause_of_increment(offset: usize, line: &DecoderLine) -> &'static str {
     if is_decoder_type(offset, line) {
         causes::DECODER_TYPE
@@ -151,7 +152,7 @@ fn cause_of_increment(offset: usize, line: &DecoderLine) -> &'static str {
     }
 }
 
-/// The rule of a section that is refused for its prefix.
+/// Returns the rule of a section that is refused for its prefix.
 pub(crate) fn rule_of_prefix(refusal: &PrefixRefusal) -> Rule {
     let code = Code::Decompression;
     match refusal {
@@ -164,7 +165,7 @@ pub(crate) fn rule_of_prefix(refusal: &PrefixRefusal) -> Rule {
     }
 }
 
-/// Why bytes of a section can't be read.
+/// Returns why bytes of a section can't be read.
 fn cause_of_bytes(error: ParseError) -> &'static str {
     match error {
         ParseError::Integer(prefix_int::Error::UnexpectedEnd)
@@ -173,7 +174,7 @@ fn cause_of_bytes(error: ParseError) -> &'static str {
     }
 }
 
-/// The rule of a line of a section that gives no field.
+/// Returns the rule of a line of a section that gives no field.
 pub(crate) fn rule_of_line(fault: &LineFault) -> Rule {
     let code = Code::Decompression;
     match fault {

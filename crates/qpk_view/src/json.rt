@@ -21,7 +21,8 @@ use serde_json::{Value, json};
 use std::alloc::{AllocError, Global};
 use std::str;
 
-/// Appends the object of what is seen, and that of the table after an instruction that was applied, if it is wanted.
+/// Appends the object of what is seen, and that of the table after an instruction that was applied, if `with_table`
+/// asks for it.
 pub(crate) fn push_object(
     alloc: Global,
     text: &mut String,

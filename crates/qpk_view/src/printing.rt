@@ -19,7 +19,8 @@ use qpk_show::section::{LineShown, Reading, Stop};
 use qpk_show::shown::Shown;
 use std::alloc::AllocError;
 
-/// Appends the lines of what is seen, and those of the table after an instruction that was applied, if they are wanted.
+/// Appends the lines of what is seen, and those of the table after an instruction that was applied, if `with_table`
+/// asks for them.
 pub(crate) fn push_sight(
     text: &mut String,
     place: Place<'_>,

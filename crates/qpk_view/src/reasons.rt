@@ -35,12 +35,12 @@ pub(crate) fn push_not_applied(
     }
 }
 
-/// Whether an encoder instruction at an offset is what the type of its stream, left in, would be.
+/// Returns whether an encoder instruction at an offset is what the type of its stream, left in, would be.
 pub(crate) fn is_encoder_type(offset: usize, line: &EncoderLine) -> bool {
     offset == 0 && matches!(line, EncoderLine::Duplicate(Duplicate(2)))
 }
 
-/// Whether a decoder instruction at an offset is what the type of its stream, left in, would be.
+/// Returns whether a decoder instruction at an offset is what the type of its stream, left in, would be.
 pub(crate) fn is_decoder_type(offset: usize, line: &DecoderLine) -> bool {
     offset == 0
         && matches!(
@@ -61,7 +61,7 @@ pub(crate) fn push_encoder_hint(
     Ok(())
 }
 
-/// The same of the decoder stream.
+/// Appends that the decoder stream may begin with its type, if its first instruction is what that would be.
 pub(crate) fn push_decoder_hint(
     text: &mut String,
     offset: usize,

@@ -92,7 +92,7 @@ impl Screen {
     }
 }
 
-/// Whether what is shown is refused.
+/// Returns whether what is shown is refused.
 fn is_refused(shown: &Shown) -> bool {
     match shown {
         Shown::NotApplied { .. }
@@ -105,7 +105,7 @@ fn is_refused(shown: &Shown) -> bool {
     }
 }
 
-/// Whether reading of a section ends early.
+/// Returns whether reading of a section ends early.
 fn is_stopped(reading: &Reading) -> bool {
     match reading {
         Reading::Lines { stop, .. } => stop.is_some(),

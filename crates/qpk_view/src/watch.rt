@@ -1,4 +1,4 @@
-//! A recording in its order: two onlookers, one for each encoder, and someone who is shown what they see.
+//! A recording in its order: two onlookers, one for each encoder, and a watcher of what they see.
 
 use crate::events::{Act, End, Event, Settings};
 use crate::fault::Fault;
@@ -25,7 +25,7 @@ pub(crate) enum Sight<'a> {
     Cut(&'static str, Cut),
 }
 
-/// Someone who is shown what is seen.
+/// A watcher of what onlookers see.
 pub(crate) trait Watcher {
     /// Sees one thing. The encoder whose fields it is about is that of an end.
     fn see(&mut self, place: Place<'_>, encoder: End, sight: Sight<'_>) -> Result<(), Fault>;
@@ -86,7 +86,7 @@ fn onlooker(alloc: Global, settings: Settings) -> Result<Observer, Fault> {
     }
 }
 
-/// The other end.
+/// Returns the other end.
 fn other(end: End) -> End {
     match end {
         End::Client => End::Server,

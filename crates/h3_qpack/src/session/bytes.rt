@@ -8,7 +8,7 @@ ghost use Rattle.qpack_codec.specs.Stateless.{fields_in};
 
 use qpack_base::field::HeaderField;
 
-/// The fields are bytes.
+/// Recalls that the fields are bytes.
 pub(super) fn recall_fields(fields: &[HeaderField])
     ensures { AllByRecursion IsByteField (fields_in fields.now) }
 {
@@ -17,7 +17,7 @@ pub(super) fn recall_fields(fields: &[HeaderField])
     }
 }
 
-/// The field's name and its value are bytes.
+/// Recalls that the field's name and its value are bytes.
 fn recall_field(field: &HeaderField)
     ensures { IsByteField (field_of field.now) }
 {
@@ -25,7 +25,7 @@ fn recall_field(field: &HeaderField)
     recall_bytes(field.value.as_slice());
 }
 
-/// The numbers of the slice are bytes.
+/// Recalls that the numbers of the slice are bytes.
 fn recall_bytes(bytes: &[u8])
     ensures { AreBytes bytes.now }
 {

@@ -15,7 +15,7 @@ use qpack_base::field::HeaderField;
 use qpack_codec::decoder::ack_header;
 
 impl Session {
-    /// Does what the events say, one by one, and appends what each answers. There is room for that.
+    /// Performs the events one by one, and appends the outcome of each. There is room for them.
     pub(super) fn perform_all(&mut self, events: &[Event], outcomes: &mut Vec<Outcome>)
         requires room { vec_len outcomes.old + length events.now ≤ vec_capacity outcomes.old }
         ensures { PerformsAll self.old self.new events.now outcomes.old.items outcomes.new.items }
@@ -41,7 +41,7 @@ impl Session {
         }
     }
 
-    /// A block of the fields is encoded for a stream.
+    /// Encodes a block of the fields for a stream.
     pub(super) fn encode(&mut self, number: u64, fields: &[HeaderField]) -> Outcome
         ensures goes { Follows self.old self.new (Encode number (fields_in fields.now)) result }
         ensures asks { IsAskedFor self.old self.new (Encode number (fields_in fields.now)) result }
@@ -62,7 +62,7 @@ impl Session {
         )
     }
 
-    /// The oldest undecoded block of a stream is decoded.
+    /// Decodes the oldest undecoded block of a stream.
     pub(super) fn decode(&mut self, number: u64) -> Outcome
         ensures goes { Follows self.old self.new (Decode number) result }
         ensures asks { IsAskedFor self.old self.new (Decode number) result }
@@ -80,7 +80,7 @@ impl Session {
         }
     }
 
-    /// So many more bytes of the encoder stream come to the decoder, behind those that it left.
+    /// Delivers this many more bytes of the encoder stream to the decoder, after those that it left.
     pub(super) fn deliver_to_decoder(&mut self, count: usize) -> Outcome
         ensures goes { Follows self.old self.new (ToDecoder count) result }
         ensures asks { IsAskedFor self.old self.new (ToDecoder count) result }
@@ -97,7 +97,7 @@ impl Session {
         Outcome::Delivered(answer)
     }
 
-    /// So many more bytes of the decoder stream come to the encoder, behind those that it left.
+    /// Delivers this many more bytes of the decoder stream to the encoder, after those that it left.
     pub(super) fn deliver_to_encoder(&mut self, count: usize) -> Outcome
         ensures goes { Follows self.old self.new (ToEncoder count) result }
         ensures asks { IsAskedFor self.old self.new (ToEncoder count) result }
@@ -112,7 +112,7 @@ impl Session {
         Outcome::Heard(answer)
     }
 
-    /// The oldest decoded block of a stream that requires an entry is acknowledged.
+    /// Acknowledges the oldest decoded block of a stream that requires an entry.
     pub(super) fn acknowledge(&mut self, number: u64) -> Outcome
         ensures goes { Follows self.old self.new (Acknowledge number) result }
         ensures asks { IsAskedFor self.old self.new (Acknowledge number) result }
@@ -129,7 +129,7 @@ impl Session {
         }
     }
 
-    /// A stream is cancelled.
+    /// Cancels a stream.
     pub(super) fn cancel(&mut self, number: u64) -> Outcome
         ensures goes { Follows self.old self.new (Cancel number) result }
         ensures asks { IsAskedFor self.old self.new (Cancel number) result }
@@ -141,7 +141,7 @@ impl Session {
         Outcome::Cancelled(self.streams.cancel(alloc, number, &mut self.decoder_stream))
     }
 
-    /// The encoder sets the capacity in bytes, and writes it.
+    /// Sets the encoder's capacity in bytes, and writes it.
     pub(super) fn change_capacity(&mut self, capacity: usize) -> Outcome
         ensures goes { Follows self.old self.new (ChangeCapacity capacity) result }
         ensures asks { IsAskedFor self.old self.new (ChangeCapacity capacity) result }

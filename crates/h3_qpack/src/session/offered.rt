@@ -2,14 +2,14 @@
 
 ghost use Rattle.std.specs.Prelude.{◌≡◌, ◌+◌, ◌≤◌, length, take, drop, min};
 
-/// How much of a stream of this length is delivered when so many more bytes come.
+/// Returns how much of a stream of this length is delivered when this many more bytes come.
 pub(super) fn delivered_after(delivered: usize, count: usize, len: usize) -> usize
     ensures { result ≡ min (delivered + count) len }
 {
     delivered.saturating_add(count).min(len)
 }
 
-/// The bytes that are delivered, behind those that were taken.
+/// Returns the delivered bytes after those that were consumed.
 pub(super) fn offered(stream: &[u8], taken: usize, delivered: usize) -> &[u8]
     requires order { taken ≤ delivered }
     requires within { delivered ≤ length stream.now }

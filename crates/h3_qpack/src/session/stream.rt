@@ -30,7 +30,7 @@ impl Model for Block {
 }
 
 impl Block {
-    /// The bytes.
+    /// Returns the bytes.
     pub(super) fn bytes(&self) -> &[u8]
         ensures { result.now ≡ self.now.bytes }
     {
@@ -66,7 +66,7 @@ impl Model for Stream {
 }
 
 impl Stream {
-    /// A stream that was never used.
+    /// Returns a stream that was never used.
     pub(super) fn new(alloc: Global) -> Stream
         ensures { result ≡ record { blocks = []; decoded = 0; acknowledged = 0; cancelled = false } }
     {
@@ -79,14 +79,14 @@ impl Stream {
         }
     }
 
-    /// How many blocks it has.
+    /// Returns how many blocks it has.
     pub(super) fn len(&self) -> usize
         ensures { result ≡ length self.now.blocks }
     {
         self.blocks.len()
     }
 
-    /// The bytes of a block, the first being 0.
+    /// Returns the bytes of a block, the first being 0.
     pub(super) fn block(&self, position: usize) -> Option<&[u8]>
         ensures found { IfSome result (λ bytes. HasBytes (slice_get self.now.blocks position) bytes.now) }
         ensures none { IfNone result (slice_get self.now.blocks position ≡ None) }
@@ -95,14 +95,14 @@ impl Stream {
         Some(block.bytes())
     }
 
-    /// Whether it is cancelled.
+    /// Returns whether it is cancelled.
     pub(super) fn is_cancelled(&self) -> bool
         ensures { result ≡ self.now.cancelled }
     {
         self.cancelled
     }
 
-    /// The bytes of the oldest undecoded block.
+    /// Returns the bytes of the oldest undecoded block.
     pub(super) fn oldest_undecoded(&self) -> Option<&[u8]>
         ensures found { IfSome result (λ bytes. HasBytes (oldest_undecoded self.now) bytes.now) }
         ensures none { IfNone result (oldest_undecoded self.now ≡ None) }
@@ -110,14 +110,14 @@ impl Stream {
         self.block(self.decoded)
     }
 
-    /// Whether a decoded block that requires an entry is to be acknowledged.
+    /// Returns whether a decoded block that requires an entry is to be acknowledged.
     pub(super) fn awaits_acknowledgment(&self) -> bool
         ensures { result ≡ awaits_acknowledgment stored_requires_entry self.now }
     {
         self.acknowledged < self.dynamic
     }
 
-    /// The oldest undecoded block is decoded.
+    /// Marks the oldest undecoded block as decoded.
     pub(super) fn mark_decoded(&mut self)
         requires { self.old.decoded < length self.old.blocks }
         ensures { self.new ≡ record self.old { decoded = self.old.decoded + 1 } }
@@ -128,7 +128,7 @@ impl Stream {
         self.decoded += 1;
     }
 
-    /// The oldest block that is to be acknowledged is.
+    /// Marks the oldest block that is to be acknowledged as acknowledged.
     pub(super) fn mark_acknowledged(&mut self)
         requires { awaits_acknowledgment stored_requires_entry self.old ≡ true }
         ensures { self.new ≡ record self.old { acknowledged = self.old.acknowledged + 1 } }
@@ -136,7 +136,7 @@ impl Stream {
         self.acknowledged += 1;
     }
 
-    /// The stream is cancelled.
+    /// Marks the stream as cancelled.
     pub(super) fn mark_cancelled(&mut self)
         ensures { self.new ≡ record self.old { cancelled = true } }
     {

@@ -52,7 +52,7 @@ impl Model for Streams {
 }
 
 impl Streams {
-    /// No streams.
+    /// Returns an empty list of streams.
     pub(super) fn new(alloc: Global) -> Streams
         ensures { result ≡ [] }
     {
@@ -61,7 +61,7 @@ impl Streams {
         }
     }
 
-    /// A stream, if it was ever used.
+    /// Returns a stream, if it was ever used.
     pub(super) fn get(&self, number: u64) -> Option<&Stream>
         ensures found { IfSome result (λ stream. stream.now ≡ stream_at self.now number) }
         ensures none { IfNone result (stream_at self.now number
@@ -82,7 +82,7 @@ impl Streams {
         Ok(())
     }
 
-    /// The oldest undecoded block of a stream is decoded.
+    /// Marks the oldest undecoded block of a stream as decoded.
     pub(super) fn mark_decoded(&mut self, number: u64)
         requires { (stream_at self.old number).decoded < length (stream_at self.old number).blocks }
         ensures { ChangesStream number (record (stream_at self.old number)
@@ -93,7 +93,7 @@ impl Streams {
         }
     }
 
-    /// The oldest block of a stream that is to be acknowledged is.
+    /// Marks the oldest block of a stream that is to be acknowledged as acknowledged.
     pub(super) fn mark_acknowledged(&mut self, number: u64)
         requires { awaits_acknowledgment stored_requires_entry (stream_at self.old number) ≡ true }
         ensures { ChangesStream number (record (stream_at self.old number)
@@ -104,7 +104,7 @@ impl Streams {
         }
     }
 
-    /// A stream is cancelled.
+    /// Marks a stream as cancelled.
     pub(super) fn mark_cancelled(&mut self, number: u64)
         requires { IsOpen number self.old }
         ensures { ChangesStream number (record (stream_at self.old number) { cancelled = true }) self.old self.new }
@@ -134,7 +134,7 @@ impl Streams {
         Ok(())
     }
 
-    /// The bytes of the oldest undecoded block of a stream, or why a decode of it is outside a lawful session.
+    /// Returns the bytes of the oldest undecoded block of a stream, or why a decode of it is outside a lawful session.
     pub(super) fn next_block(&self, number: u64) -> Result<&[u8], u8>
         ensures found { IfOk result (λ bytes. HasBytes (oldest_undecoded (stream_at self.now number)) bytes.now) }
         ensures lawful { OnOk result (decode_skip self.now number ≡ None) }
@@ -155,14 +155,14 @@ impl Streams {
         }
     }
 
-    /// Why a block for a stream is outside a lawful session, if it is.
+    /// Returns why a block for a stream is outside a lawful session, if it is.
     pub(super) fn encode_skip(&self, number: u64) -> Option<u8>
         ensures { result ≡ encode_skip number }
     {
         (number >= STREAM_NUMBERS).then_some(NUMBER_TOO_LARGE)
     }
 
-    /// Why an acknowledgment on a stream is outside a lawful session, if it is.
+    /// Returns why an acknowledgment on a stream is outside a lawful session, if it is.
     pub(super) fn acknowledgment_skip(&self, number: u64) -> Option<u8>
         ensures { result ≡ acknowledgment_skip self.now number }
     {
@@ -181,7 +181,7 @@ impl Streams {
         Some(NOTHING_TO_ACKNOWLEDGE)
     }
 
-    /// Why a cancellation of a stream is outside a lawful session, if it is.
+    /// Returns why a cancellation of a stream is outside a lawful session, if it is.
     pub(super) fn cancellation_skip(&self, number: u64) -> Option<u8>
         ensures { result ≡ cancellation_skip self.now number }
     {
@@ -194,8 +194,8 @@ impl Streams {
         }
     }
 
-    /// Encodes a block of the fields for a stream, and keeps it (RFC 9204, section 2.1). Room for it is made first.
-    /// On error, which is want of memory alone, no block is kept.
+    /// Encodes a block of the fields for a stream, and keeps it (RFC 9204, section 2.1). It makes room for it first. On
+    /// error, which is `Memory` only, no block is kept.
     pub(super) fn encode(
         &mut self,
         alloc: Global,

@@ -1,4 +1,4 @@
-//! What a decoding end tells of its table.
+//! What a decoding end shows of its table.
 
 ghost use Rattle.std.specs.Prelude.{◌≡◌, length};
 ghost use Rattle.qpack_spec.specs.Field.{total_size};

@@ -1,4 +1,4 @@
-//! What a handle keeps, lent.
+//! Borrows what a handle keeps.
 
 ghost use Rattle.std.specs.Prelude.{◌≡◌};
 ghost use Rattle.std.specs.Borrow.{sem};
@@ -6,7 +6,7 @@ ghost use Rattle.h3_qpack_c.specs.EncoderFollows.{handle_follows};
 
 use crate::encoder::{Handle, State};
 
-/// Lends it; the handle keeps what is written there.
+/// Borrows it; the handle keeps what is written there.
 pub(super) fn state(handle: &mut Handle) -> &mut State
     ensures* writes_back { sem 𝓛 (handle_follows handle.entry result) }
     ensures value { result.now ≡ handle.old.value }

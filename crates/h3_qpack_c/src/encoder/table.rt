@@ -1,4 +1,4 @@
-//! What an encoding end tells of its table.
+//! What an encoding end shows of its table.
 
 ghost use Rattle.std.specs.Prelude.{◌≡◌, length};
 ghost use Rattle.qpack_spec.specs.Field.{total_size};

@@ -1,5 +1,5 @@
-//! The names of the static table, each with its positions (RFC 9204, Appendix A). They stand in three parts, since
-//! what a check takes grows faster than the references of a function.
+//! The names of the static table, each with its positions (RFC 9204, Appendix A). They are in three parts, since the
+//! cost of a check grows faster than the references of a function.
 
 ghost use Rattle.std.specs.Prelude.{◌≡◌, ◌^◌, [], slice_index_or};
 ghost use Rattle.qpack_base.specs.StaticFields.{AreNamesOfLength, AreNamesBetween, names_at, name_rows_at};
@@ -7,7 +7,7 @@ ghost use Rattle.qpack_base.specs.StaticFields.{AreNamesOfLength, AreNamesBetwee
 /// A name and all its positions in the table, rising.
 pub(super) type Name = (&'static [u8], &'static [usize]);
 
-/// The names of this length, each with all its positions, rising.
+/// Returns the names of this length, each with all its positions, rising.
 #[inline(always)]
 pub(super) fn names_of_length(length: usize) -> &'static [Name]
     ensures { AreNamesOfLength length (names_at result.now) }
@@ -21,7 +21,7 @@ pub(super) fn names_of_length(length: usize) -> &'static [Name]
     names_in(long_names(), length - 16)
 }
 
-/// The names in a row of a part, none where it has no such row.
+/// Returns the names in a row of a part, none where it has no such row.
 #[inline(always)]
 #[tactic(auto, using(crate::proofs::StaticNames::names_there, crate::proofs::StaticNames::no_names_past))]
 fn names_in(rows: &'static [&'static [Name]], at: usize) -> &'static [Name]
@@ -33,21 +33,21 @@ fn names_in(rows: &'static [&'static [Name]], at: usize) -> &'static [Name]
     names
 }
 
-/// The names of fewer than 9 bytes, those of each length in a row.
+/// Returns the names of fewer than 9 bytes, those of each length in a row.
 fn short_names() -> &'static [&'static [Name]]
     ensures { AreNamesBetween 0 9 (name_rows_at result.now) }
 {
     &SHORT
 }
 
-/// The names of 9 to 15 bytes, those of each length in a row.
+/// Returns the names of 9 to 15 bytes, those of each length in a row.
 fn middle_names() -> &'static [&'static [Name]]
     ensures { AreNamesBetween 9 16 (name_rows_at result.now) }
 {
     &MIDDLE
 }
 
-/// The names of 16 bytes and more, those of each length in a row.
+/// Returns the names of 16 bytes and more, those of each length in a row.
 fn long_names() -> &'static [&'static [Name]]
     ensures { AreNamesBetween 16 (2 ^ 64) (name_rows_at result.now) }
 {

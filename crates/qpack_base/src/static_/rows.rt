@@ -1,5 +1,5 @@
-//! The rows of the static table (RFC 9204, Appendix A). They stand in four parts, since what a check takes grows
-//! faster than the references of a function.
+//! The rows of the static table (RFC 9204, Appendix A). They are in four parts, since the cost of a check grows faster
+//! than the references of a function.
 
 ghost use Rattle.std.specs.Prelude.{◌≡◌, take, drop, slice_get};
 ghost use Rattle.std.specs.Option.{option_map};
@@ -9,7 +9,7 @@ ghost use Rattle.qpack_base.specs.StaticFields.{field_of_row, fields_at};
 /// A name and a value.
 pub(super) type Row = (&'static [u8], &'static [u8]);
 
-/// The row at an index.
+/// Returns the row at an index.
 pub(super) fn row(index: usize) -> Option<Row>
     ensures { option_map field_of_row result ≡ slice_get static_table index }
 {
@@ -28,7 +28,7 @@ pub(super) fn row(index: usize) -> Option<Row>
     None
 }
 
-/// The rows 0 to 24.
+/// Returns the rows 0 to 24.
 #[tactic(auto, unfolding(qpack_spec::specs::StaticTable::static_table))]
 fn rows_from_0() -> &'static [Row; 25]
     ensures { fields_at result.now ≡ take 25 (drop 0 static_table) }
@@ -36,7 +36,7 @@ fn rows_from_0() -> &'static [Row; 25]
     &FROM_0
 }
 
-/// The rows 25 to 49.
+/// Returns the rows 25 to 49.
 #[tactic(auto, unfolding(qpack_spec::specs::StaticTable::static_table))]
 fn rows_from_25() -> &'static [Row; 25]
     ensures { fields_at result.now ≡ take 25 (drop 25 static_table) }
@@ -44,7 +44,7 @@ fn rows_from_25() -> &'static [Row; 25]
     &FROM_25
 }
 
-/// The rows 50 to 74.
+/// Returns the rows 50 to 74.
 #[tactic(auto, unfolding(qpack_spec::specs::StaticTable::static_table))]
 fn rows_from_50() -> &'static [Row; 25]
     ensures { fields_at result.now ≡ take 25 (drop 50 static_table) }
@@ -52,7 +52,7 @@ fn rows_from_50() -> &'static [Row; 25]
     &FROM_50
 }
 
-/// The rows 75 to 98.
+/// Returns the rows 75 to 98.
 #[tactic(auto, unfolding(qpack_spec::specs::StaticTable::static_table))]
 fn rows_from_75() -> &'static [Row; 24]
     ensures { fields_at result.now ≡ take 24 (drop 75 static_table) }

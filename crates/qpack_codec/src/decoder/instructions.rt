@@ -23,11 +23,11 @@ use qpack_wire::stream::{
 };
 use std::alloc::Allocator;
 
-/// The greatest increment that is written; a longer one stands in pieces.
+/// The greatest increment that is written; a longer one is split into pieces.
 const GREATEST_PIECE: usize = 64;
 
-/// Takes all instructions that stand whole at the cursor, and moves past them. At the first one that is refused it
-/// ends; the cursor moves past that one exactly if the table refuses it for what it asks.
+/// Applies all whole instructions at the cursor, and moves past them. Stops at the first one that is rejected. The
+/// cursor moves past that one exactly if the table rejects what it asks for.
 pub(super) fn take_instructions<I: EntryIndex>(
     table: &mut DynamicTable<I>,
     buf: &mut Cursor,
@@ -39,9 +39,9 @@ pub(super) fn take_instructions<I: EntryIndex>(
     Ok(())
 }
 
-/// Takes the encoder instruction at the cursor and moves past it (RFC 9204, section 4.3); answers whether one stood
-/// whole. On error the table is as before; the cursor moves past the instruction exactly if the table refuses it for
-/// what it asks. The table may be one without an index.
+/// Applies the encoder instruction at the cursor, and moves past it (RFC 9204, section 4.3). Returns whether there was
+/// a whole one. On error the table is unchanged. The cursor moves past the instruction exactly if the table rejects
+/// what it asks for. The table may be one without an index.
 pub fn take_instruction<I: EntryIndex>(
     table: &mut DynamicTable<I>,
     buf: &mut Cursor,
@@ -61,7 +61,8 @@ pub fn take_instruction<I: EntryIndex>(
     Ok(true)
 }
 
-/// Whether an instruction is passed that was answered so: it was applied, or the table refuses what it asks for.
+/// Returns whether the cursor moves past an instruction with this result: it was applied, or the table rejects what it
+/// asks for.
 fn is_passed(answer: &Result<(), DecoderError>) -> bool
     ensures { result ≡ is_passed answer.now }
 {
@@ -72,7 +73,7 @@ fn is_passed(answer: &Result<(), DecoderError>) -> bool
     }
 }
 
-/// Whether an error of the table refuses what an instruction asks for, and no index.
+/// Returns whether an error of the table refuses what an instruction asks for, and no index.
 fn is_refused_by_table(e: &dynamic::Error) -> bool
     ensures { result ≡ is_passed (Err (DynamicTableError e.now)) }
 {
@@ -112,7 +113,7 @@ fn apply_encoder_line<I: EntryIndex>(
     }
 }
 
-/// The field that an insertion with a name reference asks for (RFC 9204, section 4.3.2).
+/// Returns the field that an insertion with a name reference asks for (RFC 9204, section 4.3.2).
 #[tactic(auto, unfolding(qpack_spec::specs::Table::apply_encoder_instruction))]
 fn with_name<I: EntryIndex>(
     table: &DynamicTable<I>,
@@ -130,7 +131,7 @@ fn with_name<I: EntryIndex>(
     }
 }
 
-/// The field that a duplicate asks for (RFC 9204, section 4.3.4).
+/// Returns the field that a duplicate asks for (RFC 9204, section 4.3.4).
 #[tactic(auto, unfolding(qpack_spec::specs::Table::apply_encoder_instruction))]
 fn duplicated<I: EntryIndex>(
     table: &DynamicTable<I>,
@@ -159,9 +160,9 @@ fn set_capacity<I: EntryIndex>(table: &mut DynamicTable<I>, size: usize) -> Resu
     Ok(table.set_max_size(size)?)
 }
 
-/// Appends increments for so many insertions, for the decoder stream: as many of 64 as there can be, and then one of
-/// the rest (RFC 9204, section 4.4.3). On error the vector is as before; with free room for them all it succeeds and
-/// takes no memory.
+/// Appends increments for this many insertions, for the decoder stream: as many of 64 as possible, then one of the rest
+/// (RFC 9204, section 4.4.3). On error the vector is unchanged. With free room for them all it succeeds and takes no
+/// memory.
 pub fn write_increments<A: Allocator>(
     insertions: usize,
     buf: &mut Vec<u8, A>,

@@ -57,9 +57,9 @@ pub(super) fn read_section<I: EntryIndex>(
     })
 }
 
-/// An empty list, with room for as many fields as there can be lines in so many bytes, but for at most 16 (a list of 16
-/// fields of 64 bytes is 1 KiB; greater blocks are slower to ask for and to free). Where memory is refused it has none,
-/// and asks for it as fields come.
+/// Returns an empty list with room for as many fields as there can be lines in this many bytes, up to 16. (A list of 16
+/// fields of 64 bytes is 1 KiB; larger blocks are slower to allocate and to free.) If memory is refused the list has no
+/// room, and asks for it as fields come.
 pub(crate) fn room_for_fields(alloc: Global, bytes: usize) -> Vec<HeaderField>
     ensures { result.items ≡ [] }
 {
@@ -102,7 +102,7 @@ fn read_field<I: EntryIndex>(
     field_of_line(table, line)
 }
 
-/// The field that a line means (RFC 9204, sections 4.5.2 to 4.5.6).
+/// Returns the field that a line means (RFC 9204, sections 4.5.2 to 4.5.6).
 #[tactic(auto, unfolding(qpack_spec::specs::Reading::line_field))]
 fn field_of_line<I: EntryIndex>(
     table: &DynamicTableDecoder<'_, I>,
@@ -121,7 +121,7 @@ fn field_of_line<I: EntryIndex>(
     }
 }
 
-/// The field that an indexed field line means.
+/// Returns the field that an indexed field line means.
 #[inline(always)]
 #[tactic(auto, unfolding(qpack_spec::specs::Reading::line_field, qpack_spec::specs::Reading::static_field))]
 fn field_of_indexed<I: EntryIndex>(
@@ -137,7 +137,7 @@ fn field_of_indexed<I: EntryIndex>(
     }
 }
 
-/// The field that a literal field line with a name reference means.
+/// Returns the field that a literal field line with a name reference means.
 #[inline(always)]
 #[tactic(auto, unfolding(qpack_spec::specs::Reading::line_field, qpack_spec::specs::Reading::static_field))]
 fn field_of_literal_with_name_ref<I: EntryIndex>(

@@ -1,4 +1,4 @@
-//! What lends itself as a field line, where the Rust has `AsRef<HeaderField>`.
+//! What can be borrowed as a field line, where the Rust has `AsRef<HeaderField>`.
 
 ghost use Rattle.std.specs.Prelude.{◌≡◌};
 ghost use Rattle.qpack_base.specs.HeaderFields.{field_of, line_of};
@@ -10,29 +10,29 @@ ghost use Rattle.qpack_codec.specs.Choices.{wish_of_mark};
 use crate::encoder::choices::Wish;
 use qpack_base::field::{FieldLine, HeaderField};
 
-/// What lends itself as a field line: a header field, which may be indexed, a field line, and a reference to either.
+/// What can be borrowed as a field line: a header field, which may be indexed, a field line, and a reference to either.
 pub trait AsField {
-    // The field line that is lent.
+    // The field line that is borrowed.
     ghost line: { Self → Line };
 
-    // What is asked for the field.
+    // The wish for the field.
     ghost wish: { Self → Asked };
 
-    /// Lends the field line.
+    /// Returns the field line, borrowed.
     fn as_field(&self) -> FieldLine<'_>
         ensures { line_of result ≡ line self.now };
 
-    /// What is asked for the field, which an encoder that chooses takes into account.
+    /// Returns the wish for the field, which an encoder that chooses takes into account.
     fn wish(&self) -> Wish
         ensures { result ≡ wish self.now };
 }
 
-/// A field line with what is asked for it.
+/// A field line with a wish.
 #[derive(Debug, Clone, Copy, Drop)]
 pub struct WishedField<'a> {
-    /// The field line. One that is never indexed stays so, whatever is asked.
+    /// The field line. One that is never indexed stays so, whatever the wish.
     pub line: FieldLine<'a>,
-    /// What is asked for it.
+    /// The wish.
     pub wish: Wish,
 }
 

@@ -17,12 +17,12 @@ use qpack_table::dynamic::DynamicTableEncoder;
 use qpack_wire::block::HeaderPrefix;
 use std::alloc::Allocator;
 
-/// At most so many bytes of a prefix are moved one by one.
+/// The most bytes of a prefix that are moved one by one.
 const MOST_ONE_BY_ONE: usize = 5;
 
-/// Appends the block of the fields and the instructions of what is inserted, and answers the block's required insert
-/// count. The lines are written first, and then the prefix is put in front of them. Refused,
-/// what stood in the block's vector is still at its front.
+/// Appends the block of the fields and the instructions of its insertions, and returns the block's required insert
+/// count. It writes the lines first, then puts the prefix in front of them. On error the earlier bytes of the block's
+/// vector are still at its front.
 pub(super) fn append_block<A: Allocator, B: Allocator, H: AsField>(
     handle: &mut DynamicTableEncoder<'_>,
     block: &mut Vec<u8, A>,
@@ -53,8 +53,8 @@ pub(super) fn append_block<A: Allocator, B: Allocator, H: AsField>(
     Ok(required)
 }
 
-/// Adds the fields to a block in progress, one after the other. On error some of them were
-/// added: what they inserted stands, and its instructions are written.
+/// Adds the fields to a block in progress, one after the other. On error some of them were added: their insertions
+/// stay, and their instructions are written.
 fn append_fields<A: Allocator, B: Allocator, H: AsField>(
     handle: &mut DynamicTableEncoder<'_>,
     fields: &[H],
@@ -82,7 +82,7 @@ fn append_fields<A: Allocator, B: Allocator, H: AsField>(
     Ok(())
 }
 
-/// Puts a prefix in front of what stands behind so many bytes. On error the vector is as before.
+/// Puts a prefix in front of the bytes after the first `len`. On error the vector is unchanged.
 #[inline(always)]
 pub(super) fn put_in_front<A: Allocator>(
     prefix: &HeaderPrefix,
@@ -105,8 +105,8 @@ pub(super) fn put_in_front<A: Allocator>(
     Ok(())
 }
 
-/// Moves so many bytes from the end to the front. A few, as nearly every prefix has, are moved one by one: to move more
-/// at once takes room on the stack, which is cleared first.
+/// Moves this many bytes from the end to the front. A few, as in nearly every prefix, are moved one by one: to move
+/// more at once takes room on the call stack, which is cleared first.
 fn move_to_front(bytes: &mut [u8], count: usize)
     requires { count ≤ length bytes.old }
     ensures len { length bytes.new ≡ length bytes.old }

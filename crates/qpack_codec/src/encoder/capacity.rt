@@ -13,8 +13,9 @@ use std::alloc::Allocator;
 /// No number takes more bytes.
 const GREATEST_NUMBER: usize = 11;
 
-/// Sets the capacity of an encoder's table in bytes, and appends the instruction that tells the decoder (RFC 9204,
-/// sections 3.2.3 and 4.3.1). Whether the table takes it is asked first, and then room for the instruction is made.
+/// Sets the capacity of an encoder's table in bytes, and appends the instruction that announces it to the decoder (RFC
+/// 9204, sections 3.2.3 and 4.3.1). It first checks that the table takes the capacity, then makes room for the
+/// instruction.
 ///
 /// A capacity above the maximum capacity, or of 2^30 or more, is refused (`Insertion(MaximumTableSizeTooLarge)`), and
 /// one for which an entry that is not evictable would have to go (`Insertion(MaxTableSizeReached)`); any other may be

@@ -27,7 +27,7 @@ pub enum Wish {
 }
 
 impl Wish {
-    /// What a field line's mark asks.
+    /// Returns the wish of a field line's mark.
     pub fn of_mark(never_indexed: bool) -> Wish
         ensures { result ≡ wish_of_mark never_indexed }
     {
@@ -55,7 +55,7 @@ pub enum Choice {
 }
 
 impl Choice {
-    /// Whether the field is inserted after its line.
+    /// Returns whether the field is inserted after its line.
     pub(super) fn inserts_after(&self) -> bool
         ensures { result ≡ inserts_after self.now }
     {
@@ -67,13 +67,13 @@ impl Choice {
     }
 }
 
-/// What chooses for the fields of a section, one after the other. Whatever is chosen, the section means its fields.
+/// A chooser for the fields of a section, one after the other. Whatever it chooses, the section means its fields.
 pub trait Chooses {
-    // How it chooses for one field: what it is before, the table, the field line, what is asked for it, what is chosen,
-    // and what it is after.
+    // How it chooses for one field: its state before, the table, the field line, the wish, the choice, and its state
+    // after.
     ghost chooses: { Self → Table → Line → Asked → Chosen → Self → Type 0 };
 
-    /// Called before the first field of a section.
+    /// Begins a section: this is called before its first field.
     fn begin(&mut self, block: &DynamicTableEncoder<'_>);
 
     /// Chooses for a field that no static field equals, or that is never indexed. Of the latter only the name counts:

@@ -160,8 +160,8 @@ fn append_insertion<A: Allocator, B: Allocator>(
     Ok(append_inserted(field, insertion, lines)?)
 }
 
-/// As many bytes as the instruction of this field takes, if it is inserted, with a reference or without: four for each byte of the entry's size hold
-/// its numbers and its coded strings.
+/// Returns how many bytes hold the instruction of this field, if it is inserted, with a reference or without: four for
+/// each byte of the entry's size hold its numbers and its coded strings.
 pub(super) fn instruction_room(block: &DynamicTableEncoder<'_>, field: &FieldLine<'_>) -> usize
     ensures enough { length (written_insertion (line_of field.now).field
         (insert_field block.now.table.now block.now.base (line_of field.now).field).insertion) ≤ result }

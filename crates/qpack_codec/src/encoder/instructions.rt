@@ -10,8 +10,8 @@ use qpack_base::coding::Cursor;
 use qpack_table::dynamic::DynamicTable;
 use qpack_wire::stream::{DecoderLine, HeaderAck, InsertCountIncrement, StreamCancel, next_line};
 
-/// Takes all instructions that stand whole at the cursor, and moves past them. At the first one that is refused it
-/// ends; the cursor moves past that one exactly if the table refuses it.
+/// Applies all whole instructions at the cursor, and moves past them. Stops at the first one that is rejected. The
+/// cursor moves past that one exactly if the table rejects it.
 pub(super) fn take_instructions(
     table: &mut DynamicTable,
     buf: &mut Cursor,
@@ -23,7 +23,7 @@ pub(super) fn take_instructions(
     Ok(())
 }
 
-/// Takes the instruction at the cursor and moves past it; answers whether one stood whole.
+/// Applies the instruction at the cursor, and moves past it. Returns whether there was a whole one.
 fn take_instruction(table: &mut DynamicTable, buf: &mut Cursor) -> Result<bool, EncoderError>
     ensures hears { HearsNext table.old table.new buf.old.rest buf.new.rest result }
     ensures total { buf.new.total ≡ buf.old.total }

@@ -1,4 +1,4 @@
-//! Room in a vector, which is made before anything is done that can't be undone; and what is refused for want of it.
+//! Room in a vector, made before anything that can't be undone, and the errors if there is none.
 
 ghost use Rattle.std.specs.Prelude.{◌≡◌, ◌+◌, ◌≤◌, OnOk, IsOk, vec_len, vec_capacity};
 ghost use Rattle.qpack_codec.specs.Encoding.{AreAlike};
@@ -7,7 +7,7 @@ use qpack_base::coding::NoMemory;
 use qpack_base::prefix_string;
 use std::alloc::Allocator;
 
-/// Makes room for so many more bytes. Where it is free already, nothing changes and no memory is taken.
+/// Makes room for this many more bytes. If it is free already, nothing changes and no memory is taken.
 pub(super) fn make_room<A: Allocator>(
     buf: &mut Vec<u8, A>,
     additional: usize,
@@ -26,7 +26,7 @@ pub(super) fn make_room<A: Allocator>(
     Ok(())
 }
 
-/// The same answer of a writer, which is refused for memory alone, with an error that comes back in a register.
+/// Returns the result of a writer that fails only for memory, with an error that fits a register.
 #[inline(always)]
 pub(crate) fn for_memory(written: Result<(), prefix_string::Error>) -> Result<(), NoMemory>
     ensures { AreAlike written result }

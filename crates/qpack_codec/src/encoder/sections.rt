@@ -26,14 +26,14 @@ pub trait WritesSections {
     // The table.
     ghost table: { Self → Table };
 
-    /// What the table takes its memory of.
+    /// Returns the allocator of the table.
     fn memory(&self) -> Global;
 
-    /// Encodes a field section of field lines that are lent for a stream, as `Encoder::encode` does; nothing is copied
-    /// but what is inserted. A field that is never to be indexed is a literal that says so, by the name of a static
-    /// field or of an entry where the rule has one, and is neither inserted nor looked for (RFC 9204, section 7.1.3).
-    /// On error, which is want of memory alone, the block is as before, the insertions that were made stand, their
-    /// instructions are written, and nothing more is referenced.
+    /// Encodes a field section of borrowed field lines for a stream, as `Encoder::encode` does; only inserted fields
+    /// are copied. A field that is never to be indexed becomes a literal with that mark, by the name of a static field
+    /// or of an entry if the rule has one. It is neither inserted nor looked up (RFC 9204, section 7.1.3). On error,
+    /// which is `Memory` only, the block is unchanged, the insertions that were made stay, their instructions are
+    /// written, and nothing more is referenced.
     fn write_section<A: Allocator, B: Allocator, H: AsField>(
         &mut self,
         stream_id: u64,
@@ -66,8 +66,8 @@ pub struct EncoderTable {
 }
 
 impl EncoderTable {
-    /// Encodes a field section for a stream as `write_section` does, but by what is chosen for each field. Whatever is
-    /// chosen, the section means its fields. At capacity 0 nothing is chosen, and the chooser is not asked.
+    /// Encodes a field section for a stream as `write_section` does, but with a choice for each field. Whatever is
+    /// chosen, the section means its fields. At capacity 0 nothing is chosen, and the chooser is not called.
     pub fn write_chosen_section<A: Allocator, B: Allocator, H: AsField, C: Chooses>(
         &mut self,
         stream_id: u64,
@@ -136,8 +136,8 @@ impl WritesSections for EncoderTable {
     }
 }
 
-/// Appends the section of the fields where no entry is, since the table has the capacity 0, and answers its required
-/// insert count, which is 0.
+/// Appends the section of the fields for a table of capacity 0, which has no entries. Returns its required insert
+/// count, which is 0.
 fn append_alone<A: Allocator, H: AsField>(
     fields: &[H],
     block: &mut Vec<u8, A>,
@@ -160,8 +160,7 @@ fn append_alone<A: Allocator, H: AsField>(
     }
 }
 
-/// Ends a block in progress, whose required insert count this is and is answered; or gives it up, where that is an
-/// error.
+/// Ends a block in progress, and returns this required insert count; or gives the block up if that is an error.
 fn end_block(
     handle: DynamicTableEncoder<'_>,
     appended: Result<usize, NoMemory>,
@@ -220,7 +219,7 @@ pub(super) fn encode_items<
     }
 }
 
-/// What an iterator gives, in order.
+/// Collects what an iterator gives, in order.
 fn gather<H: Drop, T: Iterator<Item = H> + Drop>(
     alloc: Global,
     fields: T,

@@ -1,4 +1,4 @@
-//! Field sections that reference no entry, of field lines that are lent (RFC 9204, sections 2.1 and 4.5).
+//! Field sections that reference no entry, of borrowed field lines (RFC 9204, sections 2.1 and 4.5).
 
 ghost use Rattle.std.specs.Prelude.{◌≡◌, ◌+◌, ◌++◌, ◌≤◌, true, map, IfErr, IsOk, OnOk, OnErr, length, take, vec_len};
 ghost use Rattle.std.specs.Prelude.{vec_capacity};

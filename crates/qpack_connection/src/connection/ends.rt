@@ -20,7 +20,7 @@ use std::alloc::Global;
 use std::marker::Model;
 
 /// The two ends of a connection and what is between them. What an end has to send is all that it ever wrote: those are
-/// the bytes of its instruction stream, and how many of them were received stands beside.
+/// the bytes of its instruction stream. How many of them were received is kept beside them.
 #[derive(Debug, Drop)]
 pub(super) struct Ends {
     encoder: ConnectionEncoder,
@@ -70,7 +70,7 @@ impl Ends {
         }
     }
 
-    /// A section of the fields is encoded for a stream.
+    /// Encodes a section of the fields for a stream.
     fn encode(&mut self, number: u64, fields: Vec<OwnedFieldLine>) -> Outcome
         ensures { Goes self.old self.new (Encode number fields) result }
     {
@@ -84,14 +84,14 @@ impl Ends {
         Outcome::Encoded(answer)
     }
 
-    /// The encoding end sets a capacity.
+    /// Sets the capacity of the encoding end.
     fn set_capacity(&mut self, capacity: usize) -> Outcome
         ensures { Goes self.old self.new (SetCapacity capacity) result }
     {
         Outcome::CapacitySet(self.encoder.set_capacity(capacity))
     }
 
-    /// So many more bytes of the encoder stream come to the decoding end, behind those that it received.
+    /// Delivers this many more bytes of the encoder stream to the decoding end, after those that it received.
     fn deliver_to_decoder(&mut self, many: usize) -> Outcome
         requires { IsReached self.old }
         ensures { Goes self.old self.new (ToDecoder many) result }
@@ -107,7 +107,7 @@ impl Ends {
         Outcome::Delivered(answer)
     }
 
-    /// So many more bytes of the decoder stream come to the encoding end, behind those that it received.
+    /// Delivers this many more bytes of the decoder stream to the encoding end, after those that it received.
     fn deliver_to_encoder(&mut self, many: usize) -> Outcome
         requires { IsReached self.old }
         ensures { Goes self.old self.new (ToEncoder many) result }
@@ -123,7 +123,7 @@ impl Ends {
         Outcome::Heard(answer)
     }
 
-    /// The oldest section of a stream that was not decoded is handed to the decoding end.
+    /// Passes the oldest section of a stream that was not decoded to the decoding end.
     fn decode(&mut self, number: u64) -> Outcome
         ensures { Goes self.old self.new (Decode number) result }
     {
@@ -144,7 +144,7 @@ impl Ends {
         }
     }
 
-    /// A stream is given up. Room to keep that is made first.
+    /// Gives a stream up. It makes room to keep that first.
     fn cancel(&mut self, number: u64) -> Outcome
         ensures { Goes self.old self.new (Cancel number) result }
     {
@@ -164,14 +164,14 @@ impl Ends {
         }
     }
 
-    /// The encoding end. What it has to send is all that it ever wrote.
+    /// Returns the encoding end. What it has to send is all that it ever wrote.
     pub(super) fn encoder(&self) -> &ConnectionEncoder
         ensures { result.now ≡ record self.now.encoder { unsent = self.now.encoder_stream.written } }
     {
         &self.encoder
     }
 
-    /// The decoding end. What it has to send is all that it ever wrote.
+    /// Returns the decoding end. What it has to send is all that it ever wrote.
     pub(super) fn decoder(&self) -> &ConnectionDecoder
         ensures { result.now ≡ record self.now.decoder { unsent = self.now.decoder_stream.written } }
     {

@@ -1,4 +1,4 @@
-//! Field lines that are owned, as a connection keeps those that were handed to its encoding end.
+//! Owned field lines, as a connection keeps those that were passed to its encoding end.
 
 ghost use Rattle.std.specs.Prelude.{◌≡◌, ◌<◌, ◌^◌, IfOk, length};
 ghost use Rattle.std.specs.List.{AllByRecursion};
@@ -22,12 +22,12 @@ pub struct OwnedFieldLine {
     pub value: Vec<u8>,
     /// Whether the field is never to be indexed (RFC 9204, section 7.1.3).
     pub never_indexed: bool,
-    /// What the encoding end is asked to do for the field.
+    /// The wish for the field, which the encoding end takes into account.
     pub wish: Wish,
 }
 
 impl OwnedFieldLine {
-    /// A copy of a field line, for which its mark alone asks.
+    /// Returns a copy of a field line, for which its mark alone asks.
     pub fn copy(alloc: Global, line: FieldLine<'_>) -> Result<OwnedFieldLine, NoMemory>
         ensures { IfOk result (λ owned. line_of_owned owned ≡ line_of line.entry) }
     {
@@ -58,7 +58,8 @@ impl AsField for OwnedFieldLine {
     }
 }
 
-/// The fields are bytes. Their types say so of each once it is read, and what is proved of a connection rests on it.
+/// Recalls that the fields are bytes. Their types say so of each once it is read, and what is proved of a connection
+/// rests on it.
 pub(super) fn recall_fields(fields: &[OwnedFieldLine])
     ensures { AllByRecursion IsByteField (fields_of_lines (lines_of fields.now)) }
 {
@@ -67,7 +68,7 @@ pub(super) fn recall_fields(fields: &[OwnedFieldLine])
     }
 }
 
-/// The field's name and its value are bytes.
+/// Recalls that the field's name and its value are bytes.
 fn recall_field(field: &OwnedFieldLine)
     ensures { IsByteField (line_of_owned field.now).field }
 {
@@ -75,14 +76,14 @@ fn recall_field(field: &OwnedFieldLine)
     recall_bytes(&field.value);
 }
 
-/// The numbers of the slice are bytes.
+/// Recalls that the numbers of the slice are bytes.
 fn recall_bytes(bytes: &[u8])
     ensures { AreBytes bytes.now }
 {
     let _len = bytes.len();
 }
 
-/// What is in memory takes fewer than 2^63 bytes.
+/// Recalls that what is in memory takes fewer than 2^63 bytes.
 pub(super) fn recall_length(bytes: &[u8])
     ensures { length bytes.now < 2 ^ 63 }
 {

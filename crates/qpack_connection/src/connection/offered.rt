@@ -2,7 +2,7 @@
 
 ghost use Rattle.std.specs.Prelude.{◌≡◌, take, drop};
 
-/// The bytes that come next behind those that were received, so many of them or all.
+/// Returns the bytes that come after those that were received, this many of them or all.
 pub(super) fn next_of(stream: &[u8], received: usize, many: usize) -> &[u8]
     ensures { result.now ≡ take many (drop received stream.now) }
 {

@@ -14,7 +14,7 @@ use std::marker::Model;
 /// A section that the encoding end wrote.
 #[derive(Debug, Drop)]
 pub(super) struct Section {
-    /// What was handed to its encode.
+    /// The fields that were passed to its encode.
     fields: Vec<OwnedFieldLine>,
     bytes: Vec<u8>,
     /// Its required insert count.
@@ -31,7 +31,7 @@ impl Model for Section {
 }
 
 impl Section {
-    /// The bytes.
+    /// Returns the bytes.
     fn bytes(&self) -> &[u8]
         ensures { result.now ≡ self.now.bytes }
     {
@@ -67,7 +67,7 @@ impl Model for Stream {
 }
 
 impl Stream {
-    /// A stream that was never used.
+    /// Returns a stream that was never used.
     pub(super) fn new(alloc: Global) -> Stream
         ensures { result ≡ record { blocks = []; decoded = 0; acknowledged = 0; cancelled = false } }
     {
@@ -79,14 +79,14 @@ impl Stream {
         }
     }
 
-    /// Whether it is cancelled.
+    /// Returns whether it is cancelled.
     pub(super) fn is_cancelled(&self) -> bool
         ensures { result ≡ self.now.cancelled }
     {
         self.cancelled
     }
 
-    /// The bytes of the oldest section that was not decoded.
+    /// Returns the bytes of the oldest section that was not decoded.
     pub(super) fn oldest_undecoded(&self) -> Option<&[u8]>
         ensures found { IfSome result (λ bytes. HasBytes (oldest_undecoded self.now) bytes.now) }
         ensures none { IfNone result (oldest_undecoded self.now ≡ None) }
@@ -95,8 +95,8 @@ impl Stream {
         Some(section.bytes())
     }
 
-    /// The oldest section that was not decoded is, which required so many insertions; one that required any was
-    /// acknowledged.
+    /// Marks the oldest section that was not decoded as decoded. It required this many insertions; one that required
+    /// any was acknowledged.
     pub(super) fn mark_decoded(&mut self, required: usize)
         requires { self.old.decoded < length self.old.blocks }
         ensures { self.new ≡ decoded_with required self.old }
@@ -107,14 +107,14 @@ impl Stream {
         self.decoded += 1;
     }
 
-    /// The stream is cancelled.
+    /// Marks the stream as cancelled.
     pub(super) fn mark_cancelled(&mut self)
         ensures { self.new ≡ record self.old { cancelled = true } }
     {
         self.cancelled = true;
     }
 
-    /// A section of the fields is encoded, and kept (RFC 9204, section 2.1). Room for it is made first: where memory is
+    /// Encodes a section of the fields, and keeps it (RFC 9204, section 2.1). It makes room for it first: if memory is
     /// refused for that, the encoding end is not called, and nothing changes.
     pub(super) fn encode(
         &mut self,

@@ -33,7 +33,7 @@ impl Model for Streams {
 }
 
 impl Streams {
-    /// No streams.
+    /// Returns an empty list of streams.
     pub(super) fn new(alloc: Global) -> Streams
         ensures { result ≡ [] }
     {
@@ -42,7 +42,7 @@ impl Streams {
         }
     }
 
-    /// A stream, if there is room for it.
+    /// Returns a stream, if there is room for it.
     fn get(&self, number: u64) -> Option<&Stream>
         ensures found { IfSome result (λ stream. stream.now ≡ stream_at self.now number) }
         ensures none { IfNone result (stream_at self.now number
@@ -63,7 +63,7 @@ impl Streams {
         Ok(())
     }
 
-    /// The oldest section of a stream that was not decoded is, which required so many insertions.
+    /// Marks the oldest section of a stream that was not decoded as decoded. It required this many insertions.
     pub(super) fn mark_decoded(&mut self, number: u64, required: usize)
         requires { (stream_at self.old number).decoded < length (stream_at self.old number).blocks }
         ensures { ChangesStream number (decoded_with required (stream_at self.old number)) self.old self.new }
@@ -73,7 +73,7 @@ impl Streams {
         }
     }
 
-    /// A stream is cancelled.
+    /// Marks a stream as cancelled.
     pub(super) fn mark_cancelled(&mut self, number: u64)
         requires { IsOpen number self.old }
         ensures { ChangesStream number (record (stream_at self.old number) { cancelled = true }) self.old self.new }
@@ -83,7 +83,7 @@ impl Streams {
         }
     }
 
-    /// The bytes of the oldest section of a stream that was not decoded, or why a decode of it is skipped.
+    /// Returns the bytes of the oldest section of a stream that was not decoded, or why a decode of it is skipped.
     pub(super) fn next_section(&self, number: u64) -> Result<&[u8], Skip>
         ensures found { IfOk result (λ bytes. HasBytes (oldest_undecoded (stream_at self.now number)) bytes.now) }
         ensures live { OnOk result (decode_skip (stream_at self.now number) ≡ None) }
@@ -101,7 +101,7 @@ impl Streams {
         }
     }
 
-    /// Why a cancellation of a stream is skipped, if it is.
+    /// Returns why a cancellation of a stream is skipped, if it is.
     pub(super) fn cancel_skip(&self, number: u64) -> Option<Skip>
         ensures { result ≡ cancel_skip (stream_at self.now number) }
     {
@@ -111,8 +111,8 @@ impl Streams {
         }
     }
 
-    /// A section of the fields is encoded for a stream, and kept (RFC 9204, section 2.1). Where memory is refused to
-    /// keep it, the encoding end is not called, and nothing changes.
+    /// Encodes a section of the fields for a stream, and keeps it (RFC 9204, section 2.1). If memory is refused to keep
+    /// it, the encoding end is not called, and nothing changes.
     pub(super) fn encode(
         &mut self,
         alloc: Global,

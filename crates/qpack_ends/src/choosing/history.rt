@@ -5,7 +5,7 @@ use std::alloc::{AllocError, Global};
 /// How many tags a set holds.
 const WAYS: usize = 4;
 
-/// There are so many bytes of the capacity for each tag.
+/// The bytes of capacity for each tag.
 const BYTES_A_TAG: usize = 128;
 
 /// The least and the greatest number of sets.

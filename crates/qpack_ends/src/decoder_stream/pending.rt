@@ -4,7 +4,7 @@ ghost use Rattle.std.specs.Prelude.{◌≡◌, ◌+◌, ◌<◌, ◌≤◌, [], 
 
 use std::marker::Model;
 
-/// An instruction is of so many bytes at most: an integer with nine further bytes (RFC 9204, section 4.1.1).
+/// The length limit of an instruction: an integer with nine further bytes (RFC 9204, section 4.1.1).
 const MOST_BYTES: usize = 10;
 
 /// The bytes of an instruction that is not whole, which lie in the value itself.
@@ -25,7 +25,7 @@ impl Model for Pending {
 }
 
 impl Pending {
-    /// No bytes.
+    /// Returns an empty list of bytes.
     pub(crate) fn new() -> Pending
         ensures { result ≡ [] }
     {
@@ -35,14 +35,14 @@ impl Pending {
         }
     }
 
-    /// The bytes.
+    /// Returns the bytes.
     pub(crate) fn as_slice(&self) -> &[u8]
         ensures { result.now ≡ self.now }
     {
         &self.bytes[..self.len]
     }
 
-    /// Puts a byte behind the others.
+    /// Appends a byte.
     pub(crate) fn push(&mut self, byte: u8)
         requires { length self.old < 10 }
         ensures { self.new ≡ self.old ++ byte ∷ [] }

@@ -165,7 +165,7 @@ enum Reference {
     Static,
     /// The entries of the dynamic table, down from the base.
     Relative,
-    /// Those behind the base, up from it.
+    /// Entries after the base, counted up from it.
     PostBase,
 }
 
@@ -285,7 +285,7 @@ impl<I: EntryIndex> Lines<'_, I> {
     }
 
     /// Appends the field of a literal field line with a name reference (RFC 9204, sections 4.5.4 and 4.5.5), if it has
-    /// at most `most` bytes. What the index references is told behind the faults of the line's bytes.
+    /// at most `most` bytes. Faults of the line's bytes are reported before an invalid index.
     fn append_named(
         &self,
         reference: Reference,
@@ -365,7 +365,7 @@ fn append_literal(most: usize, buf: &mut Cursor, text: &mut Vec<u8>) -> Result<L
     Ok(Lengths { name, value })
 }
 
-/// Whether the first byte of a line asks that its field stay a literal (RFC 9204, sections 4.5.4 to 4.5.6).
+/// Returns whether the first byte of a line asks that its field stay a literal (RFC 9204, sections 4.5.4 to 4.5.6).
 #[tactic(auto, unfolding(qpack_spec::specs::StrictReading::is_never_indexed))]
 fn is_never_indexed(first: u8) -> bool
     ensures { result ≡ is_never_indexed first }
@@ -381,7 +381,7 @@ fn is_never_indexed(first: u8) -> bool
     }
 }
 
-/// How many bytes a field may have so that the sizes, which have this sum so far, don't pass the limit with it.
+/// Returns how many bytes a field may have so that the sizes, which have this sum so far, don't pass the limit with it.
 fn most_of_field(limit: u64, sum: u64) -> usize
     ensures { result ≡ limit - sum - 32 }
 {
@@ -430,7 +430,7 @@ fn read_line<I: EntryIndex>(
         text.truncate(start);
         return Err(LineError::TooLarge(sum));
     }
-    // No memory holds fields of so many bytes.
+    // No memory holds fields of this many bytes.
     if sum == u64::MAX {
         text.truncate(start);
         return Err(LineError::Memory);
@@ -455,8 +455,8 @@ fn read_line<I: EntryIndex>(
     }
 }
 
-/// The error of a section in whose line of this number, at this offset, there is this one; want of memory stays what it
-/// is.
+/// Returns the error of a section whose line of this number, at this offset, has this error; out of memory stays
+/// itself.
 fn at_line(number: usize, offset: usize, error: LineError) -> SectionError
     ensures { result ≡ error_at number offset error }
 {

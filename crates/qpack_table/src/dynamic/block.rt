@@ -18,7 +18,7 @@ use std::alloc::AllocError;
 use std::collections::VecDeque;
 
 impl DynamicTable {
-    /// The block in progress references a live entry too. On error, which is want of memory alone, nothing changes.
+    /// Adds a live entry to the references of the block in progress. On error, which is `Memory` only, nothing changes.
     pub(super) fn reference(&mut self, absolute: usize) -> Result<(), AllocError>
         requires live { self.old.dropped < absolute }
         requires inserted { absolute ≤ insert_count self.old }
@@ -37,7 +37,7 @@ impl DynamicTable {
         Ok(())
     }
 
-    /// The greatest absolute index that the block in progress references, 0 if it references none.
+    /// Returns the greatest absolute index that the block in progress references, 0 if it references none.
     pub(super) fn greatest_reference(&self) -> usize
         ensures exact { result ≡ greatest_of self.now.referenced }
         ensures inserted { result ≤ insert_count self.now }
@@ -45,7 +45,7 @@ impl DynamicTable {
         greatest_in(&self.referenced)
     }
 
-    /// The block in progress is given up: what it references is referenced no more. It takes no memory.
+    /// Gives up the block in progress: what it references is referenced no more. It takes no memory.
     pub(super) fn release_references(&mut self)
         ensures { self.new ≡ without_references self.old }
     {
@@ -55,8 +55,8 @@ impl DynamicTable {
         self.referenced.clear();
     }
 
-    /// The block in progress ends, with this required insert count. On error, which is want of memory alone, it is given
-    /// up.
+    /// Ends the block in progress, with this required insert count. On error, which is `Memory` only, the block is
+    /// given up.
     pub(super) fn commit_block(&mut self, stream_id: u64, required: usize) -> Result<(), Error>
         ensures { Commits result stream_id required self.old self.new }
     {
@@ -69,7 +69,7 @@ impl DynamicTable {
         }
     }
 
-    /// The same; refused, nothing changes.
+    /// Ends the block in progress, as `commit_block` does. On error nothing changes.
     fn end_block(&mut self, stream_id: u64, required: usize) -> Result<(), AllocError>
         ensures ok { OnOk result (self.new ≡ commit self.old stream_id required) }
         ensures err { OnErr result (self.new ≡ self.old) }
@@ -107,7 +107,8 @@ pub(super) fn make_room(numbers: &mut Vec<usize>) -> Result<(), AllocError>
     grow(numbers)
 }
 
-/// Makes room for a number where there is none. It is a call of its own, so that whoever finds room saves no registers.
+/// Makes room for a number if there is none. It is a call of its own, so that a caller that has room saves no
+/// registers.
 #[inline(never)]
 fn grow(numbers: &mut Vec<usize>) -> Result<(), AllocError>
     ensures items { numbers.new.items ≡ numbers.old.items }
@@ -116,7 +117,7 @@ fn grow(numbers: &mut Vec<usize>) -> Result<(), AllocError>
     numbers.reserve(1)
 }
 
-/// The block in progress waits for an acknowledgment, if it references an entry. On error nothing changes.
+/// Keeps the block in progress until it is acknowledged, if it references an entry. On error nothing changes.
 fn open_block(
     entries: &mut VecDeque<Entry>,
     dropped: usize,
@@ -146,7 +147,7 @@ fn open_block(
     Ok(())
 }
 
-/// The greatest of these numbers, 0 if there are none.
+/// Returns the greatest of these numbers, 0 if there are none.
 pub(super) fn greatest_in(numbers: &[usize]) -> usize
     ensures { result ≡ greatest_of numbers.now }
 {
@@ -157,8 +158,8 @@ pub(super) fn greatest_in(numbers: &[usize]) -> usize
     greatest
 }
 
-/// A block that requires so many insertions is blocked, if it is. On error, which is want of memory alone, nothing
-/// changes.
+/// Keeps a block that requires this many insertions as blocked, if it is blocked. On error, which is `Memory` only,
+/// nothing changes.
 fn push_if(blocked: &mut BlockedBlocks, is_blocked: bool, required: usize) -> Result<(), AllocError>
     ensures kept { OnOk result (IsKeptIf is_blocked required blocked.old blocked.new) }
     ensures counts { OnOk result (counts_of blocked.new
@@ -172,7 +173,7 @@ fn push_if(blocked: &mut BlockedBlocks, is_blocked: bool, required: usize) -> Re
     Ok(())
 }
 
-/// The same is taken back. It takes no memory.
+/// Takes back what `push_if` did. It takes no memory.
 fn take_back_if(blocked: &mut BlockedBlocks, is_blocked: bool, required: usize)
     requires { (before : BlockedKeys) × IsKeptIf is_blocked required before blocked.old }
     ensures { (before : BlockedKeys) → IsKeptIf is_blocked required before blocked.old → blocked.new ≡ before }

@@ -33,7 +33,7 @@ impl Model for BlockedBlocks {
 impl BlockedBlocks {
     ghost use Rattle.qpack_table.specs.BlockedBlocks.{BlockedKeys, counts_of, IsKeptBehind};
 
-    /// No blocks.
+    /// Returns an empty list.
     pub(super) fn new(alloc: Global) -> BlockedBlocks
         ensures { counts_of result ≡ [] }
     {
@@ -43,14 +43,14 @@ impl BlockedBlocks {
         }
     }
 
-    /// How many there are.
+    /// Returns how many there are.
     pub(super) fn len(&self) -> usize
         ensures { result ≡ length (counts_of self.now) }
     {
         self.keys.len()
     }
 
-    /// A block is blocked that requires so many insertions. On error, which is want of memory alone, nothing changes.
+    /// Keeps a blocked block that requires this many insertions. On error, which is `Memory` only, nothing changes.
     pub(super) fn push(&mut self, required: usize) -> Result<(), AllocError>
         ensures kept { OnOk result (IsKeptBehind required self.old self.new) }
         ensures counts { OnOk result (counts_of self.new ≡ counts_of self.old ++ required ∷ []) }
@@ -69,7 +69,7 @@ impl BlockedBlocks {
         Ok(())
     }
 
-    /// The block that was pushed last is taken back. It takes no memory.
+    /// Takes back the block that was pushed last. It takes no memory.
     pub(super) fn take_back(&mut self, required: usize)
         requires { (before : BlockedKeys) × IsKeptBehind required before self.old }
         ensures { (before : BlockedKeys) → IsKeptBehind required before self.old → self.new ≡ before }
@@ -82,14 +82,14 @@ impl BlockedBlocks {
         self.keys.remove(&key);
     }
 
-    /// The blocks go that require no more than a count. It takes no memory.
+    /// Removes the blocks that require no more than a count. It takes no memory.
     pub(super) fn release_up_to(&mut self, count: usize)
         ensures { counts_of self.new ≡ filter (λ required. nat_lt count required) (counts_of self.old) }
     {
         while self.release_one(count) {}
     }
 
-    /// One of them goes, if there is one.
+    /// Removes one of them, and returns whether there was one.
     fn release_one(&mut self, count: usize) -> bool
         ensures same { filter (λ required. nat_lt count required) (counts_of self.new)
             ≡ filter (λ required. nat_lt count required) (counts_of self.old) }

@@ -43,14 +43,14 @@ impl Default for Capacities {
 }
 
 impl Capacities {
-    /// The capacity.
+    /// Returns the capacity.
     pub(super) fn capacity(&self) -> usize
         ensures { result ≡ self.now.capacity }
     {
         self.capacity
     }
 
-    /// The maximum capacity: what was agreed on, and the present capacity until something is.
+    /// Returns the maximum capacity: what was agreed on, and the present capacity until something is.
     pub(super) fn maximum(&self) -> usize
         ensures exact { result ≡ maximum_capacity self.now.agreed_max self.now.capacity }
         ensures most { self.now.capacity ≤ result }
@@ -58,7 +58,7 @@ impl Capacities {
         self.agreed_max.unwrap_or(self.capacity)
     }
 
-    /// The greatest capacity that may be set.
+    /// Returns the greatest capacity that may be set.
     pub(super) fn greatest(&self) -> usize
         ensures exact { result ≡ greatest_capacity self.now.agreed_max }
         ensures most { result < 2 ^ 30 }

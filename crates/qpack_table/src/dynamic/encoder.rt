@@ -29,16 +29,16 @@ pub enum DynamicLookupResult {
     Relative { index: usize, absolute: usize },
     /// A later entry, by its post-base index (RFC 9204, section 3.2.6).
     PostBase { index: usize, absolute: usize },
-    /// None that may be referenced.
+    /// No entry that may be referenced, and no static field.
     NotFound,
 }
 
-/// How a field was inserted, which tells its instruction, or where its name was found instead. The entry is named by
-/// its post-base index, and by its absolute one; the original or the name by its relative index as an instruction
-/// counts it, 0 the newest entry before the insertion.
+/// How a field was inserted, which determines its instruction, or where its name was found instead. The new entry has
+/// its post-base and its absolute index; the original or the entry of the name has its relative index as an instruction
+/// counts it, 0 for the newest entry before the insertion.
 #[derive(Debug, PartialEq, Clone, Copy)]
 pub enum DynamicInsertionResult {
-    /// With a name of its own (RFC 9204, section 4.3.3).
+    /// With a literal name (RFC 9204, section 4.3.3).
     Inserted {
         postbase: usize,
         absolute: usize,
@@ -83,7 +83,7 @@ impl DynamicTable {
     }
 }
 
-/// A block in progress. It must be spent, by `commit` or `release`; what it references stands in the table.
+/// A block in progress. It must be spent, by `commit` or `release`; its references are kept in the table.
 pub struct DynamicTableEncoder<'a> {
     table: &'a mut DynamicTable,
     stream_id: u64,
@@ -91,7 +91,7 @@ pub struct DynamicTableEncoder<'a> {
 }
 
 impl DynamicTableEncoder<'_> {
-    /// The capacity of the table in bytes. The live fields fit it.
+    /// Returns the capacity of the table in bytes. The live fields fit it.
     pub fn max_size(&self) -> usize
         ensures exact { result ≡ self.now.table.now.capacity }
         ensures most { result < 2 ^ 30 }
@@ -100,21 +100,21 @@ impl DynamicTableEncoder<'_> {
         self.table.max_mem_size()
     }
 
-    /// The base of the block, which is the insert count at its start.
+    /// Returns the base of the block, which is the insert count at its start.
     pub fn base(&self) -> usize
         ensures { result ≡ self.now.base }
     {
         self.base
     }
 
-    /// How many insertions were ever made.
+    /// Returns how many insertions were ever made.
     pub fn total_inserted(&self) -> usize
         ensures { result ≡ insert_count self.now.table.now }
     {
         self.table.total_inserted()
     }
 
-    /// The maximum capacity in bytes, which is at least the capacity (RFC 9204, section 3.2.3).
+    /// Returns the maximum capacity in bytes, which is at least the capacity (RFC 9204, section 3.2.3).
     pub fn agreed_max(&self) -> usize
         ensures exact { result ≡ maximum_capacity self.now.table.now.agreed_max self.now.table.now.capacity }
         ensures most { self.now.table.now.capacity ≤ result }
@@ -123,8 +123,8 @@ impl DynamicTableEncoder<'_> {
         self.table.agreed_max()
     }
 
-    /// The required insert count so far: the greatest absolute index that the block references, 0 if it references no
-    /// entry (RFC 9204, section 2.1.2).
+    /// Returns the required insert count so far: the greatest absolute index that the block references, 0 if it
+    /// references no entry (RFC 9204, section 2.1.2).
     pub fn required_insert_count(&self) -> usize
         ensures exact { result ≡ greatest_of self.now.table.now.referenced }
         ensures inserted { result ≤ insert_count self.now.table.now }
@@ -132,8 +132,8 @@ impl DynamicTableEncoder<'_> {
         self.table.greatest_reference()
     }
 
-    /// Looks for the newest entry that is this field. If it may be referenced, it is, and it is answered. Refused,
-    /// which is for memory alone, nothing changes.
+    /// Looks for the newest entry that equals this field. If it may be referenced, references and returns it. On error,
+    /// which is `Memory` only, nothing changes.
     pub fn find(&mut self, field: &HeaderField) -> Result<DynamicLookupResult, Error>
         ensures same_table { self.new.table.ghost_name ≡ self.old.table.ghost_name }
         ensures stream { self.new.stream_id ≡ self.old.stream_id }
@@ -144,7 +144,7 @@ impl DynamicTableEncoder<'_> {
         self.table.find_field(self.base, &field.as_line())
     }
 
-    /// The same of a field that is lent. Its mark has no part in it.
+    /// Looks for a borrowed field as `find` does. Its never-indexed mark is ignored.
     pub fn find_line(&mut self, field: &FieldLine<'_>) -> Result<DynamicLookupResult, Error>
         ensures same_table { self.new.table.ghost_name ≡ self.old.table.ghost_name }
         ensures stream { self.new.stream_id ≡ self.old.stream_id }
@@ -155,9 +155,8 @@ impl DynamicTableEncoder<'_> {
         self.table.find_field(self.base, field)
     }
 
-    /// The same of a field that is lent, whose name the static table has at this index if at any. What was sought is
-    /// kept
-    /// with the answer, for `insert_found`.
+    /// Looks for a borrowed field as `find_line` does; `static_name` is the index of its name in the static table, if
+    /// it has one. The result keeps what was looked up, for `insert_found`.
     #[inline(always)]
     pub fn find_and_keep(
         &mut self,
@@ -175,8 +174,8 @@ impl DynamicTableEncoder<'_> {
         self.table.find_and_keep(self.base, field, static_name)
     }
 
-    /// Looks for the name of a field that is lent, in the static table and then among the entries, of which the newest
-    /// is referenced, if it may be. On error, which is want of memory alone, nothing changes.
+    /// Looks for the name of a borrowed field, in the static table and then among the entries. Of these it references
+    /// the newest, if it may be referenced. On error, which is `Memory` only, nothing changes.
     pub fn find_line_name(&mut self, field: &FieldLine<'_>) -> Result<DynamicLookupResult, Error>
         ensures same_table { self.new.table.ghost_name ≡ self.old.table.ghost_name }
         ensures stream { self.new.stream_id ≡ self.old.stream_id }
@@ -187,9 +186,9 @@ impl DynamicTableEncoder<'_> {
         self.table.find_name(self.base, field)
     }
 
-    /// Inserts a field, if one more block may be blocked and there is room: what has to go is evicted, and the new
-    /// entry is referenced. Else its name is looked for, in the static table and then among the entries, of which the
-    /// newest is referenced, if it may be. On error, which is want of memory alone, nothing changes.
+    /// Inserts a field, if one more block may be blocked and there is room: evicts entries as needed, and references
+    /// the new one. Otherwise looks for its name, in the static table and then among the entries, and references the
+    /// newest of these, if it may be referenced. On error, which is `Memory` only, nothing changes.
     pub fn insert(&mut self, field: &HeaderField) -> Result<DynamicInsertionResult, Error>
         ensures same_table { self.new.table.ghost_name ≡ self.old.table.ghost_name }
         ensures stream { self.new.stream_id ≡ self.old.stream_id }
@@ -200,7 +199,8 @@ impl DynamicTableEncoder<'_> {
         self.table.insert_field(self.base, &field.as_line())
     }
 
-    /// The same of a field that is lent, and is copied only if it is inserted. Its mark has no part in it.
+    /// Inserts a borrowed field as `insert` does; it is copied only if it is inserted. Its never-indexed mark is
+    /// ignored.
     pub fn insert_line(&mut self, field: &FieldLine<'_>) -> Result<DynamicInsertionResult, Error>
         ensures same_table { self.new.table.ghost_name ≡ self.old.table.ghost_name }
         ensures stream { self.new.stream_id ≡ self.old.stream_id }
@@ -211,8 +211,8 @@ impl DynamicTableEncoder<'_> {
         self.table.insert_field(self.base, field)
     }
 
-    /// The same of a field that `find_and_keep` looked for and did not find among what may be referenced; since then
-    /// nothing was inserted. Nothing is looked for again.
+    /// Inserts a field as `insert_line` does, after `find_and_keep` found no entry of it that may be referenced, and
+    /// nothing was inserted since. Looks nothing up again.
     #[inline(always)]
     pub fn insert_found(
         &mut self,
@@ -229,51 +229,52 @@ impl DynamicTableEncoder<'_> {
         self.table.insert_sought(self.base, field, found.sought())
     }
 
-    /// How many entries were evicted since the table was empty. The oldest live entry has the next absolute index.
+    /// Returns how many entries were evicted since the table was empty. The oldest live entry has the next absolute
+    /// index.
     pub fn total_dropped(&self) -> usize
         ensures { result ≡ self.now.table.now.dropped }
     {
         self.table.total_dropped()
     }
 
-    /// The sum of the live fields' sizes in bytes (RFC 9204, section 3.2.1).
+    /// Returns the sum of the live fields' sizes in bytes (RFC 9204, section 3.2.1).
     pub fn used(&self) -> usize
         ensures { result ≡ total_size (fields_in self.now.table.now.live) }
     {
         self.table.used()
     }
 
-    /// The size of a live entry in bytes, by its absolute index (RFC 9204, section 3.2.1).
+    /// Returns the size of a live entry in bytes, by its absolute index (RFC 9204, section 3.2.1).
     pub fn entry_size(&self, absolute: usize) -> Option<usize>
         ensures { result ≡ option_map field_size (absolute_entry (window self.now.table.now) absolute) }
     {
         self.table.entry_size(absolute)
     }
 
-    /// Whether an entry is live and equals a field, byte for byte.
+    /// Returns whether an entry is live and equals a field, byte for byte.
     pub fn is_equal(&self, absolute: usize, field: &FieldLine<'_>) -> bool
         ensures { result ≡ passes_at self.now.table.now (is_field (line_of field.now).field) absolute }
     {
         self.table.is_equal(absolute, field)
     }
 
-    /// Whether one more block may be blocked (RFC 9204, section 2.1.2).
+    /// Returns whether one more block may be blocked (RFC 9204, section 2.1.2).
     pub fn is_below_limit(&self) -> bool
         ensures { result ≡ below_limit self.now.table.now }
     {
         self.table.is_below_limit()
     }
 
-    /// Whether an entry may be referenced: one more block may be blocked, or the decoder is known to have received it
-    /// (RFC 9204, section 2.1.2).
+    /// Returns whether an entry may be referenced: one more block may be blocked, or the decoder is known to have
+    /// received it (RFC 9204, section 2.1.2).
     pub fn may_reference(&self, absolute: usize) -> bool
         ensures { result ≡ may_reference self.now.table.now absolute }
     {
         self.table.may_reference(absolute)
     }
 
-    /// Whether there is room for a field: it fits, insertions are left, and each entry that has to be evicted for it is
-    /// evictable (RFC 9204, section 2.1.1).
+    /// Returns whether there is room for a field: it fits, insertions are left, and each entry that has to be evicted
+    /// for it is evictable (RFC 9204, section 2.1.1).
     pub fn has_room(&self, field: &FieldLine<'_>) -> bool
         ensures { result ≡ has_room self.now.table.now (line_of field.now).field }
     {
@@ -290,7 +291,7 @@ impl DynamicTableEncoder<'_> {
         self.table.seek(field, static_name)
     }
 
-    /// The absolute index of the newest entry with the name of a field. Nothing is referenced.
+    /// Returns the absolute index of the newest entry with the name of a field. Nothing is referenced.
     #[inline(always)]
     pub fn newest_name(&self, field: &FieldLine<'_>, sought: &SoughtField) -> Option<usize>
         requires { AreHashesIn (line_of field.now).field sought.now }

@@ -26,7 +26,7 @@ pub struct Entry {
     pub(super) uses: usize,
 }
 
-/// The position of the live entry with an absolute index.
+/// Returns the position of the live entry with an absolute index.
 fn position_of(entries: &VecDeque<Entry>, dropped: usize, absolute: usize) -> Option<usize>
     ensures found { IfSome result (λ position.
         (absolute ≡ dropped + position + 1) × (position < length entries.now.items)) }
@@ -41,7 +41,7 @@ fn position_of(entries: &VecDeque<Entry>, dropped: usize, absolute: usize) -> Op
     }
 }
 
-/// No live entry is one that the block in progress references any more, of which these are all.
+/// Clears the marks of the live entries that the block in progress references; these are all of them.
 pub(super) fn clear_references(entries: &mut VecDeque<Entry>, dropped: usize, references: &[usize])
     ensures live { entries_of entries.new.items ≡ entries_of entries.old.items }
     ensures uses { uses_of entries.new.items ≡ uses_of entries.old.items }
@@ -55,7 +55,7 @@ pub(super) fn clear_references(entries: &mut VecDeque<Entry>, dropped: usize, re
     }
 }
 
-/// A block is given up that references these entries: each of the live ones has one use less.
+/// Lowers the uses of each live entry among these by one, for a block that referenced them and is given up.
 pub(super) fn lower_uses(entries: &mut VecDeque<Entry>, dropped: usize, references: &[usize])
     requires { AreCounted dropped entries.old.items references.now }
     ensures live { entries_of entries.new.items ≡ entries_of entries.old.items }
@@ -72,7 +72,7 @@ pub(super) fn lower_uses(entries: &mut VecDeque<Entry>, dropped: usize, referenc
     }
 }
 
-/// The oldest entries go; the sum of their sizes is answered.
+/// Drops the oldest entries, and returns the sum of their sizes.
 pub(super) fn drop_oldest<I: EntryIndex>(
     entries: &mut VecDeque<Entry>,
     index: &mut I,
@@ -119,7 +119,8 @@ fn make_room(entries: &mut VecDeque<Entry>) -> Result<(), AllocError>
     grow(entries)
 }
 
-/// Makes room for an entry where there is none. It is a call of its own, so that whoever finds room saves no registers.
+/// Makes room for an entry if there is none. It is a call of its own, so that a caller that has room saves no
+/// registers.
 #[inline(never)]
 fn grow(entries: &mut VecDeque<Entry>) -> Result<(), AllocError>
     ensures items { entries.new.items ≡ entries.old.items }
@@ -128,9 +129,9 @@ fn grow(entries: &mut VecDeque<Entry>) -> Result<(), AllocError>
     entries.reserve(1)
 }
 
-/// The oldest entries go, and another comes in behind the newest; the sum of their sizes is counted along. Refused,
-/// which is for memory alone, none goes and none comes in. With free room for it the list is not grown. The key is
-/// that of the entry's field.
+/// Drops the oldest entries, appends another after the newest, and updates the sum of their sizes. On error, which is
+/// for memory only, nothing changes. With free room for the entry the list does not grow. The key is that of the
+/// entry's field.
 #[inline(always)]
 pub(super) fn replace_oldest<I: EntryIndex>(
     entries: &mut VecDeque<Entry>,

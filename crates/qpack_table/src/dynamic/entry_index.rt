@@ -19,7 +19,7 @@ pub trait EntryIndex: Drop {
     /// What is known of a field where its entry comes in.
     type Key: Copy;
 
-    // The live entries are in, of which the first has the absolute index behind so many dropped ones.
+    // The live entries are in; this many were dropped before the first of them.
     ghost is_index_of: { Self → ℕ → List Entry → Type 0 };
 
     // The key is that of the field.
@@ -28,7 +28,7 @@ pub trait EntryIndex: Drop {
     // There is room for one entry more, with such a key.
     ghost has_room: { Self.Key → Self → Type 0 };
 
-    /// The key of a field.
+    /// Returns the key of a field.
     fn key_of(field: &FieldLine<'_>) -> Self::Key
         ensures { is_key_of result (line_of field.now).field };
 
@@ -44,7 +44,7 @@ pub trait EntryIndex: Drop {
         ensures index { is_index_of self.new dropped entries.now.items }
         ensures room { OnOk result (has_room key self.new) };
 
-    /// The newest entry, which was pushed behind those that are in, comes in. There is room.
+    /// Adds the newest entry, which was pushed after those that are in. There is room.
     fn enter(&mut self, entries: &VecDeque<Entry>, dropped: usize, key: Self::Key)
         requires few { dropped + length entries.now.items ≤ 2 ^ 62 }
         requires pushed { (front : List Entry) × (newest : Entry) × (entries.now.items ≡ front ++ newest ∷ [])
@@ -52,7 +52,7 @@ pub trait EntryIndex: Drop {
         requires room { has_room key self.old }
         ensures index { is_index_of self.new dropped entries.now.items };
 
-    /// The oldest entry, which is about to be popped, goes out. It takes no memory, and the room that was made stays.
+    /// Removes the oldest entry, which is about to be popped. It takes no memory, and the room that was made stays.
     fn leave(&mut self, entries: &VecDeque<Entry>, dropped: usize)
         requires some { 0 < length entries.now.items }
         requires few { dropped + length entries.now.items < 2 ^ 64 }

@@ -55,7 +55,7 @@ impl DynamicTable {
         self.find_entry(base, newest)
     }
 
-    /// The same of a field that was sought.
+    /// Looks for the name of a field that was sought, as `find_name` does.
     #[inline(always)]
     fn find_sought_name(
         &mut self,
@@ -95,23 +95,23 @@ impl DynamicTable {
         Ok(lookup_under(base, absolute))
     }
 
-    /// Whether one more block may be blocked (RFC 9204, section 2.1.2).
+    /// Returns whether one more block may be blocked (RFC 9204, section 2.1.2).
     pub(super) fn is_below_limit(&self) -> bool
         ensures { result ≡ below_limit self.now }
     {
         self.blocked.len() < self.max_blocked
     }
 
-    /// Whether an entry may be referenced: one more block may be blocked, or it is known to be received (RFC 9204,
-    /// section 2.1.2).
+    /// Returns whether an entry may be referenced: one more block may be blocked, or it is known to be received (RFC
+    /// 9204, section 2.1.2).
     pub(super) fn may_reference(&self, absolute: usize) -> bool
         ensures { result ≡ may_reference self.now absolute }
     {
         self.is_below_limit() || absolute <= self.known_received_count
     }
 
-    /// How many of the oldest entries go before a field stands, if there is room for it: it fits, insertions are
-    /// left, and what has to go may go (RFC 9204, section 2.1.1).
+    /// Returns how many of the oldest entries are evicted for a field, if there is room for it: it fits, insertions are
+    /// left, and these entries are evictable (RFC 9204, section 2.1.1).
     fn room_for(&self, field: &FieldLine<'_>) -> Option<usize>
         ensures room { IfSome result (λ evicted. has_room self.now (line_of field.now).field ≡ true) }
         ensures evicted { IfSome result (λ evicted. evicted ≡ eviction_count_for self.now (line_of field.now).field) }
@@ -127,14 +127,14 @@ impl DynamicTable {
         self.evictable_for(size)
     }
 
-    /// Whether there is room for a field.
+    /// Returns whether there is room for a field.
     pub(super) fn has_room(&self, field: &FieldLine<'_>) -> bool
         ensures { result ≡ has_room self.now (line_of field.now).field }
     {
         self.room_for(field).is_some()
     }
 
-    /// How many of the oldest entries go before a field is inserted, if one more block may be blocked and there is
+    /// Returns how many of the oldest entries are evicted for a field, if one more block may be blocked and there is
     /// room.
     #[inline(always)]
     fn insertable(&self, field: &FieldLine<'_>) -> Option<usize>
@@ -163,7 +163,7 @@ impl DynamicTable {
         self.insert_sought(base, field, &sought)
     }
 
-    /// The same of a field that was sought.
+    /// Inserts a field that was sought, as `insert_field` does.
     #[inline(always)]
     pub(super) fn insert_sought(
         &mut self,
@@ -181,8 +181,8 @@ impl DynamicTable {
         Ok(DynamicInsertionResult::NotInserted(lookup))
     }
 
-    /// Inserts a field for which there is room, and references it. What was sought of an equal entry or one of its name
-    /// is told first, before what has to go is evicted. On error, which is want of memory alone, nothing changes.
+    /// Inserts a field for which there is room, and references it. Looks first which entry is equal or has its name,
+    /// then evicts entries as needed. On error, which is `Memory` only, nothing changes.
     #[inline(always)]
     fn insert_in_room(
         &mut self,
@@ -273,9 +273,9 @@ impl DynamicTable {
         Ok(insertion)
     }
 
-    /// How a field that was sought is inserted once so many of the oldest entries are evicted: by the newest equal
-    /// entry
-    /// that stays, by a static field's name, by the newest entry of its name that stays, or with a name of its own.
+    /// Returns how a field that was sought is inserted once this many of the oldest entries are evicted: by the newest
+    /// equal entry that stays, by a static field's name, by the newest entry of its name that stays, or with a literal
+    /// name.
     fn insertion_of(
         &self,
         base: usize,
@@ -320,7 +320,7 @@ impl DynamicTable {
     }
 }
 
-/// A copy of the field, as it is stored: with the name of the static field lent, if one has it.
+/// Copies the field as it is stored: if a static field has its name, the name is borrowed from that.
 #[inline(always)]
 fn stored(
     alloc: Global,
@@ -339,14 +339,14 @@ fn stored(
     }
 }
 
-/// An absolute index, if it is that of an entry that was not dropped.
+/// Returns an absolute index, if it is that of an entry that was not dropped.
 fn above(newest: Option<usize>, dropped: usize) -> Option<usize>
     ensures { result ≡ kept_index newest dropped }
 {
     newest.filter(|absolute| *absolute > dropped)
 }
 
-/// An entry by its index before the base or behind it (RFC 9204, sections 3.2.5 and 3.2.6).
+/// Returns where an entry is, by its index before the base or after it (RFC 9204, sections 3.2.5 and 3.2.6).
 fn lookup_under(base: usize, absolute: usize) -> DynamicLookupResult
     requires { 0 < absolute }
     ensures { lookup_of result ≡ handle.lookup_of base absolute }

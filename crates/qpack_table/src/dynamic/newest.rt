@@ -15,8 +15,8 @@ use crate::vas::AbsoluteIndex;
 use qpack_base::field::{FieldLine, HeaderField};
 
 impl DynamicTable {
-    /// The absolute index of the newest live entry with the field. It is compared with at most as many entries as the
-    /// number of live ones has binary digits, and each comparison is counted.
+    /// Returns the absolute index of the newest live entry with the field. It is compared with at most as many entries
+    /// as the number of live ones has binary digits, and each comparison is counted.
     pub fn newest_equal(&self, field: &HeaderField, steps: &mut Steps) -> Option<AbsoluteIndex>
         ensures found { result ≡ newest_index self.now (is_field (field_of field.now)) }
         ensures steps { Counts (length self.now.live) steps.old.count steps.new.count }
@@ -24,7 +24,8 @@ impl DynamicTable {
         self.newest_line(&field.as_line(), steps)
     }
 
-    /// The same of a field that is lent.
+    /// Returns the absolute index of the newest live entry with a borrowed field, counting comparisons as
+    /// `newest_equal` does.
     fn newest_line(&self, field: &FieldLine<'_>, steps: &mut Steps) -> Option<AbsoluteIndex>
         ensures found { result ≡ newest_index self.now (is_field (line_of field.now).field) }
         ensures steps { Counts (length self.now.live) steps.old.count steps.new.count }
@@ -33,14 +34,14 @@ impl DynamicTable {
             .newest_equal(&self.entries, self.vas.total_dropped(), field, steps)
     }
 
-    /// The absolute index of the newest live entry with the field, uncounted.
+    /// Returns the absolute index of the newest live entry with the field, uncounted.
     pub(super) fn newest_field(&self, field: &FieldLine<'_>) -> Option<AbsoluteIndex>
         ensures { result ≡ newest_index self.now (is_field (line_of field.now).field) }
     {
         self.newest_line(field, &mut Steps::new())
     }
 
-    /// The same of a field with such hashes.
+    /// Returns the absolute index of the newest live entry with the field, which has these hashes.
     #[inline(always)]
     pub(super) fn newest_hashed(
         &self,
@@ -59,8 +60,8 @@ impl DynamicTable {
         )
     }
 
-    /// The absolute index of the newest live entry with the name, whose comparisons are bounded and counted as those of
-    /// [`DynamicTable::newest_equal`].
+    /// Returns the absolute index of the newest live entry with the name, whose comparisons are bounded and counted as
+    /// those of [`DynamicTable::newest_equal`].
     pub fn newest_named(&self, name: &[u8], steps: &mut Steps) -> Option<AbsoluteIndex>
         ensures found { result ≡ newest_index self.now (has_name name.now) }
         ensures steps { Counts (length self.now.live) steps.old.count steps.new.count }
@@ -69,14 +70,14 @@ impl DynamicTable {
             .newest_of_name(&self.entries, self.vas.total_dropped(), name, steps)
     }
 
-    /// The absolute index of the newest live entry with the name, uncounted.
+    /// Returns the absolute index of the newest live entry with the name, uncounted.
     pub(super) fn newest_of_name(&self, name: &[u8]) -> Option<AbsoluteIndex>
         ensures { result ≡ newest_index self.now (has_name name.now) }
     {
         self.newest_named(name, &mut Steps::new())
     }
 
-    /// The same of a name with such a hash.
+    /// Returns the absolute index of the newest live entry with the name, which has this hash.
     pub(super) fn newest_hashed_name(&self, name: &[u8], hashes: Hashes) -> Option<AbsoluteIndex>
         requires { hashes.name ≡ name_hash name.now }
         ensures { result ≡ newest_index self.now (has_name name.now) }

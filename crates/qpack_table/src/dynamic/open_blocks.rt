@@ -40,7 +40,7 @@ impl OpenBlocks {
     ghost use Rattle.qpack_spec.specs.Table.{without_oldest};
     ghost use Rattle.qpack_table.specs.Tables.{IsTaken};
 
-    /// No blocks.
+    /// Returns an empty list.
     pub(super) fn new(alloc: Global) -> OpenBlocks
         ensures { result ≡ [] }
     {
@@ -50,14 +50,14 @@ impl OpenBlocks {
         }
     }
 
-    /// How many there are.
+    /// Returns how many there are.
     pub(super) fn len(&self) -> usize
         ensures { result ≡ length self.now }
     {
         self.references.len()
     }
 
-    /// What the oldest block of a stream references.
+    /// Returns what the oldest block of a stream references.
     pub(super) fn oldest(&self, stream_id: u64) -> Option<&[usize]>
         ensures { option_map (λ references. references.now) result
             ≡ option_map (λ b. b.entries) (find (λ b. nat_eq b.stream stream_id) self.now) }
@@ -76,7 +76,7 @@ impl OpenBlocks {
         self.references.remove(&key)
     }
 
-    /// Opens a block. On error, which is want of memory alone, nothing changes.
+    /// Opens a block. On error, which is `Memory` only, nothing changes.
     pub(super) fn push(&mut self, stream_id: u64, references: Vec<usize>) -> Result<(), AllocError>
         ensures ok { OnOk result
             (self.new ≡ self.old ++ record { stream = stream_id; entries = references.items } ∷ []) }
@@ -97,7 +97,7 @@ impl OpenBlocks {
     }
 }
 
-/// The oldest block of a stream: its key, and what it references.
+/// Returns the oldest block of a stream: its key, and what it references.
 fn oldest_entry(
     blocks: &BTreeMap<CommitKey, Vec<usize>>,
     stream_id: u64,

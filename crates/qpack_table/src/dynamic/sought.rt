@@ -1,4 +1,4 @@
-//! A field that is sought once: what is asked of the table for it after that hashes and searches nothing again.
+//! A field that is looked up once: later questions to the table about it hash and search nothing again.
 
 ghost use Rattle.std.specs.Prelude.{◌≡◌, None, IfOk, IfSome};
 ghost use Rattle.qpack_base.specs.HeaderFields.{line_of};
@@ -29,7 +29,7 @@ pub struct SoughtField {
 }
 
 impl SoughtField {
-    /// A field whose value is not looked for: no entry counts as equal, and only its static name is known.
+    /// Returns a field whose value is not looked for: no entry counts as equal, and only its static name is known.
     pub fn name_alone(static_name: Option<usize>) -> SoughtField
         ensures { result ≡ record { hashes = None; newest = None; static_name = static_name } }
     {
@@ -40,22 +40,22 @@ impl SoughtField {
         }
     }
 
-    /// The absolute index of the newest live entry that equals the field.
+    /// Returns the absolute index of the newest live entry that equals the field.
     pub fn newest(&self) -> Option<AbsoluteIndex>
         ensures { result ≡ self.now.newest }
     {
         self.newest
     }
 
-    /// The least index of a static field with its name.
+    /// Returns the least index of a static field with its name.
     pub fn static_name(&self) -> Option<usize>
         ensures { result ≡ self.now.static_name }
     {
         self.static_name
     }
 
-    /// A hash of the field, its name and its value, which is the same whatever table it is sought in. It is taken now
-    /// if it was not.
+    /// Returns a hash of the field, its name and its value, which is the same for every table. Computes it unless it is
+    /// known.
     #[inline(always)]
     pub fn hash(&self, field: &FieldLine<'_>) -> u32 {
         match self.hashes {
@@ -64,7 +64,7 @@ impl SoughtField {
         }
     }
 
-    /// Its hashes, which are taken now if they were not.
+    /// Returns its hashes, which are taken now if they were not.
     #[inline(always)]
     pub(super) fn hashes_of(&self, field: &FieldLine<'_>) -> Hashes
         requires { IfSome self.now.hashes (λ hashes. AreHashesOf hashes (line_of field.now).field) }
@@ -86,7 +86,7 @@ pub struct FoundField {
 }
 
 impl FoundField {
-    /// What is known of it.
+    /// Returns what is known of it.
     pub(super) fn sought(&self) -> &SoughtField
         ensures { result.now ≡ self.now.sought }
     {
@@ -135,7 +135,7 @@ impl DynamicTable {
         Ok(FoundField { lookup, sought })
     }
 
-    /// The absolute index of the newest live entry with the name of a field that was sought.
+    /// Returns the absolute index of the newest live entry with the name of a field that was sought.
     pub(super) fn newest_sought_name(
         &self,
         name: &[u8],

@@ -9,21 +9,21 @@ pub struct Steps {
 }
 
 impl Steps {
-    /// No comparison yet.
+    /// Returns a counter of no comparisons.
     pub fn new() -> Steps
         ensures { result.count ≡ 0 }
     {
         Steps { count: 0 }
     }
 
-    /// How many comparisons were made.
+    /// Returns how many comparisons were made.
     pub fn count(&self) -> u64
         ensures { result ≡ self.now.count }
     {
         self.count
     }
 
-    /// One comparison more.
+    /// Counts one more comparison.
     pub(super) fn raise(&mut self)
         ensures raised { self.new.count ≡ min (self.old.count + 1) (2 ^ 64 - 1) }
         ensures grows { self.old.count ≤ self.new.count }

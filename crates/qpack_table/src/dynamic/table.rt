@@ -90,7 +90,7 @@ impl<I: EntryIndex> Model for DynamicTable<I> {
 }
 
 impl DynamicTable {
-    /// An empty table, of capacity 0 and with no block that may be blocked.
+    /// Returns an empty table, of capacity 0 and with no block that may be blocked.
     pub fn new(alloc: Global) -> DynamicTable
         ensures { result ≡ empty_table 0 None 0 }
     {
@@ -148,7 +148,7 @@ impl DynamicTable {
 }
 
 impl DynamicTable<NoIndex> {
-    /// The same of a table that only receives.
+    /// Returns an empty table of a decoder, without an index.
     pub fn without_index(alloc: Global) -> ReceivedTable
         ensures { result ≡ empty_table 0 None 0 }
     {
@@ -157,7 +157,7 @@ impl DynamicTable<NoIndex> {
 }
 
 impl<I: EntryIndex> DynamicTable<I> {
-    /// An empty table, of capacity 0 and with no block that may be blocked, with an index of no entry.
+    /// Returns an empty table, of capacity 0 and with no block that may be blocked, with an index of no entry.
     fn with_index(alloc: Global, index: I) -> DynamicTable<I>
         requires { (dropped : ℕ) → I.is_index_of index dropped [] }
         ensures { result ≡ empty_table 0 None 0 }
@@ -176,28 +176,28 @@ impl<I: EntryIndex> DynamicTable<I> {
         }
     }
 
-    /// How many insertions were ever made.
+    /// Returns how many insertions were ever made.
     pub fn total_inserted(&self) -> usize
         ensures { result ≡ insert_count self.now }
     {
         self.vas.total_inserted()
     }
 
-    /// How many entries were evicted.
+    /// Returns how many entries were evicted.
     pub(super) fn total_dropped(&self) -> usize
         ensures { result ≡ self.now.dropped }
     {
         self.vas.total_dropped()
     }
 
-    /// The sum of the live fields' sizes in bytes.
+    /// Returns the sum of the live fields' sizes in bytes.
     pub(super) fn used(&self) -> usize
         ensures { result ≡ total_size (fields_in self.now.live) }
     {
         self.mem_size
     }
 
-    /// The size in bytes of the live entry with an absolute index.
+    /// Returns the size in bytes of the live entry with an absolute index.
     pub(super) fn entry_size(&self, absolute: usize) -> Option<usize>
         ensures { result ≡ option_map field_size (absolute_entry (window self.now) absolute) }
     {
@@ -211,7 +211,7 @@ impl<I: EntryIndex> DynamicTable<I> {
         }
     }
 
-    /// Whether the entry with an absolute index is live and equals a field.
+    /// Returns whether the entry with an absolute index is live and equals a field.
     pub(super) fn is_equal(&self, absolute: usize, field: &FieldLine<'_>) -> bool
         ensures { result ≡ passes_at self.now (is_field (line_of field.now).field) absolute }
     {
@@ -228,7 +228,7 @@ impl<I: EntryIndex> DynamicTable<I> {
         }
     }
 
-    /// The capacity in bytes, which is below 2^30. The live fields fit it.
+    /// Returns the capacity in bytes, which is below 2^30. The live fields fit it.
     pub fn max_mem_size(&self) -> usize
         ensures exact { result ≡ self.now.capacity }
         ensures most { result < 2 ^ 30 }
@@ -237,12 +237,12 @@ impl<I: EntryIndex> DynamicTable<I> {
         self.capacities.capacity()
     }
 
-    /// What the table takes its memory of.
+    /// Returns the allocator of the table.
     pub fn allocator(&self) -> Global {
         *self.entries.allocator()
     }
 
-    /// The table under the base of a block.
+    /// Returns the table under the base of a block.
     pub fn decoder(&self, base: usize) -> DynamicTableDecoder<'_, I>
         ensures table { result.table.now ≡ self.now }
         ensures base { result.base ≡ base }
@@ -250,7 +250,7 @@ impl<I: EntryIndex> DynamicTable<I> {
         DynamicTableDecoder { table: self, base }
     }
 
-    /// The live field of an instruction's relative index, 0 the newest (RFC 9204, section 3.2.5).
+    /// Returns the live field of an instruction's relative index, 0 the newest (RFC 9204, section 3.2.5).
     pub fn get_relative(&self, index: usize) -> Result<&HeaderField, Error>
         ensures found { IfOk result (λ field. relative_entry (window self.now) index ≡ Some (field_of field.now)) }
         ensures refused { IfErr result
@@ -260,7 +260,7 @@ impl<I: EntryIndex> DynamicTable<I> {
         self.field_at(position)
     }
 
-    /// The live field of a line's relative index under a base (RFC 9204, section 3.2.5).
+    /// Returns the live field of a line's relative index under a base (RFC 9204, section 3.2.5).
     fn get_relative_base(&self, base: usize, index: usize) -> Result<&HeaderField, Error>
         ensures { LooksUp result (relative_field (window self.now) base index) }
     {
@@ -268,7 +268,7 @@ impl<I: EntryIndex> DynamicTable<I> {
         self.field_at(position)
     }
 
-    /// The live field of a line's post-base index (RFC 9204, section 3.2.6).
+    /// Returns the live field of a line's post-base index (RFC 9204, section 3.2.6).
     fn get_postbase(&self, base: usize, index: usize) -> Result<&HeaderField, Error>
         ensures { LooksUp result (post_base_field (window self.now) base index) }
     {
@@ -276,14 +276,14 @@ impl<I: EntryIndex> DynamicTable<I> {
         self.field_at(position)
     }
 
-    /// The address space, which is that of what both ends share.
+    /// Returns the address space, which is that of what both ends share.
     fn positions(&self) -> &VirtualAddressSpace
         ensures { result.now ≡ positions_of (window self.now) }
     {
         &self.vas
     }
 
-    /// The live field at a position.
+    /// Returns the live field at a position.
     fn field_at(&self, position: usize) -> Result<&HeaderField, Error>
         ensures found { IfOk result
             (λ field. slice_get (fields_in self.now.live) position ≡ Some (field_of field.now)) }
@@ -296,8 +296,8 @@ impl<I: EntryIndex> DynamicTable<I> {
         }
     }
 
-    /// Whether the live entry at a position is evictable: no block references it, and it was not sent or is known
-    /// to be received (RFC 9204, section 2.1.1).
+    /// Returns whether the live entry at a position is evictable: no block references it, and it was not sent or is
+    /// known to be received (RFC 9204, section 2.1.1).
     fn is_evictable(&self, position: usize) -> bool
         requires { position < length self.now.live }
         ensures { IsEvictableAt self.now position result }
@@ -310,8 +310,8 @@ impl<I: EntryIndex> DynamicTable<I> {
         !entry.sent || dropped + position < self.known_received_count
     }
 
-    /// The least number of oldest entries whose removal lets the rest fit so many bytes, if each of them is evictable:
-    /// the walk ends at the first that is not (RFC 9204, sections 2.1.1 and 3.2.2).
+    /// Returns the least number of oldest entries whose removal lets the rest fit this many bytes, if each of them is
+    /// evictable. Stops at the first that is not (RFC 9204, sections 2.1.1 and 3.2.2).
     fn evictable_count(&self, room: usize) -> Option<usize>
         ensures least { IfSome result (λ evicted. evicted ≡ eviction_count room (fields_in self.now.live)) }
         ensures evictable { IfSome result (λ evicted. can_evict self.now evicted ≡ true) }
@@ -330,7 +330,7 @@ impl<I: EntryIndex> DynamicTable<I> {
         Some(evicted)
     }
 
-    /// How many of the oldest entries go before a field of so many bytes stands, if each of them is evictable.
+    /// Returns how many of the oldest entries are evicted for a field of this many bytes, if each of them is evictable.
     pub(super) fn evictable_for(&self, size: usize) -> Option<usize>
         requires fits { size ≤ self.now.capacity }
         ensures least { IfSome result
@@ -342,8 +342,8 @@ impl<I: EntryIndex> DynamicTable<I> {
         self.evictable_count(self.max_mem_size() - size)
     }
 
-    /// Inserts a field behind the newest one, once so many of the oldest are evicted. On error, which is for
-    /// memory alone, nothing changes.
+    /// Inserts a field as the newest, and evicts this many of the oldest entries. On error, which is for memory only,
+    /// nothing changes.
     fn insert(&mut self, field: HeaderField, sent: bool, evicted: usize) -> Result<(), AllocError>
         requires few { insert_count self.old < 2 ^ 62 }
         requires fits { field_size (field_of field) ≤ self.old.capacity }
@@ -355,7 +355,7 @@ impl<I: EntryIndex> DynamicTable<I> {
         self.insert_hashed(field, sent, evicted, key)
     }
 
-    /// The same of a field with such a key.
+    /// Inserts a field with this key, as `insert` does.
     #[inline(always)]
     pub(super) fn insert_hashed(
         &mut self,
@@ -389,10 +389,9 @@ impl<I: EntryIndex> DynamicTable<I> {
         Ok(())
     }
 
-    /// Puts a field, as a decoder does: entries that have to go are evicted then (RFC 9204, section 3.2.2). It is
-    /// passed over at capacity 0, behind the 2^62th insertion and where an entry that is not evictable would have to be
-    /// evicted, and refused if it is larger than the capacity. Only a field that is inserted takes memory. Refused,
-    /// nothing changes.
+    /// Inserts a field, as a decoder does, and evicts entries as needed (RFC 9204, section 3.2.2). Does nothing at
+    /// capacity 0, after the 2^62th insertion, and if an entry that is not evictable would be evicted. Fails if the
+    /// field is larger than the capacity. Only an insertion takes memory. On error nothing changes.
     #[tactic(auto, using(crate::proofs::Changes::put_without_entry))]
     pub fn put(&mut self, field: HeaderField) -> Result<(), Error>
         ensures { ChangesWithMemory (IsInserted self.old (field_of field)) result
@@ -415,7 +414,7 @@ impl<I: EntryIndex> DynamicTable<I> {
         Ok(self.insert(field, false, evicted)?)
     }
 
-    /// The greatest capacity that may be set, in bytes.
+    /// Returns the greatest capacity that may be set, in bytes.
     fn greatest_capacity(&self) -> usize
         ensures agreed_max { result ≡ greatest_capacity self.now.agreed_max }
         ensures most { result < 2 ^ 30 }
@@ -423,8 +422,8 @@ impl<I: EntryIndex> DynamicTable<I> {
         self.capacities.greatest()
     }
 
-    /// The maximum capacity in bytes: what was agreed, and the present capacity until something is (RFC 9204, section
-    /// 3.2.3).
+    /// Returns the maximum capacity in bytes: what was agreed, and the present capacity until something is (RFC 9204,
+    /// section 3.2.3).
     pub fn agreed_max(&self) -> usize
         ensures exact { result ≡ maximum_capacity self.now.agreed_max self.now.capacity }
         ensures most { self.now.capacity ≤ result }
@@ -461,7 +460,7 @@ impl<I: EntryIndex> DynamicTable<I> {
         Ok(())
     }
 
-    /// Tells whether `set_max_size` sets this capacity, or why it refuses it. Nothing changes.
+    /// Returns whether `set_max_size` would set this capacity, or its error. Nothing changes.
     pub fn check_max_size(&self, size: usize) -> Result<(), Error>
         ensures ok { OnOk result (IsOk (with_capacity self.now size)) }
         ensures err { IfErr result (λ e. IsRefusedFor (with_capacity self.now size) (refusal_of e)) }
@@ -470,7 +469,8 @@ impl<I: EntryIndex> DynamicTable<I> {
         Ok(())
     }
 
-    /// How many of the oldest entries go before a capacity of so many bytes is set, or why it is refused.
+    /// Returns how many of the oldest entries are evicted for a capacity of this many bytes, or the error of
+    /// `set_max_size`.
     fn evicted_for_capacity(&self, size: usize) -> Result<usize, Error>
         ensures within { OnOk result (size ≤ greatest_capacity self.now.agreed_max) }
         ensures small { OnOk result (size < 2 ^ 30) }
@@ -493,15 +493,15 @@ pub struct DynamicTableDecoder<'a, I: EntryIndex = Index> {
 }
 
 impl<I: EntryIndex> DynamicTableDecoder<'_, I> {
-    /// The field that a line's relative index names (RFC 9204, section 3.2.5). A base above the total may name
-    /// a position behind the newest entry, which is told as that.
+    /// Returns the field that a line's relative index references (RFC 9204, section 3.2.5). Under a base above the
+    /// total, the index may reference a position after the newest entry; the error is then `BadIndex`.
     pub fn get_relative(&self, index: usize) -> Result<&HeaderField, Error>
         ensures { LooksUp result (relative_field (window self.now.table.now) self.now.base index) }
     {
         self.table.get_relative_base(self.base, index)
     }
 
-    /// The field that a line's post-base index names (RFC 9204, section 3.2.6).
+    /// Returns the field that a line's post-base index references (RFC 9204, section 3.2.6).
     pub fn get_postbase(&self, index: usize) -> Result<&HeaderField, Error>
         ensures { LooksUp result (post_base_field (window self.now.table.now) self.now.base index) }
     {

@@ -43,7 +43,7 @@ impl Indexed {
         ensures decodes { Decodes line_of_indexed (SpellsKind indexed_line) (RefusesKind indexed_line) buf.old buf.new
             result }
         ensures no_memory { result ≡ Err Memory → ⊥ }
-        // The same, as reading from left to right.
+        // The clauses above as one function, which reads from left to right.
         ensures exact { ReadsForm line_of_indexed buf.old buf.new result (kind_at indexed_line buf.old.rest) }
     {
         read_indexed(buf)
@@ -100,7 +100,7 @@ impl IndexedWithPostBase {
         ensures decodes { Decodes line_of_indexed_with_post_base (SpellsKind indexed_line_with_post_base)
             (RefusesKind indexed_line_with_post_base) buf.old buf.new result }
         ensures no_memory { result ≡ Err Memory → ⊥ }
-        // The same, as reading from left to right.
+        // The clauses above as one function, which reads from left to right.
         ensures exact { ReadsForm line_of_indexed_with_post_base buf.old buf.new result
             (kind_at indexed_line_with_post_base buf.old.rest) }
     {

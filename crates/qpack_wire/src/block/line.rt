@@ -21,7 +21,7 @@ use qpack_base::parse_error::ParseError;
 use qpack_base::{prefix_int, prefix_string};
 use std::alloc::{Allocator, Global};
 
-/// The form of a line, as its first byte tells it.
+/// The form of a line, which its first byte determines.
 #[derive(Debug, PartialEq, Drop)]
 pub enum HeaderBlockField {
     /// `1T`: an indexed field line (section 4.5.2).
@@ -34,12 +34,12 @@ pub enum HeaderBlockField {
     LiteralWithPostBaseNameRef,
     /// `001NH`: a literal field line with a literal name (section 4.5.6).
     Literal,
-    /// Kept from the original, and never answered: every byte begins a form.
+    /// Kept from the original, and never returned: every byte begins a form.
     Unknown,
 }
 
 impl HeaderBlockField {
-    /// The form of a line that begins with this byte.
+    /// Returns the form of a line that begins with this byte.
     pub fn decode(first: u8) -> HeaderBlockField
         ensures { result ≡ field_of_first first }
     {
@@ -62,11 +62,11 @@ impl HeaderBlockField {
 pub enum BlockLine {
     /// An index, of the static table or relative to the base.
     Indexed(Indexed),
-    /// An index behind the base.
+    /// An index after the base.
     IndexedWithPostBase(IndexedWithPostBase),
     /// A name's index, of the static table or relative to the base, and a value.
     LiteralWithNameRef(LiteralWithNameRef),
-    /// A name's index behind the base, and a value.
+    /// A name's index after the base, and a value.
     LiteralWithPostBaseNameRef(LiteralWithPostBaseNameRef),
     /// A name and a value.
     Literal(Literal),
@@ -78,9 +78,9 @@ impl BlockLine {
     #[inline(always)]
     pub fn decode(alloc: Global, buf: &mut Cursor) -> Result<BlockLine, ParseError>
         ensures decodes { Decodes line_of SpellsLine RefusesBlockLine buf.old buf.new result }
-        // Memory is refused only where a string whose payload is not empty stands whole.
+        // Memory is refused only if a string is whole and its payload is not empty.
         ensures memory { result ≡ Err Memory → AsksForMemory line_form buf.old.rest }
-        // The same, as reading from left to right.
+        // The clauses above as one function, which reads from left to right.
         ensures exact { ReadsForm line_of buf.old buf.new result (line_at buf.old.rest) }
     {
         read_line(alloc, buf)

@@ -1,4 +1,4 @@
-//! Lines with a value of their own (RFC 9204, sections 4.5.4 to 4.5.6).
+//! Lines with a literal value (RFC 9204, sections 4.5.4 to 4.5.6).
 
 ghost use Rattle.std.specs.Prelude.{◌≡◌, Err, IfErr};
 ghost use Rattle.qpack_spec.specs.Line.{NamedStatic, NamedDynamic, NamedPostBase, Literal as LiteralLine, written_line};
@@ -28,7 +28,7 @@ use std::alloc::{Allocator, Global};
 // +---+---------------------------+
 // |  Value String (Length bytes)  |
 // +-------------------------------+
-// N asks that the field never be indexed: it is read and dropped, and written as the writer is told. T is 1 for the
+// N asks that the field never be indexed: reading drops it, and a writer sets it as its caller says. T is 1 for the
 // static table.
 pub(crate) const NAMED_SIZE: u8 = 4;
 
@@ -40,8 +40,8 @@ const NAMED_DYNAMIC_NEVER_INDEXED: u8 = 0b0110;
 
 const NAMED_STATIC_NEVER_INDEXED: u8 = 0b0111;
 
-/// A value behind the name of a field of the static table, or of an entry of the dynamic table,
-/// counted down from the base.
+/// A value with the name of a field of the static table, or of an entry of the dynamic table, counted down from the
+/// base.
 #[derive(Debug, PartialEq, Drop)]
 pub enum LiteralWithNameRef {
     /// The name of a field of the static table.
@@ -61,14 +61,14 @@ pub enum LiteralWithNameRef {
 }
 
 impl LiteralWithNameRef {
-    /// A value behind a name of the static table.
+    /// Returns a value with a name of the static table.
     pub fn new_static(index: usize, value: Vec<u8>) -> LiteralWithNameRef
         ensures { line_of_literal_with_name_ref result ≡ NamedStatic index value.items }
     {
         LiteralWithNameRef::Static { index, value }
     }
 
-    /// A value behind a name of the dynamic table.
+    /// Returns a value with a name of the dynamic table.
     pub fn new_dynamic(index: usize, value: Vec<u8>) -> LiteralWithNameRef
         ensures { line_of_literal_with_name_ref result ≡ NamedDynamic index value.items }
     {
@@ -80,9 +80,9 @@ impl LiteralWithNameRef {
     pub fn decode(alloc: Global, buf: &mut Cursor) -> Result<LiteralWithNameRef, ParseError>
         ensures decodes { Decodes line_of_literal_with_name_ref (SpellsKind literal_with_name_ref)
             (RefusesKind literal_with_name_ref) buf.old buf.new result }
-        // Memory is refused only where a string whose payload is not empty stands whole.
+        // Memory is refused only if a string is whole and its payload is not empty.
         ensures memory { result ≡ Err Memory → AsksForMemory (form_for literal_with_name_ref) buf.old.rest }
-        // The same, as reading from left to right.
+        // The clauses above as one function, which reads from left to right.
         ensures exact { ReadsForm line_of_literal_with_name_ref buf.old buf.new result
             (kind_at literal_with_name_ref buf.old.rest) }
     {
@@ -105,8 +105,7 @@ impl LiteralWithNameRef {
         }
     }
 
-    /// Appends the written spelling of a line with a borrowed value behind a name of the static table, as
-    /// `encode` does.
+    /// Appends the written spelling of a line with a borrowed value and a name of the static table, as `encode` does.
     #[inline(always)]
     #[tactic(auto, unfolding(qpack_spec::specs::Line::written_marked_line, qpack_spec::specs::Line::written_line))]
     pub fn write_static<A: Allocator>(
@@ -120,7 +119,7 @@ impl LiteralWithNameRef {
         LiteralWithNameRef::write_static_marked(index, value, false, buf)
     }
 
-    /// The same of a field that may be never to be indexed, in which case N is 1 (RFC 9204, section 7.1.3).
+    /// Appends the line as `write_static` does; N is 1 if the field is never to be indexed (RFC 9204, section 7.1.3).
     #[inline(always)]
     #[tactic(auto, unfolding(qpack_spec::specs::Line::written_marked_line, qpack_spec::specs::Line::written_line))]
     pub fn write_static_marked<A: Allocator>(
@@ -141,8 +140,7 @@ impl LiteralWithNameRef {
         put_index_and_value(NAMED_SIZE, flags, index as u64, value, buf)
     }
 
-    /// Appends the written spelling of a line with a borrowed value behind a name of the dynamic table, as
-    /// `encode` does.
+    /// Appends the written spelling of a line with a borrowed value and a name of the dynamic table, as `encode` does.
     #[inline(always)]
     #[tactic(auto, unfolding(qpack_spec::specs::Line::written_marked_line, qpack_spec::specs::Line::written_line))]
     pub fn write_dynamic<A: Allocator>(
@@ -156,7 +154,7 @@ impl LiteralWithNameRef {
         LiteralWithNameRef::write_dynamic_marked(index, value, false, buf)
     }
 
-    /// The same of a field that may be never to be indexed, in which case N is 1 (RFC 9204, section 7.1.3).
+    /// Appends the line as `write_dynamic` does; N is 1 if the field is never to be indexed (RFC 9204, section 7.1.3).
     #[inline(always)]
     #[tactic(auto, unfolding(qpack_spec::specs::Line::written_marked_line, qpack_spec::specs::Line::written_line))]
     pub fn write_dynamic_marked<A: Allocator>(
@@ -218,7 +216,7 @@ pub(crate) const POST_BASE_NAMED: u8 = 0b00000;
 
 const POST_BASE_NAMED_NEVER_INDEXED: u8 = 0b00001;
 
-/// A value behind the name of an entry of the dynamic table, counted up from the base.
+/// A value with the name of an entry of the dynamic table, counted up from the base.
 #[derive(Debug, PartialEq, Drop)]
 pub struct LiteralWithPostBaseNameRef {
     /// The post-base index in the dynamic table.
@@ -228,7 +226,7 @@ pub struct LiteralWithPostBaseNameRef {
 }
 
 impl LiteralWithPostBaseNameRef {
-    /// A value behind a name.
+    /// Returns a value with this name.
     pub fn new(index: usize, value: Vec<u8>) -> LiteralWithPostBaseNameRef
         ensures { line_of_literal_with_post_base_name_ref result ≡ NamedPostBase index value.items }
     {
@@ -240,9 +238,9 @@ impl LiteralWithPostBaseNameRef {
     pub fn decode(alloc: Global, buf: &mut Cursor) -> Result<LiteralWithPostBaseNameRef, ParseError>
         ensures decodes { Decodes line_of_literal_with_post_base_name_ref (SpellsKind literal_with_post_base_name_ref)
             (RefusesKind literal_with_post_base_name_ref) buf.old buf.new result }
-        // Memory is refused only where a string whose payload is not empty stands whole.
+        // Memory is refused only if a string is whole and its payload is not empty.
         ensures memory { result ≡ Err Memory → AsksForMemory (form_for literal_with_post_base_name_ref) buf.old.rest }
-        // The same, as reading from left to right.
+        // The clauses above as one function, which reads from left to right.
         ensures exact { ReadsForm line_of_literal_with_post_base_name_ref buf.old buf.new result
             (kind_at literal_with_post_base_name_ref buf.old.rest) }
     {
@@ -273,7 +271,7 @@ impl LiteralWithPostBaseNameRef {
         LiteralWithPostBaseNameRef::write_marked(index, value, false, buf)
     }
 
-    /// The same of a field that may be never to be indexed, in which case N is 1 (RFC 9204, section 7.1.3).
+    /// Appends the line as `write` does; N is 1 if the field is never to be indexed (RFC 9204, section 7.1.3).
     #[inline(always)]
     #[tactic(auto, unfolding(qpack_spec::specs::Line::written_marked_line, qpack_spec::specs::Line::written_line))]
     pub fn write_marked<A: Allocator>(
@@ -343,7 +341,7 @@ pub struct Literal {
 }
 
 impl Literal {
-    /// A name and a value.
+    /// Returns a name and a value.
     pub fn new(name: Vec<u8>, value: Vec<u8>) -> Literal
         ensures { line_of_literal result ≡ LiteralLine name.items value.items }
     {
@@ -355,9 +353,9 @@ impl Literal {
     #[inline(always)]
     pub fn decode(alloc: Global, buf: &mut Cursor) -> Result<Literal, ParseError>
         ensures decodes { Decodes line_of_literal (SpellsKind literal) (RefusesKind literal) buf.old buf.new result }
-        // Memory is refused only where a string whose payload is not empty stands whole.
+        // Memory is refused only if a string is whole and its payload is not empty.
         ensures memory { result ≡ Err Memory → AsksForMemory (form_for literal) buf.old.rest }
-        // The same, as reading from left to right.
+        // The clauses above as one function, which reads from left to right.
         ensures exact { ReadsForm line_of_literal buf.old buf.new result (kind_at literal buf.old.rest) }
     {
         read_literal(alloc, buf)
@@ -386,7 +384,7 @@ impl Literal {
         Literal::write_marked(name, value, false, buf)
     }
 
-    /// The same of a field that may be never to be indexed, in which case N is 1 (RFC 9204, section 7.1.3).
+    /// Appends the line as `write` does; N is 1 if the field is never to be indexed (RFC 9204, section 7.1.3).
     #[inline(always)]
     #[tactic(auto, unfolding(qpack_spec::specs::Line::written_marked_line, qpack_spec::specs::Line::written_line))]
     pub fn write_marked<A: Allocator>(

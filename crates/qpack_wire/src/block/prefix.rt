@@ -39,8 +39,8 @@ pub struct HeaderPrefix {
 }
 
 impl HeaderPrefix {
-    /// The prefix that is written for a required insert count and a base, the table having this
-    /// capacity and so many entries having been inserted.
+    /// Returns the prefix that is written for a required insert count and a base, under a table of this capacity with
+    /// this many insertions.
     #[tactic(auto, unfolding(qpack_spec::specs::Prefix::prefix_for))]
     pub fn new(
         required: usize,
@@ -79,7 +79,7 @@ impl HeaderPrefix {
     pub fn decode(buf: &mut Cursor) -> Result<HeaderPrefix, ParseError>
         ensures decodes { Decodes prefix_of SpellsPrefix RefusesPrefix buf.old buf.new result }
         ensures no_memory { result ≡ Err Memory → ⊥ }
-        // The same, as reading from left to right.
+        // The clauses above as one function, which reads from left to right.
         ensures exact { ReadsForm prefix_of buf.old buf.new result (read_prefix_at buf.old.rest) }
     {
         read_header_prefix(buf)
@@ -110,15 +110,15 @@ impl HeaderPrefix {
         answer
     }
 
-    /// The encoded required insert count, as it stands in the bytes.
+    /// Returns the encoded required insert count, as it is in the bytes.
     pub fn encoded_insert_count(&self) -> usize
         ensures { result ≡ (prefix_of self.now).count }
     {
         self.encoded_insert_count
     }
 
-    /// Returns the required insert count and the base that the prefix stands for, under a table of this capacity
-    /// with this many insertions. Where nothing is required both are 0, whatever else the prefix says.
+    /// Returns the required insert count and the base that the prefix encodes, under a table of this capacity with this
+    /// many insertions. If nothing is required both are 0, and the rest of the prefix is ignored.
     #[tactic(auto, unfolding(qpack_spec::specs::Prefix::read_prefix))]
     pub fn get(
         self,
@@ -168,7 +168,7 @@ fn read_header_prefix(buf: &mut Cursor) -> Result<HeaderPrefix, ParseError>
     })
 }
 
-/// The required insert count that an encoded one stands for.
+/// Returns the required insert count that this encoded one means.
 #[tactic(auto, unfolding(qpack_spec::specs::Prefix::read_required))]
 fn required_count(
     count: usize,
@@ -191,8 +191,8 @@ fn required_count(
     Ok(required as usize)
 }
 
-/// The greatest number of the residue `count - 1` modulo twice the entries that is at most the total
-/// and the entries; 0 if none is above 0.
+/// Returns the greatest number of the residue `count - 1` modulo twice the entries that is at most the total and the
+/// entries; 0 if none is above 0.
 #[tactic(auto, using(crate::proofs::Prefixes::window_at))]
 fn number_in_window(count: usize, total_inserted: usize, max_entries: usize) -> u128
     requires some { 0 < count }
@@ -206,7 +206,7 @@ fn number_in_window(count: usize, total_inserted: usize, max_entries: usize) -> 
     top.saturating_sub(back as u128)
 }
 
-/// The base behind a required insert count.
+/// Returns the base that a sign and a delta give after a required insert count.
 #[tactic(auto, unfolding(qpack_spec::specs::Prefix::read_base))]
 fn base_behind(sign_negative: bool, required: usize, delta: usize) -> Result<usize, ParseError>
     ensures { result ≡ or_prefix_error (read_base sign_negative required delta) }

@@ -17,20 +17,20 @@ use std::alloc::Global;
 
 /// Reads a whole block: the only prefix and lines whose spellings joined are the bytes.
 ///
-/// Refused is the first of them that cannot be read, in reading order; where the bytes end within it, as `Integer` or
-/// `String` of `UnexpectedEnd`. No table is asked: what the prefix and the lines name need not be there.
+/// Fails at the first of them that cannot be read, in reading order. If the bytes end within it the error is `Integer`
+/// or `String` of `UnexpectedEnd`. There is no table: what the prefix and the lines reference need not exist.
 pub fn read_block(alloc: Global, block: &[u8]) -> Result<(HeaderPrefix, Vec<BlockLine>), ParseError>
-    // What is answered is spelled so.
+    // What it returns is spelled so.
     ensures found { IfOk result (λ r. SpellsBlock block.now (block_of r)) }
-    // What is spelled so is answered, unless memory is refused.
+    // It returns what is spelled so, unless memory is refused.
     ensures only { (b : Block) → SpellsBlock block.now b → GivesBlock result b }
-    // A refusal tells why the bytes are no block: the first fault in reading order.
+    // An error is the reason why the bytes are no block: the first fault in reading order.
     ensures refused { IfErr result (FindsBlockFault block.now) }
-    // And why they are none is told, unless memory is refused.
+    // If they are no block it returns why, unless memory is refused.
     ensures told { (fault : KindFault) → StopsBlock block.now fault → GivesBlockFault result fault }
-    // Memory is refused only behind a prefix, and there only behind a line or a string whose payload is not empty.
+    // Memory is refused only if a prefix is followed by a whole line, or by a string whose payload is not empty.
     ensures memory { result ≡ Err Memory → AsksSectionForMemory block.now }
-    // The same, as reading from left to right.
+    // The clauses above as one function, which reads from left to right.
     ensures exact { ReadsBlock result (block_at block.now) }
 {
     read_whole(alloc, &mut Cursor::new(block))

@@ -28,7 +28,7 @@ const INCREMENT_SIZE: u8 = 6;
 
 const INCREMENT: u8 = 0b00;
 
-/// So many further insertions were received.
+/// This many further insertions were received.
 #[derive(Debug, PartialEq, Drop)]
 pub struct InsertCountIncrement(pub usize);
 
@@ -40,7 +40,7 @@ impl InsertCountIncrement {
             (SpellsKind insert_count_increment)
             (RefusesKind insert_count_increment) buf.old buf.new result }
         ensures no_memory { result ≡ Err Memory → ⊥ }
-        // The same, as reading from left to right.
+        // The clauses above as one function, which reads from left to right.
         ensures exact { ReadsStream decoder_instruction_of_insert_count_increment buf.old buf.new result
             (kind_at insert_count_increment buf.old.rest) }
     {
@@ -91,7 +91,7 @@ impl HeaderAck {
         ensures decodes { DecodesInstruction decoder_instruction_of_header_ack (SpellsKind header_ack)
             (RefusesKind header_ack) buf.old buf.new result }
         ensures no_memory { result ≡ Err Memory → ⊥ }
-        // The same, as reading from left to right.
+        // The clauses above as one function, which reads from left to right.
         ensures exact { ReadsStream decoder_instruction_of_header_ack buf.old buf.new result
             (kind_at header_ack buf.old.rest) }
     {
@@ -139,7 +139,7 @@ impl StreamCancel {
         ensures decodes { DecodesInstruction decoder_instruction_of_stream_cancel (SpellsKind stream_cancel)
             (RefusesKind stream_cancel) buf.old buf.new result }
         ensures no_memory { result ≡ Err Memory → ⊥ }
-        // The same, as reading from left to right.
+        // The clauses above as one function, which reads from left to right.
         ensures exact { ReadsStream decoder_instruction_of_stream_cancel buf.old buf.new result
             (kind_at stream_cancel buf.old.rest) }
     {

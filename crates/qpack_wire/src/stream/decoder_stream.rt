@@ -17,7 +17,7 @@ use qpack_base::parse_error::ParseError;
 use qpack_base::prefix_int;
 use std::alloc::{Allocator, Global};
 
-/// The decoder instruction that a first byte tells.
+/// The decoder instruction that a first byte determines.
 #[derive(Debug, PartialEq, Drop)]
 pub enum DecoderInstruction {
     /// `1`: an acknowledgment (section 4.4.1).
@@ -26,12 +26,12 @@ pub enum DecoderInstruction {
     StreamCancel,
     /// `00`: an increment (section 4.4.3).
     InsertCountIncrement,
-    /// Kept from the original, and never answered: every byte begins an instruction.
+    /// Kept from the original, and never returned: every byte begins an instruction.
     Unknown,
 }
 
 impl DecoderInstruction {
-    /// The decoder instruction that begins with this byte.
+    /// Returns the decoder instruction that begins with this byte.
     pub fn decode(first: u8) -> DecoderInstruction
         ensures { result ≡ decoder_instruction_of_first first }
     {

@@ -19,7 +19,7 @@ use qpack_base::parse_error::ParseError;
 use qpack_base::prefix_int;
 use std::alloc::{Allocator, Global};
 
-/// The encoder instruction that a first byte tells.
+/// The encoder instruction that a first byte determines.
 #[derive(Debug, PartialEq, Drop)]
 pub enum EncoderInstruction {
     /// `001`: a capacity (section 4.3.1).
@@ -30,12 +30,12 @@ pub enum EncoderInstruction {
     InsertWithoutNameRef,
     /// `000`: a duplication (section 4.3.4).
     Duplicate,
-    /// Kept from the original, and never answered: every byte begins an instruction.
+    /// Kept from the original, and never returned: every byte begins an instruction.
     Unknown,
 }
 
 impl EncoderInstruction {
-    /// The encoder instruction that begins with this byte.
+    /// Returns the encoder instruction that begins with this byte.
     pub fn decode(first: u8) -> EncoderInstruction
         ensures { result ≡ encoder_instruction_of_first first }
     {

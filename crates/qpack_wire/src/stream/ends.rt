@@ -6,7 +6,7 @@ ghost use Rattle.qpack_wire.specs.StreamAnswers.{without_end};
 use qpack_base::parse_error::ParseError;
 use qpack_base::{prefix_int, prefix_string};
 
-/// The answer, with none in place of an early end: the rest of the line is still under way.
+/// Returns the result, with `None` in place of an early end: the rest of the line has not come yet.
 pub(crate) fn or_none<T: Drop>(answer: Result<T, ParseError>) -> Result<Option<T>, ParseError>
     ensures { result ≡ without_end answer }
 {

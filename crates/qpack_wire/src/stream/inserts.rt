@@ -57,14 +57,14 @@ pub enum InsertWithNameRef {
 }
 
 impl InsertWithNameRef {
-    /// A value under a name of the static table.
+    /// Returns a value under a name of the static table.
     pub fn new_static(index: usize, value: Vec<u8>) -> InsertWithNameRef
         ensures { encoder_instruction_of_insert_with_name_ref result ≡ InsertStaticName index value.items }
     {
         InsertWithNameRef::Static { index, value }
     }
 
-    /// A value under a name of the dynamic table.
+    /// Returns a value under a name of the dynamic table.
     pub fn new_dynamic(index: usize, value: Vec<u8>) -> InsertWithNameRef
         ensures { encoder_instruction_of_insert_with_name_ref result ≡ InsertDynamicName index value.items }
     {
@@ -77,9 +77,9 @@ impl InsertWithNameRef {
         ensures decodes { DecodesInstruction encoder_instruction_of_insert_with_name_ref
             (SpellsKind insert_with_name_ref)
             (RefusesKind insert_with_name_ref) buf.old buf.new result }
-        // Memory is refused only where a string whose payload is not empty stands whole.
+        // Memory is refused only if a string is whole and its payload is not empty.
         ensures memory { result ≡ Err Memory → AsksForMemory (form_for insert_with_name_ref) buf.old.rest }
-        // The same, as reading from left to right.
+        // The clauses above as one function, which reads from left to right.
         ensures exact { ReadsStream encoder_instruction_of_insert_with_name_ref buf.old buf.new result
             (kind_at insert_with_name_ref buf.old.rest) }
     {
@@ -184,7 +184,7 @@ pub struct InsertWithoutNameRef {
 }
 
 impl InsertWithoutNameRef {
-    /// A name and a value.
+    /// Returns a name and a value.
     pub fn new(name: Vec<u8>, value: Vec<u8>) -> InsertWithoutNameRef
         ensures { encoder_instruction_of_insert_without_name_ref result ≡ InsertLiteralName name.items value.items }
     {
@@ -199,9 +199,9 @@ impl InsertWithoutNameRef {
     ) -> Result<Option<InsertWithoutNameRef>, ParseError>
         ensures decodes { DecodesInstruction encoder_instruction_of_insert_without_name_ref
             (SpellsKind insert_without_name_ref) (RefusesKind insert_without_name_ref) buf.old buf.new result }
-        // Memory is refused only where a string whose payload is not empty stands whole.
+        // Memory is refused only if a string is whole and its payload is not empty.
         ensures memory { result ≡ Err Memory → AsksForMemory (form_for insert_without_name_ref) buf.old.rest }
-        // The same, as reading from left to right.
+        // The clauses above as one function, which reads from left to right.
         ensures exact { ReadsStream encoder_instruction_of_insert_without_name_ref buf.old buf.new result
             (kind_at insert_without_name_ref buf.old.rest) }
     {

@@ -17,7 +17,7 @@ pub trait Wire: Sized + Drop {
     /// The lines of the stream, as its definition has them.
     ghost Line: { Type 0 };
 
-    /// The line that a value stands for.
+    /// The line that a value represents.
     ghost line_of: { Self → Line };
 
     /// The bytes are a spelling of the line.
@@ -26,7 +26,7 @@ pub trait Wire: Sized + Drop {
     /// The bytes are refused, for this reason.
     ghost refuses: { List ℕ → KindFault → Type 0 };
 
-    /// The line at the front of the bytes, and the bytes behind it.
+    /// The line at the front of the bytes, and the bytes after it.
     ghost read: { List ℕ → Result (Line × List ℕ) KindFault };
 
     /// The line can be written.
@@ -43,7 +43,7 @@ pub trait Wire: Sized + Drop {
     fn decode(alloc: Global, buf: &mut Cursor) -> Result<Option<Self>, ParseError>
         ensures decodes { DecodesInstruction line_of spells refuses buf.old buf.new result }
         ensures memory { result ≡ Err Memory → asks_for_memory buf.old.rest }
-        // The same, as reading from left to right.
+        // The clauses above as one function, which reads from left to right.
         ensures exact { ReadsStream line_of buf.old buf.new result (read buf.old.rest) };
 
     /// Appends the written spelling of the line. On error the vector is as before; with free room for
@@ -54,7 +54,7 @@ pub trait Wire: Sized + Drop {
     /// What is written is a spelling.
     ghost written_is_spelled: { WrittenIsSpelled spells writable written };
 
-    /// What is written is read back whole, whatever follows.
+    /// A written line is read back whole, whatever follows.
     ghost written_is_read_back: { WrittenIsReadBack read writable written };
 
     /// One spelling is of one line.
@@ -71,7 +71,7 @@ pub fn next_line<W: Wire>(alloc: Global, cursor: &mut Cursor) -> Result<Option<W
     ensures decodes { DecodesInstruction W.line_of W.spells W.refuses cursor.old cursor.new result }
     ensures stays { StaysUnlessRead cursor.old cursor.new result }
     ensures memory { result ≡ Err Memory → W.asks_for_memory cursor.old.rest }
-    // The same, as reading from left to right.
+    // The clauses above as one function, which reads from left to right.
     ensures exact { ReadsStream W.line_of cursor.old cursor.new result (W.read cursor.old.rest) }
 {
     let mut ahead = cursor.fork();

@@ -37,7 +37,7 @@ impl Duplicate {
         ensures decodes { DecodesInstruction encoder_instruction_of_duplicate (SpellsKind duplicate)
             (RefusesKind duplicate) buf.old buf.new result }
         ensures no_memory { result ≡ Err Memory → ⊥ }
-        // The same, as reading from left to right.
+        // The clauses above as one function, which reads from left to right.
         ensures exact { ReadsStream encoder_instruction_of_duplicate buf.old buf.new result
             (kind_at duplicate buf.old.rest) }
     {
@@ -84,7 +84,7 @@ impl DynamicTableSizeUpdate {
         ensures decodes { DecodesInstruction encoder_instruction_of_dynamic_table_size_update
             (SpellsKind dynamic_table_size_update) (RefusesKind dynamic_table_size_update) buf.old buf.new result }
         ensures no_memory { result ≡ Err Memory → ⊥ }
-        // The same, as reading from left to right.
+        // The clauses above as one function, which reads from left to right.
         ensures exact { ReadsStream encoder_instruction_of_dynamic_table_size_update buf.old buf.new result
             (kind_at dynamic_table_size_update buf.old.rest) }
     {

@@ -16,8 +16,8 @@ use qpack_base::coding::Cursor;
 use qpack_base::field::ESTIMATED_OVERHEAD_BYTES;
 use qpack_base::prefix_int;
 
-/// How many bytes there must be in all before an encoder instruction can stand there, or be refused, where these are
-/// its first ones and it ends early. Takes no memory. A number past `usize::MAX` is told as that.
+/// Returns how many bytes there must be in all before the encoder instruction that begins with these, and ends early,
+/// can be whole or rejected. Takes no memory. The number saturates.
 #[tactic(auto, using(crate::proofs::Waiting::wanted_of_nothing))]
 pub fn wanted(bytes: &[u8]) -> usize
     ensures { result ≡ min (wanted_of bytes.now) (2 ^ 64 - 1) }
@@ -28,7 +28,7 @@ pub fn wanted(bytes: &[u8]) -> usize
     wanted_by_first(*first, bytes)
 }
 
-/// The same of bytes that begin with this one.
+/// Returns what `wanted` returns for bytes that begin with this one.
 #[tactic(auto, using(crate::proofs::Waiting::wanted_by_kind))]
 fn wanted_by_first(first: u8, bytes: &[u8]) -> usize
     requires { bytes.now ≡ first ∷ drop 1 bytes.now }
@@ -43,7 +43,7 @@ fn wanted_by_first(first: u8, bytes: &[u8]) -> usize
     }
 }
 
-/// The same of an index and a value.
+/// Returns what `wanted` returns for an index and a value.
 fn wanted_behind_index(bytes: &[u8]) -> usize
     ensures { result ≡ min (value_behind_index_wanted (length bytes.now) (integer_at 6 bytes.now)) (2 ^ 64 - 1) }
 {
@@ -54,7 +54,8 @@ fn wanted_behind_index(bytes: &[u8]) -> usize
     }
 }
 
-/// The same of a name and a value. A coded name can be refused where it ends, and a plain one can't.
+/// Returns what `wanted` returns for a name and a value. A coded name can be rejected where it ends, and a plain one
+/// can't.
 fn wanted_behind_name(bytes: &[u8]) -> usize
     ensures { result ≡ min (value_behind_name_wanted (length bytes.now) (integer_at 5 bytes.now)) (2 ^ 64 - 1) }
 {
@@ -74,7 +75,7 @@ fn wanted_behind_name(bytes: &[u8]) -> usize
     }
 }
 
-/// The same of a value at the cursor, so many bytes being there in all.
+/// Returns what `wanted` returns for a value at the cursor, of `seen` bytes in all.
 fn value_wanted(seen: usize, buf: &mut Cursor) -> usize
     requires { buf.old.total ≡ seen }
     ensures { result ≡ min (value_wanted_of seen (integer_at 7 buf.old.rest)) (2 ^ 64 - 1) }
@@ -85,15 +86,15 @@ fn value_wanted(seen: usize, buf: &mut Cursor) -> usize
     }
 }
 
-/// How many bytes there are up to the end of a payload of this length that begins at the cursor.
+/// Returns how many bytes there are up to the end of a payload of this length that begins at the cursor.
 fn string_end(len: u64, buf: &Cursor) -> usize
     ensures { result ≡ min (string_end_of buf.now.total len buf.now.rest) (2 ^ 64 - 1) }
 {
     buf.position().saturating_add(len as usize)
 }
 
-/// How large a field an encoder instruction inserts at least that begins with these bytes and ends early; 0 of one
-/// that inserts none, or a copy. Takes no memory. A size past `usize::MAX` is told as that.
+/// Returns the least size of the field inserted by an encoder instruction that begins with these bytes and ends early;
+/// 0 if it inserts none, or a copy. Takes no memory. The size saturates.
 #[tactic(auto, using(crate::proofs::Waiting::least_of_nothing))]
 pub fn least_field_size(bytes: &[u8]) -> usize
     ensures { result ≡ min (least_field_size_of bytes.now) (2 ^ 64 - 1) }
@@ -104,7 +105,7 @@ pub fn least_field_size(bytes: &[u8]) -> usize
     least_field_size_by_first(*first, bytes)
 }
 
-/// The same of bytes that begin with this one.
+/// Returns what `least_field_size` returns for bytes that begin with this one.
 #[tactic(auto, using(crate::proofs::Waiting::least_by_kind))]
 fn least_field_size_by_first(first: u8, bytes: &[u8]) -> usize
     requires { bytes.now ≡ first ∷ drop 1 bytes.now }
@@ -124,7 +125,7 @@ fn least_field_size_by_first(first: u8, bytes: &[u8]) -> usize
     }
 }
 
-/// How long the value behind an index is at least.
+/// Returns the least length of the value after an index.
 fn least_behind_index(buf: &mut Cursor) -> usize
     ensures { result ≡ least_value_behind_index (integer_at 6 buf.old.rest) }
 {
@@ -134,7 +135,7 @@ fn least_behind_index(buf: &mut Cursor) -> usize
     }
 }
 
-/// How long a name and the value behind it are at least.
+/// Returns the least length of a name and the value after it.
 fn least_texts(buf: &mut Cursor) -> usize
     ensures { result ≡ min (least_name_and_value (integer_at 5 buf.old.rest)) (2 ^ 64 - 1) }
 {
@@ -149,7 +150,7 @@ fn least_texts(buf: &mut Cursor) -> usize
     name.saturating_add(least_string(buf))
 }
 
-/// How long the string at the cursor is at least.
+/// Returns how long the string at the cursor is at least.
 fn least_string(buf: &mut Cursor) -> usize
     ensures { result ≡ least_string_of (integer_at 7 buf.old.rest) }
 {
@@ -159,7 +160,7 @@ fn least_string(buf: &mut Cursor) -> usize
     }
 }
 
-/// How long a text is at least whose payload has this length: no code has more than 31 bits.
+/// Returns how long a text is at least whose payload has this length: no code has more than 31 bits.
 fn least_text(flags: u8, len: u64) -> usize
     ensures { result ≡ least_text_of flags len }
 {

@@ -13,13 +13,13 @@ use std::alloc::Global;
 /// An event of a recorded connection.
 #[derive(Drop)]
 pub enum Event {
-    /// Bytes of the encoder stream, behind those that came before.
+    /// Bytes of the encoder stream, after those that came before.
     Piece(Vec<u8>),
     /// A block.
     Section(Vec<u8>),
 }
 
-/// The events of the input's lines; or the first line that is none.
+/// Returns the events of the input's lines, or the first line that is no event.
 pub fn read_events(alloc: Global, input: &[u8]) -> Result<Vec<Event>, Fault>
     ensures { ReadsEvents result (events_of input.now) }
 {
@@ -45,7 +45,7 @@ impl FromLine for Event {
     }
 }
 
-/// The event of this name, with these bytes.
+/// Returns the event of this name, with these bytes.
 fn event_named(name: &[u8], bytes: Vec<u8>) -> Option<Event>
     ensures { IsItem event_of result (event_named name.now bytes.items) }
 {

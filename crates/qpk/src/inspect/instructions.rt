@@ -12,8 +12,8 @@ use h3_qpack::decoder::Decoder;
 use h3_qpack::stream::{EncoderLine, next_line};
 use std::alloc::Global;
 
-/// Takes the instructions that stand whole at the front of the bytes, and appends a line for each as it is applied;
-/// then how many insertions were ever received. Answers how many bytes were taken.
+/// Applies the whole instructions at the front of the bytes, and appends a line for each as it is applied; then how
+/// many insertions were ever received. Returns how many bytes were consumed.
 pub fn inspect_instructions(
     alloc: Global,
     decoder: &mut Decoder,
@@ -31,7 +31,8 @@ pub fn inspect_instructions(
     Ok(buf.position())
 }
 
-/// Takes the instruction at the cursor, and appends its line once it is applied. Answers whether one stood whole.
+/// Applies the instruction at the cursor, and appends its line once it is applied. Returns whether there was a whole
+/// one.
 fn inspect_next(
     alloc: Global,
     decoder: &mut Decoder,
@@ -53,7 +54,7 @@ fn inspect_next(
     Ok(true)
 }
 
-/// The instruction at the cursor, which is moved past it, or none of a truncated one.
+/// Returns the instruction at the cursor, and moves past it; or `None` if it is truncated.
 fn next_instruction(alloc: Global, buf: &mut Cursor) -> Result<Option<EncoderLine>, DecoderError>
     ensures reads { ReadsNext buf.old.rest buf.new.rest result }
     ensures total { buf.new.total ≡ buf.old.total }

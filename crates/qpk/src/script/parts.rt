@@ -9,7 +9,7 @@ use qpk_qif::lines::split_field;
 use std::alloc::Global;
 use std::str;
 
-/// The first part, and what stands behind its TAB, if it has one.
+/// Returns the first part, and the text after its TAB, if it has one.
 pub fn split_part(text: &[u8]) -> (&[u8], Option<&[u8]>)
     ensures { parts_of text.now ≡ result.0.now ∷ parts_behind result.1 }
 {
@@ -19,14 +19,14 @@ pub fn split_part(text: &[u8]) -> (&[u8], Option<&[u8]>)
     }
 }
 
-/// The number that a part says.
+/// Returns the number that a part says.
 pub fn read_number(part: &[u8]) -> Option<u64>
     ensures { result ≡ number_of part.now }
 {
     str::from_utf8(part).ok()?.parse().ok()
 }
 
-/// The fields of names and values by turns.
+/// Returns the fields of names and values by turns.
 pub fn read_field_parts(
     alloc: Global,
     parts: Option<&[u8]>,

@@ -35,7 +35,7 @@ pub(super) struct Receiver {
     decoder: Decoder,
     /// How many streams may be blocked.
     limit: usize,
-    /// What came of an instruction that does not stand whole yet.
+    /// The bytes of an instruction that is not whole yet.
     pending: Vec<u8>,
     /// The number of the last record of the encoder stream.
     number: usize,
@@ -46,7 +46,7 @@ pub(super) struct Receiver {
 }
 
 impl Receiver {
-    /// An end to which nothing came.
+    /// Returns an end that has received nothing.
     pub(super) fn new(alloc: Global, settings: DecoderSettings) -> Result<Receiver, Fault> {
         let mut table = DynamicTable::new(alloc);
         table.set_agreed_max(settings.capacity)?;
@@ -62,7 +62,7 @@ impl Receiver {
         })
     }
 
-    /// The record of this number comes.
+    /// Receives the record of this number.
     pub(super) fn receive(
         &mut self,
         alloc: Global,
@@ -95,7 +95,7 @@ impl Receiver {
         Ok(())
     }
 
-    /// Takes the instructions that stand whole.
+    /// Applies the whole instructions.
     fn take_instructions(&mut self, alloc: Global) -> Result<(), Fault> {
         let mut unsent = Vec::new(alloc);
         let mut cursor = Cursor::new(&self.pending);
@@ -107,7 +107,7 @@ impl Receiver {
         Ok(())
     }
 
-    /// A block comes.
+    /// Receives a block.
     fn receive_block(
         &mut self,
         alloc: Global,
@@ -130,7 +130,7 @@ impl Receiver {
         Ok(())
     }
 
-    /// Reads the block of a stream and a record, and answers whether it was read; else it waits for insertions.
+    /// Reads the block of a stream and a record, and returns whether it was read; otherwise it waits for insertions.
     fn read(&mut self, stream: u64, number: usize, bytes: &[u8]) -> Result<bool, Fault> {
         match self.decoder.decode_header(&mut Cursor::new(bytes)) {
             Ok(decoded) => {
@@ -152,7 +152,7 @@ impl Receiver {
         Ok(self.waiting.push(block)?)
     }
 
-    /// All lists in the order of their streams; or what is still missing.
+    /// Returns all lists in the order of their streams; or what is still missing.
     pub(super) fn finish(self) -> Result<Vec<Received>, Fault> {
         let Receiver {
             pending,
@@ -177,7 +177,7 @@ fn sort(lists: &mut Vec<Received>) -> Result<(), AllocError> {
     lists.sort_by_key(|list| (list.stream, list.number))
 }
 
-/// Why the record of this number is refused.
+/// Returns why the record of this number is refused.
 fn refusal(number: usize, e: DecoderError) -> Fault {
     match e {
         DecoderError::Memory => Fault::Memory,

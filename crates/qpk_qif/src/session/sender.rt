@@ -18,7 +18,7 @@ pub(super) struct Sender {
 }
 
 impl Sender {
-    /// An end that sent nothing but its capacity, where that is above 0.
+    /// Returns an end that sent nothing but its capacity, if that is above 0.
     pub(super) fn new(
         alloc: Global,
         settings: EncoderSettings,
@@ -85,7 +85,7 @@ impl Sender {
         Ok(())
     }
 
-    /// Hears what a decoder writes that received so many insertions and then decoded the block of a stream with this
+    /// Hears what a decoder writes that received this many insertions and then decoded the block of a stream with this
     /// required insert count.
     fn acknowledge(
         &mut self,
