@@ -9,8 +9,7 @@ use Rattle.qpack_spec.specs.Field.{Field}
 use Rattle.qpack_spec.specs.Form.{FormFault, Form, Index, IndexAndValue, NameAndValue, form_at, made_at, or_bad_integer}
 use Rattle.qpack_spec.specs.Form.{or_bad_string}
 use Rattle.qpack_spec.specs.Integer.{integer_at}
-use Rattle.qpack_spec.specs.Line.{Line, IndexedStatic, IndexedDynamic, IndexedPostBase, NamedStatic, NamedDynamic}
-use Rattle.qpack_spec.specs.Line.{NamedPostBase, Literal, line_form}
+use Rattle.qpack_spec.specs.Line.{Line, Literal, line_form}
 use Rattle.qpack_spec.specs.Reading.{Fault, BadForm, line_field, static_field, relative_field, post_base_field}
 use Rattle.qpack_spec.specs.Reading.{field_with_value, references_of_line, greatest_of}
 use Rattle.qpack_spec.specs.StrictReading.{LineFault, Meaningless, LinesUnder, or_meaningless, strict_field}
@@ -20,14 +19,15 @@ use Rattle.qpack_spec.specs.Window.{with_value}
 use Rattle.qpack_base.specs.Cursor.{CursorView}
 use Rattle.qpack_base.specs.Writes.{kept_within}
 use Rattle.qpack_wire.proofs.Alones.{form_own}
+use Rattle.qpack_wire.specs.BlockLines.{indexed_line, named_line}
 use Rattle.qpack_ends.specs.declared.section.LineError.{LineError}
 use Rattle.qpack_ends.specs.declared.section.LineError.TheVariants.{Memory}
 use Rattle.qpack_ends.specs.declared.section.lines.Lengths.{Lengths}
-use Rattle.qpack_ends.specs.declared.section.lines.Reference.{Reference}
-use Rattle.qpack_ends.specs.declared.section.lines.Reference.TheVariants.{Static, Relative, PostBase}
+use Rattle.qpack_wire.specs.declared.block.line.Reference.{Reference}
+use Rattle.qpack_wire.specs.declared.block.line.Reference.TheVariants.{Static, Relative, PostBase}
 use Rattle.qpack_ends.specs.Lines.{FailsLine, or_bad_line, AppendsEntry, AppendsLine, Stands}
 use Rattle.qpack_ends.specs.Lines.{Extends}
-use Rattle.qpack_ends.specs.Lines.{entry_of, strict_entry, indexed_line, named_line, field_of_form}
+use Rattle.qpack_ends.specs.Lines.{entry_of, strict_entry, field_of_form}
 
 -- ---- faults
 
@@ -213,62 +213,3 @@ pub form_is : (bytes : List ℕ) (b : ℕ) (bs : List ℕ) (form : Form Line) �
     → form_at line_form bytes ≡ made_at form bytes
 form_is bytes b bs form cut named =
     subst (λ (x : List ℕ). form_at line_form x ≡ made_at form x) (sym cut) (form_own line_form b bs form named)
-
-pub post_base_name : (b : ℕ) → b < 16 → line_form b ≡ Some (IndexAndValue 3 NamedPostBase)
-unfolding line_form
-post_base_name b h = rw (lt-ltb b 16 h) refl
-
-pub post_base_index : (b : ℕ) → 16 ≤ b → b < 32 → line_form b ≡ Some (Index 4 IndexedPostBase)
-unfolding line_form
-post_base_index b l h = rw (le-ltb b 16 l, lt-ltb b 32 h) refl
-
-pub literal_form : (b : ℕ) → 32 ≤ b → b < 64 → line_form b ≡ Some (NameAndValue 4 Literal)
-unfolding line_form
-literal_form b l h = rw (le-ltb b 16 (omega (arith, l)), le-ltb b 32 l, lt-ltb b 64 h) refl
-
-pub static_name : (b : ℕ) → 64 ≤ b → b < 128 → b / 16 % 2 ≡ 1
-    → line_form b ≡ Some (IndexAndValue 4 NamedStatic)
-unfolding line_form
-static_name b l h e =
-    rw (
-      le-ltb b 16 (omega (arith, l)),
-      le-ltb b 32 (omega (arith, l)),
-      le-ltb b 64 l,
-      lt-ltb b 128 h,
-      eq-eqb (b / 16 % 2) 1 e,
-    ) refl
-
-pub relative_name : (b : ℕ) → 64 ≤ b → b < 128 → (b / 16 % 2 ≡ 1 → ⊥)
-    → line_form b ≡ Some (IndexAndValue 4 NamedDynamic)
-unfolding line_form
-relative_name b l h e =
-    rw (
-      le-ltb b 16 (omega (arith, l)),
-      le-ltb b 32 (omega (arith, l)),
-      le-ltb b 64 l,
-      lt-ltb b 128 h,
-      ne_eqb (b / 16 % 2) 1 e,
-    ) refl
-
-pub relative_index : (b : ℕ) → 128 ≤ b → b < 192 → line_form b ≡ Some (Index 6 IndexedDynamic)
-unfolding line_form
-relative_index b l h =
-    rw (
-      le-ltb b 16 (omega (arith, l)),
-      le-ltb b 32 (omega (arith, l)),
-      le-ltb b 64 (omega (arith, l)),
-      le-ltb b 128 l,
-      lt-ltb b 192 h,
-    ) refl
-
-pub static_index_form : (b : ℕ) → 192 ≤ b → b < 256 → line_form b ≡ Some (Index 6 IndexedStatic)
-unfolding line_form
-static_index_form b l h =
-    rw (
-      le-ltb b 16 (omega (arith, l)),
-      le-ltb b 32 (omega (arith, l)),
-      le-ltb b 64 (omega (arith, l)),
-      le-ltb b 128 (omega (arith, l)),
-      le-ltb b 192 l,
-      lt-ltb b 256 h,
-    ) refl

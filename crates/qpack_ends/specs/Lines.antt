@@ -4,8 +4,7 @@ use Rattle.std.specs.Prelude.{length, Result, Ok, Err, IsOk, Some, ◌⊎◌}
 use Rattle.qpack_spec.specs.Bytes.{◌>>=◌}
 use Rattle.qpack_spec.specs.Field.{Field, field_size, FieldLine}
 use Rattle.qpack_spec.specs.Form.{FormFault, Form, made_at}
-use Rattle.qpack_spec.specs.Line.{Line, IndexedStatic, IndexedDynamic, IndexedPostBase, NamedStatic, NamedDynamic}
-use Rattle.qpack_spec.specs.Line.{NamedPostBase}
+use Rattle.qpack_spec.specs.Line.{Line}
 use Rattle.qpack_spec.specs.Reading.{Fault, static_field, relative_field, post_base_field}
 use Rattle.qpack_spec.specs.BlockReading.{or_bad_form}
 use Rattle.qpack_spec.specs.Stateless.{saturated_size}
@@ -27,8 +26,8 @@ use Rattle.qpack_ends.specs.declared.section.LineError.TheVariants.{Meaningless,
 use Rattle.qpack_ends.specs.declared.field_section.Span.{Span}
 use Rattle.qpack_ends.specs.declared.section.lines.Lengths.{Lengths}
 use Rattle.qpack_ends.specs.declared.section.lines.Lines.{Lines}
-use Rattle.qpack_ends.specs.declared.section.lines.Reference.{Reference}
-use Rattle.qpack_ends.specs.declared.section.lines.Reference.TheVariants.{Static, Relative, PostBase}
+use Rattle.qpack_wire.specs.declared.block.line.Reference.{Reference}
+use Rattle.qpack_wire.specs.declared.block.line.Reference.TheVariants.{Static, Relative, PostBase}
 use Rattle.qpack_ends.specs.FieldSections.{IsWithin, field_at}
 
 -- ---- errors
@@ -128,18 +127,6 @@ abbrev pub entry_of : LinesUnder → Reference → ℕ → Result Field LineFaul
 entry_of u Static index = or_meaningless (static_field index)
 entry_of u Relative index = strict_entry u.required (u.base - index) (relative_field u.window u.base index)
 entry_of u PostBase index = strict_entry u.required (u.base + index + 1) (post_base_field u.window u.base index)
-
--- the indexed field line of an index
-abbrev pub indexed_line : Reference → ℕ → Line
-indexed_line Static index = IndexedStatic index
-indexed_line Relative index = IndexedDynamic index
-indexed_line PostBase index = IndexedPostBase index
-
--- the literal field line with the name of an index
-abbrev pub named_line : Reference → ℕ → List ℕ → Line
-named_line Static index value = NamedStatic index value
-named_line Relative index value = NamedDynamic index value
-named_line PostBase index value = NamedPostBase index value
 
 -- the field of what a form made of bytes, and the bytes after it
 abbrev pub field_of_form : LinesUnder → Result (Line × List ℕ) FormFault → Result (Field × List ℕ) LineFault

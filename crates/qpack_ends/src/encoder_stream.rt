@@ -1,10 +1,11 @@
 //! The encoder stream as a strict decoder receives it: each byte once, cut anywhere (RFC 9204, section 4.3).
 
-ghost use Rattle.std.specs.Prelude.{◌≡◌, ◌<◌, ◌≤◌, ℕ, [], List, length, Err, OnOk};
+ghost use Rattle.std.specs.Prelude.{◌≡◌, ◌<◌, ◌≤◌, ℕ, [], ◌∷◌, List, length, Err, OnOk};
 ghost use Rattle.qpack_spec.specs.Form.{Truncates};
 ghost use Rattle.qpack_spec.specs.Instruction.{encoder_instruction_form};
 ghost use Rattle.qpack_spec.specs.Table.{Table, insert_count};
-ghost use Rattle.qpack_ends.specs.Receiving.{begins_unlawfully, TakesNextStrictly, TakesAllStrictly, FindsWanted};
+ghost use Rattle.qpack_ends.specs.Receiving.{begins_insertion, begins_unlawfully, FindsWanted};
+ghost use Rattle.qpack_ends.specs.Receiving.{TakesNextStrictly, TakesAllStrictly};
 ghost use Rattle.qpack_ends.specs.Receiving.{Receives, ReceivesFront, ReceivesMore, AsksToReceive, PassesOne};
 ghost use Rattle.qpack_ends.specs.Receiving.{stream_error_at, answer_at, stream_code_of};
 ghost use Rattle.qpack_table.specs.declared.dynamic.Error.TheVariants.{MaxTableSizeReached};
@@ -15,13 +16,10 @@ use crate::place::Place;
 use qpack_base::coding::Cursor;
 use qpack_codec::decoder::{DecoderError, take_instruction};
 use qpack_table::dynamic::{self, DynamicTable, EntryIndex};
-use qpack_wire::stream;
+use qpack_wire::stream::{self, EncoderInstruction};
 use std::alloc::Global;
 use std::marker::Model;
 use thiserror::Error;
-
-/// The least first byte of an instruction that inserts a field that it spells.
-const LEAST_INSERTION: u8 = 64;
 
 /// Why the encoder stream was not received.
 #[derive(Clone, Copy, Debug, PartialEq, Drop, Error)]
@@ -276,9 +274,20 @@ fn begins_unlawfully<I: EntryIndex>(table: &DynamicTable<I>, bytes: &[u8]) -> bo
     ensures { result ≡ begins_unlawfully table.now bytes.now }
 {
     match bytes.first() {
-        Some(first) => table.max_mem_size() == 0 && *first >= LEAST_INSERTION,
+        Some(first) => table.max_mem_size() == 0 && begins_insertion(*first),
         None => false,
     }
+}
+
+/// Returns whether this byte begins an instruction that inserts a field which it spells (RFC 9204, sections 4.3.2 and
+/// 4.3.3).
+fn begins_insertion(first: u8) -> bool
+    ensures { result ≡ begins_insertion (first ∷ []) }
+{
+    matches!(
+        EncoderInstruction::decode(first),
+        EncoderInstruction::InsertWithNameRef | EncoderInstruction::InsertWithoutNameRef
+    )
 }
 
 /// Returns how many bytes there must be before the truncated instruction at their front can be whole. Fails if its

@@ -7,7 +7,10 @@ pub mod prefix;
 pub mod section;
 
 pub use crate::block::indexes::{Indexed, IndexedWithPostBase};
-pub use crate::block::line::{BlockLine, HeaderBlockField};
-pub use crate::block::literals::{Literal, LiteralWithNameRef, LiteralWithPostBaseNameRef};
+pub use crate::block::line::{BlockLine, HeaderBlockField, LineParts, Reference, is_never_indexed};
+pub use crate::block::literals::{
+    LITERAL_SIZE, Literal, LiteralWithNameRef, LiteralWithPostBaseNameRef,
+};
 pub use crate::block::prefix::HeaderPrefix;
 pub use crate::block::section::read_block;
+pub use crate::form::VALUE_SIZE;

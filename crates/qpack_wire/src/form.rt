@@ -33,7 +33,7 @@ pub(crate) fn read_number(size: u8, flags: u8, buf: &mut Cursor) -> Result<u64, 
 }
 
 /// The prefix of a value, which takes whole bytes: there is nothing above its flag.
-pub(crate) const VALUE_SIZE: u8 = 8;
+pub const VALUE_SIZE: u8 = 8;
 
 const VALUE_FLAGS: u8 = 0;
 

@@ -3,7 +3,6 @@
 ghost use Rattle.std.specs.Prelude.{◌≡◌, ◌∷◌, ◌+◌, ◌-◌, ◌^◌, ◌<◌, ◌&&◌, min, nat_eq, nat_lt, drop, length, Ok, IfOk};
 ghost use Rattle.std.specs.Prelude.{OnOk, IsTrue, ◌↔◌};
 ghost use Rattle.qpack_spec.specs.Reading.{line_field};
-ghost use Rattle.qpack_spec.specs.StrictReading.{is_never_indexed};
 ghost use Rattle.qpack_spec.specs.Table.{window};
 ghost use Rattle.qpack_wire.specs.BlockLines.{line_of, line_at};
 ghost use Rattle.qpack_wire.specs.Lines.{line_of_indexed, line_of_literal_with_name_ref};
@@ -23,6 +22,7 @@ use qpack_codec::DecoderError;
 use qpack_table::dynamic::{DynamicTableDecoder, NoIndex, ReceivedTable};
 use qpack_wire::block::{
     BlockLine, HeaderPrefix, Indexed, Literal, LiteralWithNameRef, LiteralWithPostBaseNameRef,
+    is_never_indexed,
 };
 use std::alloc::Global;
 
@@ -238,22 +238,6 @@ fn behind(base: usize, index: usize) -> usize
     ensures { result ≡ min (base + index + 1) (2 ^ 64 - 1) }
 {
     base.saturating_add(index).saturating_add(1)
-}
-
-/// Returns whether the first byte of a line asks that its field stay a literal (RFC 9204, sections 4.5.4 to 4.5.6).
-#[tactic(auto, unfolding(qpack_spec::specs::StrictReading::is_never_indexed))]
-fn is_never_indexed(first: u8) -> bool
-    ensures { result ≡ is_never_indexed first }
-{
-    if first < 16 {
-        first / 8 % 2 == 1
-    } else if first < 32 {
-        false
-    } else if first < 64 {
-        first / 16 % 2 == 1
-    } else {
-        first < 128 && first / 32 % 2 == 1
-    }
 }
 
 /// Returns the line at the cursor, or why it can't be read.

@@ -4,17 +4,19 @@ ghost use Rattle.std.specs.Prelude.{◌≡◌, ℕ, ◌+◌, ◌*◌, ◌/◌, �
 ghost use Rattle.std.specs.Prelude.{vec_len, vec_capacity};
 ghost use Rattle.qpack_base.specs.HeaderFields.{field_of};
 ghost use Rattle.qpack_spec.specs.Bytes.{Begins};
-ghost use Rattle.qpack_spec.specs.Form.{Index, IndexAndValue, NameAndValue, made_at, form_at, or_bad_integer};
+ghost use Rattle.qpack_spec.specs.Form.{NameAndValue, made_at, form_at, or_bad_integer};
 ghost use Rattle.qpack_spec.specs.Form.{or_bad_string};
 ghost use Rattle.qpack_spec.specs.Integer.{integer_at};
 ghost use Rattle.qpack_spec.specs.Line.{Literal, line_form};
 ghost use Rattle.qpack_spec.specs.Stateless.{saturated_size};
-ghost use Rattle.qpack_spec.specs.StrictReading.{LinesUnder, is_never_indexed, strict_line_at, strict_lines_at};
+ghost use Rattle.qpack_spec.specs.StrictReading.{LinesUnder, strict_line_at, strict_lines_at};
 ghost use Rattle.qpack_spec.specs.Text.{HoldsPayload, string_at};
+ghost use Rattle.qpack_wire.specs.BlockLines.{form_of_parts};
 ghost use Rattle.qpack_wire.specs.Memory.{AsksLine};
+ghost use Rattle.qpack_wire.specs.declared.block.line.LineParts.TheVariants as parts;
 ghost use Rattle.qpack_ends.specs.Lines.{under, ReadsIndex, AppendsText, AppendsName, AppendsEntry, AppendsLine};
 ghost use Rattle.qpack_ends.specs.Lines.{field_of_form, entry_of, line_error_of_parse, line_error_of_table};
-ghost use Rattle.qpack_ends.specs.Lines.{line_error_of_static, ChecksRequired, indexed_line, named_line};
+ghost use Rattle.qpack_ends.specs.Lines.{line_error_of_static, ChecksRequired};
 ghost use Rattle.qpack_ends.specs.Lines.{ReadsLine};
 ghost use Rattle.qpack_ends.specs.Lines.{AsksInForm};
 ghost use Rattle.qpack_ends.specs.FieldSections.{AreInTurn, fields_in};
@@ -31,19 +33,7 @@ use qpack_base::static_::{self, StaticTable};
 use qpack_base::{prefix_int, prefix_string};
 use qpack_codec::DecoderError;
 use qpack_table::dynamic::{self, DynamicTable, EntryIndex};
-
-// The prefixes of indexes, and of strings with the bit H above them, in bits (RFC 9204, sections 4.5.2 to 4.5.6).
-const INDEXED_SIZE: u8 = 6;
-
-const POST_BASE_SIZE: u8 = 4;
-
-const NAMED_SIZE: u8 = 4;
-
-const POST_BASE_NAMED_SIZE: u8 = 3;
-
-const NAME_SIZE: u8 = 4;
-
-const VALUE_SIZE: u8 = 8;
+use qpack_wire::block::{LITERAL_SIZE, LineParts, Reference, VALUE_SIZE, is_never_indexed};
 
 impl From<ParseError> for LineError {
     ghost from_gives = { λ e r. r ≡ line_error_of_parse e };
@@ -158,17 +148,6 @@ fn append_field(field: &HeaderField, most: usize, text: &mut Vec<u8>) -> Result<
     Ok(Lengths { name, value })
 }
 
-/// What an index of a line counts.
-#[derive(Clone, Copy, Debug)]
-enum Reference {
-    /// The fields of the static table.
-    Static,
-    /// The entries of the dynamic table, down from the base.
-    Relative,
-    /// Entries after the base, counted up from it.
-    PostBase,
-}
-
 impl<I: EntryIndex> Lines<'_, I> {
     /// Refuses a relative index past the required insert count (RFC 9204, section 2.2.3).
     fn check_relative(&self, index: usize) -> Result<(), LineError>
@@ -267,20 +246,17 @@ impl<I: EntryIndex> Lines<'_, I> {
     fn append_indexed(
         &self,
         reference: Reference,
-        size: u8,
         most: usize,
         buf: &mut Cursor,
         text: &mut Vec<u8>,
     ) -> Result<Lengths, LineError>
-        requires least { 1 ≤ size }
-        requires greatest { size ≤ 8 }
         ensures exact { AppendsLine most buf.old buf.new text.old.items text.new.items result
-            (field_of_form (under self.now 0) (made_at (Index size (indexed_line reference)) buf.old.rest)) }
-        ensures memory { result ≡ Err NoRoom → AsksInForm (Index size (indexed_line reference)) buf.old.rest }
+            (field_of_form (under self.now 0) (made_at (form_of_parts (parts.Index reference)) buf.old.rest)) }
+        ensures memory { result ≡ Err NoRoom → AsksInForm (form_of_parts (parts.Index reference)) buf.old.rest }
         ensures room { vec_capacity text.new ≤ max (vec_capacity text.old) (vec_len text.old + most) }
         ensures kept { vec_capacity text.old ≤ vec_capacity text.new }
     {
-        let index = read_index(size, buf)?;
+        let index = read_index(reference.index_size(), buf)?;
         self.append_entry(reference, index, most, text)
     }
 
@@ -289,20 +265,18 @@ impl<I: EntryIndex> Lines<'_, I> {
     fn append_named(
         &self,
         reference: Reference,
-        size: u8,
         most: usize,
         buf: &mut Cursor,
         text: &mut Vec<u8>,
     ) -> Result<Lengths, LineError>
-        requires least { 1 ≤ size }
-        requires greatest { size ≤ 8 }
         ensures exact { AppendsLine most buf.old buf.new text.old.items text.new.items result
-            (field_of_form (under self.now 0) (made_at (IndexAndValue size (named_line reference)) buf.old.rest)) }
-        ensures memory { result ≡ Err NoRoom → AsksInForm (IndexAndValue size (named_line reference)) buf.old.rest }
+            (field_of_form (under self.now 0) (made_at (form_of_parts (parts.IndexAndValue reference)) buf.old.rest)) }
+        ensures memory { result ≡ Err NoRoom
+            → AsksInForm (form_of_parts (parts.IndexAndValue reference)) buf.old.rest }
         ensures room { vec_capacity text.new ≤ max (vec_capacity text.old) (vec_len text.old + most) }
         ensures kept { vec_capacity text.old ≤ vec_capacity text.new }
     {
-        let index = read_index(size, buf)?;
+        let index = read_index(reference.name_index_size(), buf)?;
         match self.append_name_of(reference, index, most, text) {
             Ok(name) => {
                 let value = append_string(VALUE_SIZE, most.saturating_sub(name), buf, text)?;
@@ -331,22 +305,10 @@ impl<I: EntryIndex> Lines<'_, I> {
         ensures room { vec_capacity text.new ≤ max (vec_capacity text.old) (vec_len text.old + most) }
         ensures kept { vec_capacity text.old ≤ vec_capacity text.new }
     {
-        if first < 16 {
-            self.append_named(Reference::PostBase, POST_BASE_NAMED_SIZE, most, buf, text)
-        } else if first < 32 {
-            self.append_indexed(Reference::PostBase, POST_BASE_SIZE, most, buf, text)
-        } else if first < 64 {
-            append_literal(most, buf, text)
-        } else if first < 128 {
-            if first / 16 % 2 == 1 {
-                self.append_named(Reference::Static, NAMED_SIZE, most, buf, text)
-            } else {
-                self.append_named(Reference::Relative, NAMED_SIZE, most, buf, text)
-            }
-        } else if first < 192 {
-            self.append_indexed(Reference::Relative, INDEXED_SIZE, most, buf, text)
-        } else {
-            self.append_indexed(Reference::Static, INDEXED_SIZE, most, buf, text)
+        match LineParts::of(first) {
+            LineParts::Index(reference) => self.append_indexed(reference, most, buf, text),
+            LineParts::IndexAndValue(reference) => self.append_named(reference, most, buf, text),
+            LineParts::NameAndValue => append_literal(most, buf, text),
         }
     }
 }
@@ -360,25 +322,9 @@ fn append_literal(most: usize, buf: &mut Cursor, text: &mut Vec<u8>) -> Result<L
     ensures room { vec_capacity text.new ≤ max (vec_capacity text.old) (vec_len text.old + most) }
     ensures kept { vec_capacity text.old ≤ vec_capacity text.new }
 {
-    let name = append_string(NAME_SIZE, most, buf, text)?;
+    let name = append_string(LITERAL_SIZE, most, buf, text)?;
     let value = append_string(VALUE_SIZE, most.saturating_sub(name), buf, text)?;
     Ok(Lengths { name, value })
-}
-
-/// Returns whether the first byte of a line asks that its field stay a literal (RFC 9204, sections 4.5.4 to 4.5.6).
-#[tactic(auto, unfolding(qpack_spec::specs::StrictReading::is_never_indexed))]
-fn is_never_indexed(first: u8) -> bool
-    ensures { result ≡ is_never_indexed first }
-{
-    if first < 16 {
-        first / 8 % 2 == 1
-    } else if first < 32 {
-        false
-    } else if first < 64 {
-        first / 16 % 2 == 1
-    } else {
-        first < 128 && first / 32 % 2 == 1
-    }
 }
 
 /// Returns how many bytes a field may have so that the sizes, which have this sum so far, don't pass the limit with it.

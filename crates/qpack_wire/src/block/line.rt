@@ -1,12 +1,14 @@
 //! One line of an encoded field section, whichever form it has (RFC 9204, section 4.5).
 
-ghost use Rattle.std.specs.Prelude.{◌≡◌, ◌∷◌, drop, Err, IfErr};
+ghost use Rattle.std.specs.Prelude.{◌≡◌, ◌/◌, ◌^◌, ◌<◌, ◌∷◌, drop, Err, IfErr, Some};
 ghost use Rattle.qpack_spec.specs.Line.{SpellsLine, line_form, written_line};
+ghost use Rattle.qpack_spec.specs.StrictReading.{is_never_indexed};
 ghost use Rattle.qpack_base.specs.Writes.{Writes};
 ghost use Rattle.qpack_base.specs.declared.prefix_string.Error.TheVariants.{Memory as NoRoom};
 ghost use Rattle.qpack_base.specs.declared.parse_error.ParseError.TheVariants.{Memory};
 ghost use Rattle.qpack_wire.specs.Answers.{Decodes, ReadsForm};
-ghost use Rattle.qpack_wire.specs.BlockLines.{field_of_first, line_of, RefusesBlockLine, line_at};
+ghost use Rattle.qpack_wire.specs.BlockLines.{field_of_first, form_of_parts, line_of, table_of_bit, RefusesBlockLine};
+ghost use Rattle.qpack_wire.specs.BlockLines.{line_at, index_size, name_index_size};
 ghost use Rattle.qpack_wire.specs.Memory.{AsksForMemory};
 
 use crate::block::indexes::{
@@ -14,7 +16,7 @@ use crate::block::indexes::{
 };
 use crate::block::literals::{
     LITERAL, LITERAL_SIZE, Literal, LiteralWithNameRef, LiteralWithPostBaseNameRef, NAMED_DYNAMIC,
-    NAMED_SIZE,
+    NAMED_SIZE, POST_BASE_NAMED_SIZE,
 };
 use qpack_base::coding::Cursor;
 use qpack_base::parse_error::ParseError;
@@ -54,6 +56,100 @@ impl HeaderBlockField {
         } else {
             HeaderBlockField::LiteralWithPostBaseNameRef
         }
+    }
+}
+
+/// What an index of a field line counts (RFC 9204, sections 3.1, 3.2.5 and 3.2.6).
+#[derive(Clone, Copy, Debug)]
+pub enum Reference {
+    /// The fields of the static table.
+    Static,
+    /// The entries of the dynamic table, down from the base.
+    Relative,
+    /// Those after the base, up from it.
+    PostBase,
+}
+
+impl Reference {
+    /// Returns how many bits the prefix of an index has in an indexed field line (sections 4.5.2 and 4.5.3).
+    #[inline(always)]
+    pub fn index_size(self) -> u8
+        ensures { result ≡ index_size self }
+    {
+        match self {
+            Reference::Static | Reference::Relative => INDEXED_SIZE,
+            Reference::PostBase => POST_BASE_SIZE,
+        }
+    }
+
+    /// Returns how many bits the prefix of a name's index has in a literal field line (sections 4.5.4 and 4.5.5).
+    #[inline(always)]
+    pub fn name_index_size(self) -> u8
+        ensures { result ≡ name_index_size self }
+    {
+        match self {
+            Reference::Static | Reference::Relative => NAMED_SIZE,
+            Reference::PostBase => POST_BASE_NAMED_SIZE,
+        }
+    }
+}
+
+/// What a field line is made of.
+#[derive(Clone, Copy, Debug)]
+pub enum LineParts {
+    /// The index of a field (sections 4.5.2 and 4.5.3).
+    Index(Reference),
+    /// The index of a name, and a value (sections 4.5.4 and 4.5.5).
+    IndexAndValue(Reference),
+    /// A name and a value (section 4.5.6).
+    NameAndValue,
+}
+
+impl LineParts {
+    /// Returns what a line is made of that begins with this byte.
+    #[inline(always)]
+    #[tactic(auto, unfolding(qpack_spec::specs::Line::line_form))]
+    pub fn of(first: u8) -> LineParts
+        ensures { line_form first ≡ Some (form_of_parts result) }
+    {
+        match HeaderBlockField::decode(first) {
+            HeaderBlockField::Indexed => LineParts::Index(table_of_bit(first, INDEXED_SIZE)),
+            HeaderBlockField::IndexedWithPostBase => LineParts::Index(Reference::PostBase),
+            HeaderBlockField::LiteralWithNameRef => {
+                LineParts::IndexAndValue(table_of_bit(first, NAMED_SIZE))
+            }
+            HeaderBlockField::LiteralWithPostBaseNameRef => {
+                LineParts::IndexAndValue(Reference::PostBase)
+            }
+            HeaderBlockField::Literal | HeaderBlockField::Unknown => LineParts::NameAndValue,
+        }
+    }
+}
+
+/// Returns which table an index counts, by the bit above its prefix of `size` bits.
+#[inline(always)]
+fn table_of_bit(first: u8, size: u8) -> Reference
+    requires { size < 8 }
+    ensures { result ≡ table_of_bit (first / 2 ^ size) }
+{
+    if (first >> size) % 2 == 1 {
+        Reference::Static
+    } else {
+        Reference::Relative
+    }
+}
+
+/// Whether the first byte of a line asks that its field stay a literal (sections 4.5.4 to 4.5.6).
+#[inline(always)]
+#[tactic(auto, unfolding(qpack_spec::specs::StrictReading::is_never_indexed))]
+pub fn is_never_indexed(first: u8) -> bool
+    ensures { result ≡ is_never_indexed first }
+{
+    match HeaderBlockField::decode(first) {
+        HeaderBlockField::LiteralWithNameRef => (first >> NAMED_SIZE) / 2 % 2 == 1,
+        HeaderBlockField::LiteralWithPostBaseNameRef => (first >> POST_BASE_NAMED_SIZE) % 2 == 1,
+        HeaderBlockField::Literal => (first >> LITERAL_SIZE) % 2 == 1,
+        _ => false,
     }
 }
 

@@ -325,7 +325,8 @@ fn read_literal_with_post_base_name_ref(
 // +---+---------------------------+
 // |  Value String (Length bytes)  |
 // +-------------------------------+
-pub(crate) const LITERAL_SIZE: u8 = 4;
+/// The prefix of the name, in bits, with the bit H.
+pub const LITERAL_SIZE: u8 = 4;
 
 pub(crate) const LITERAL: u8 = 0b0010;
 

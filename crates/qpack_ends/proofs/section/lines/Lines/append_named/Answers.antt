@@ -5,7 +5,8 @@ use Rattle.qpack_spec.specs.Integer.{integer_at}
 use Rattle.qpack_spec.specs.Text.{string_at}
 use Rattle.qpack_spec.specs.Window.{with_value}
 use Rattle.qpack_base.specs.Writes.{kept_within}
-use Rattle.qpack_ends.specs.Lines.{under, named_line, entry_of}
+use Rattle.qpack_wire.specs.BlockLines.{name_index_size, named_line}
+use Rattle.qpack_ends.specs.Lines.{under, entry_of}
 use Rattle.qpack_ends.proofs.LineParts.{fails_in_bytes, fails_by, extends_none, extends_same}
 use Rattle.qpack_ends.proofs.LineParts.{name_bad, value_bad, value_good, stands_named, value_is, value_fails}
 use Rattle.qpack_ends.proofs.Asking.{asks_named}
@@ -15,8 +16,8 @@ pub returns-in_err-index-clause-exact : goal.returns-in_err-index-clause-exact
 returns-in_err-index-clause-exact g c =
     let p = err_from_is_err_and c.from_residual.result c.from_residual.ensures.1 in
     rw (p.1, p.2) (
-      fails_in_bytes _ (or_bad_integer (integer_at c.args.size c.args.buf.now.rest)) _ c.in_err-index.ensures.exact
-          (name_bad (under c.args.self.now 0) c.args.size (named_line c.args.reference) c.args.buf.now.rest),
+      fails_in_bytes _ (or_bad_integer (integer_at (name_index_size c.args.reference) c.args.buf.now.rest)) _ c.in_err-index.ensures.exact
+          (name_bad (under c.args.self.now 0) (name_index_size c.args.reference) (named_line c.args.reference) c.args.buf.now.rest),
       extends_none c.args.text.now.items,
     )
 
@@ -26,7 +27,7 @@ returns-in_err-value-in-Ok-clause-exact g c =
     let n = c.in-Ok.ensures.exact in
     rw (p.1, p.2) (
       fails_in_bytes _ (or_bad_string (string_at 8 c.read_index.new.buf.rest)) _ c.in_err-value-in-Ok.ensures.exact.0
-          (λ x q. value_bad (under c.args.self.now 0) c.args.size (named_line c.args.reference) c.args.buf.now.rest
+          (λ x q. value_bad (under c.args.self.now 0) (name_index_size c.args.reference) (named_line c.args.reference) c.args.buf.now.rest
           c.read_index.new.buf.rest c.in_ok-index.ensures.exact.0.0 c.in_ok-index.index x
           c.in_ok-index.ensures.exact.0.1 q),
       (kept_within c.args.most n.0.name, c.in_err-value-in-Ok.ensures.exact.1 ∙ n.3),
@@ -38,7 +39,7 @@ returns-in_err-append_string-in-Err-clause-exact g c =
     c.from_residual-in_err-append_string-in-Err.ensures.1 in
     rw (p.1, p.2) (
       fails_in_bytes _ (or_bad_string (string_at 8 c.read_index.new.buf.rest)) _ c.in_err-append_string-in-Err.ensures.exact.0
-          (λ x q. value_bad (under c.args.self.now 0) c.args.size (named_line c.args.reference) c.args.buf.now.rest
+          (λ x q. value_bad (under c.args.self.now 0) (name_index_size c.args.reference) (named_line c.args.reference) c.args.buf.now.rest
           c.read_index.new.buf.rest c.in_ok-index.ensures.exact.0.0 c.in_ok-index.index x
           c.in_ok-index.ensures.exact.0.1 q),
       extends_same c.args.text.now.items _ (c.in_err-append_string-in-Err.ensures.exact.1 ∙ c.in-Err.ensures.exact.1),
@@ -50,7 +51,7 @@ returns-in_ok-append_string-in-Err-clause-exact g c =
     let bad = c.in-Err.ensures.exact in
     let rest = c.append_string-in-Err.new.buf.rest in (
       fails_by _ (entry_of (under c.args.self.now 0) c.args.reference c.in_ok-index.index) _ bad.0
-          (λ x q. value_good (under c.args.self.now 0) c.args.reference c.args.size c.args.buf.now.rest
+          (λ x q. value_good (under c.args.self.now 0) c.args.reference (name_index_size c.args.reference) c.args.buf.now.rest
           c.read_index.new.buf.rest rest c.in_ok-index.ensures.exact.0.0 c.in_ok-index.index s.0 s.1
           c.in_ok-index.ensures.exact.0.1 s.2
           ∙ value_fails rest s.1 (entry_of (under c.args.self.now 0) c.args.reference c.in_ok-index.index) x q),
@@ -64,7 +65,7 @@ returns-in_ok-value-in-Ok-clause-exact g c =
     let rest = c.append_string.new.buf.rest in
     let mid = c.append_name_of.new.text.items in (
       with_value s.1 n.0,
-      value_good (under c.args.self.now 0) c.args.reference c.args.size c.args.buf.now.rest c.read_index.new.buf.rest
+      value_good (under c.args.self.now 0) c.args.reference (name_index_size c.args.reference) c.args.buf.now.rest c.read_index.new.buf.rest
           rest
           c.in_ok-index.ensures.exact.0.0 c.in_ok-index.index s.0 s.1 c.in_ok-index.ensures.exact.0.1 s.2
           ∙ value_is rest s.1 (entry_of (under c.args.self.now 0) c.args.reference c.in_ok-index.index) n.0 n.1,
@@ -76,6 +77,6 @@ returns-in_ok-value-in-Ok-clause-exact g c =
 pub returns-in_ok-append_string-in-Err-clause-memory : goal.returns-in_ok-append_string-in-Err-clause-memory
 returns-in_ok-append_string-in-Err-clause-memory g c e =
     let s = c.in_ok-append_string-in-Err.ensures.exact in
-    asks_named c.args.size (named_line c.args.reference) c.args.buf.now.rest c.read_index.new.buf.rest
+    asks_named (name_index_size c.args.reference) (named_line c.args.reference) c.args.buf.now.rest c.read_index.new.buf.rest
     c.append_string-in-Err.new.buf.rest s.1 c.in_ok-index.ensures.exact.0.0 c.in_ok-index.index s.0
     c.in_ok-index.ensures.exact.0.1 s.2
