@@ -10,7 +10,9 @@ use qpack_base::coding::Cursor;
 use qpack_base::parse_error::ParseError;
 use qpack_base::prefix_int;
 use qpack_base::static_::StaticTable;
-use qpack_wire::block::{BlockLine, HeaderPrefix, Indexed, Literal, LiteralWithNameRef};
+use qpack_wire::block::{
+    BlockLine, HeaderPrefix, Indexed, Literal, LiteralWithNameRef, is_never_indexed,
+};
 use qpack_wire::stream::{DecoderLine, EncoderLine, InsertWithNameRef, next_line};
 use std::alloc::{AllocError, Global};
 use std::str;
@@ -150,7 +152,7 @@ fn explain_line(rows: &mut Rows<'_>, line: &BlockLine) -> Result<(), Fault> {
         }
         BlockLine::LiteralWithNameRef(line) => explain_literal_with_name_ref(rows, line),
         BlockLine::LiteralWithPostBaseNameRef(line) => {
-            let literal = literal(first_byte(rows) & 8 != 0);
+            let literal = literal(rows);
             let meaning = post_base(rows.alloc, literal, line.index)?;
             rows.push_integer(3, 0b0001_1000, meaning.as_str())?;
             push_value(rows, &line.value)
@@ -173,7 +175,7 @@ fn explain_literal_with_name_ref(
     rows: &mut Rows<'_>,
     line: &LiteralWithNameRef,
 ) -> Result<(), Fault> {
-    let literal = literal(first_byte(rows) & 32 != 0);
+    let literal = literal(rows);
     match line {
         LiteralWithNameRef::Static { index, value } => {
             let meaning = static_name(rows.alloc, literal, *index)?;
@@ -190,7 +192,7 @@ fn explain_literal_with_name_ref(
 
 /// Explains a literal field line.
 fn explain_literal(rows: &mut Rows<'_>, line: &Literal) -> Result<(), Fault> {
-    let name = if first_byte(rows) & 16 != 0 {
+    let name = if is_marked(rows) {
         "literal never indexed; name"
     } else {
         "literal; name"
@@ -204,14 +206,17 @@ fn push_value(rows: &mut Rows<'_>, value: &[u8]) -> Result<(), Fault> {
     rows.push_string(8, 0b1000_0000, "value", value)
 }
 
-/// Returns the byte that has the next row.
-fn first_byte(rows: &Rows<'_>) -> u8 {
-    rows.rest().first().copied().unwrap_or(0)
+/// Returns whether the line that has the next row asks that its field stay a literal.
+fn is_marked(rows: &Rows<'_>) -> bool {
+    match rows.rest().first() {
+        Some(first) => is_never_indexed(*first),
+        None => false,
+    }
 }
 
 /// Returns how a literal with a name reference begins.
-fn literal(never_indexed: bool) -> &'static str {
-    if never_indexed {
+fn literal(rows: &Rows<'_>) -> &'static str {
+    if is_marked(rows) {
         "literal never indexed with the name of "
     } else {
         "literal with the name of "
