@@ -199,11 +199,16 @@ pub(crate) fn push_finding(
     place.push(text)?;
     push_subject(text, subject)?;
     write!(text, ": {reason} [RFC 9204, section {}", rule.section)?;
-    match name_of(rule.code) {
-        Some((code, name)) => write!(text, "; 0x{code:04x} {name}")?,
-        None => {}
-    }
+    push_code(text, rule.code)?;
     writeln!(text, "]; likely cause: {}", rule.cause)
+}
+
+/// Appends the code that ends the connection, if one does.
+fn push_code(text: &mut String, code: Code) -> Result<(), AllocError> {
+    match name_of(code) {
+        Some((code, name)) => write!(text, "; 0x{code:04x} {name}"),
+        None => Ok(()),
+    }
 }
 
 /// Appends what a finding is about.
@@ -232,29 +237,35 @@ pub(crate) fn push_finding_object(
     rule: Rule,
 ) -> Result<(), AllocError> {
     place.push_members(text)?;
+    push_subject_members(text, subject)?;
+    let section = rule.section;
+    write!(text, ",\"fault\":\"{reason}\",\"rfc9204\":\"{section}\"")?;
+    push_code_members(text, rule.code)?;
+    writeln!(text, ",\"cause\":\"{}\"}}", rule.cause)
+}
+
+/// Appends the members of what a finding is about.
+fn push_subject_members(text: &mut String, subject: Subject) -> Result<(), AllocError> {
     match subject {
         Subject::Encoder(offset, number) => {
-            write!(text, "\"encoder\":{offset},\"instruction_number\":{number}")?;
+            write!(text, "\"encoder\":{offset},\"instruction_number\":{number}")
         }
         Subject::Decoder(offset, number) => {
-            write!(text, "\"decoder\":{offset},\"instruction_number\":{number}")?;
+            write!(text, "\"decoder\":{offset},\"instruction_number\":{number}")
         }
-        Subject::Section(stream, offset) => write!(
-            text,
-            "\"section\":{stream},\"offset\":{offset}"
-        )?,
-        Subject::Record(offset) => write!(text, "\"record\":{offset}")?,
+        Subject::Section(stream, offset) => {
+            write!(text, "\"section\":{stream},\"offset\":{offset}")
+        }
+        Subject::Record(offset) => write!(text, "\"record\":{offset}"),
     }
-    write!(
-        text,
-        ",\"fault\":\"{reason}\",\"rfc9204\":\"{}\"",
-        rule.section
-    )?;
-    match name_of(rule.code) {
-        Some((code, name)) => write!(text, ",\"code\":{code},\"code_name\":\"{name}\"")?,
-        None => {}
+}
+
+/// Appends the members of the code that ends the connection, if one does.
+fn push_code_members(text: &mut String, code: Code) -> Result<(), AllocError> {
+    match name_of(code) {
+        Some((code, name)) => write!(text, ",\"code\":{code},\"code_name\":\"{name}\""),
+        None => Ok(()),
     }
-    writeln!(text, ",\"cause\":\"{}\"}}", rule.cause)
 }
 
 /// Returns a code and its name.
