@@ -95,6 +95,31 @@ room_behind bits number free after left now long is fits one =
       long,
     )
 
+-- where twelve bits are loaded, there is room for two bytes
+pub room_for_two : (count loaded free : ℕ) (more now : List ℕ) → 12 ≤ count → bits_of count loaded ++ more ≡ now
+    → length now ≤ 5 * free + 4 → 2 ≤ free
+room_for_two count loaded free more now enough is fits =
+    omega (
+      arith,
+      ap (λ (l : List ℕ). length l) is,
+      length-append (bits_of count loaded) more,
+      bits_length count loaded,
+      fits,
+    )
+
+-- and after the bytes whose codes were passed there is room for what is left
+pub room_after : (bytes left now : List ℕ) (free after : ℕ) → AreBytes bytes → now ≡ bits_of_text bytes ++ left
+    → length now ≤ 5 * free + 4 → free ≡ after + length bytes → length left ≤ 5 * after + 4
+room_after bytes left now free after are is fits more =
+    omega (
+      arith,
+      bits_least bytes are,
+      ap (λ (l : List ℕ). length l) is,
+      length-append (bits_of_text bytes) left,
+      fits,
+      more,
+    )
+
 -- ---- the room for a text's payload
 
 position_most : {X : Type 0} (p : X → Bool) (xs : List X) → position_or_len p xs ≤ length xs

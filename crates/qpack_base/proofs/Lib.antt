@@ -5,6 +5,7 @@ pub mod StaticNames
 pub mod FirstIndexes
 pub mod StaticRows
 pub mod CodeTables
+pub mod PairTables
 pub mod LoadedBits
 pub mod HighBits
 pub mod LongCodes

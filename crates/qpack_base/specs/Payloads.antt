@@ -1,6 +1,6 @@
 -- What readers of Huffman coded payloads answer, and which bits they leave.
 use Rattle.std.specs.Prelude.{◌≡◌, ℕ, ◌-◌, ◌*◌, ◌/◌, ◌^◌, ◌%◌, ◌<◌, ◌≤◌, ◌⊎◌, List, [], ◌++◌, Option, Some, None}
-use Rattle.std.specs.Prelude.{Result, Ok, Err, length, ◌+◌}
+use Rattle.std.specs.Prelude.{Result, Ok, Err, length, ◌+◌, ◌∷◌, take}
 use Rattle.qpack_spec.specs.Huffman.{HuffmanFault, bits_of, bits_of_bytes, code_of, AreBytes, bits_of_text, item_at}
 use Rattle.qpack_spec.specs.Huffman.{text_of_bits}
 use Rattle.qpack_spec.specs.Huffman as huffman
@@ -8,6 +8,7 @@ use Rattle.qpack_base.specs.declared.prefix_string.decoding.HuffmanDecodingError
 use Rattle.qpack_base.specs.declared.prefix_string.decoding.HuffmanDecodingError.TheVariants.{MissingBits, Unhandled}
 use Rattle.qpack_base.specs.declared.prefix_string.decoding.Bits.{Bits}
 use Rattle.qpack_base.specs.declared.prefix_string.ahead.Ahead.{Ahead}
+use Rattle.qpack_base.specs.declared.prefix_string.ahead.Codes.{Codes}
 
 -- the fault that an error stands for
 abbrev pub huffman_fault_of : HuffmanDecodingError → HuffmanFault
@@ -64,6 +65,17 @@ pub record IsAhead (a : Ahead) : Type 0 where
 pub record BeginsCode (count loaded byte bits : ℕ) : Type 0 where
   pub byte_is : bits ≤ count → byte < 256
   pub is : bits ≤ count → code_of byte ≡ bits_of bits (loaded / 2 ^ (count - bits))
+
+-- the bytes of the codes
+abbrev pub bytes_of_codes : Codes → List ℕ
+bytes_of_codes c = take c.count (c.first ∷ c.second ∷ [])
+
+-- so many of the highest bits of `count` are the codes of the bytes, one after the other
+pub record BeginsCodes (count loaded bits : ℕ) (bytes : List ℕ) : Type 0 where
+  pub are : AreBytes bytes
+  pub some : 1 ≤ length bytes
+  pub there : bits ≤ count
+  pub is : bits_of_text bytes ≡ bits_of bits (loaded / 2 ^ (count - bits))
 
 -- the bits passed are the codes of the bytes appended (RFC 7541, section 5.2)
 pub record PassesCodes (old new items appended : List ℕ) : Type 0 where

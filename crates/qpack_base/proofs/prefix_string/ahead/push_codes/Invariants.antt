@@ -3,8 +3,8 @@ use Rattle.qpack_spec.specs.Huffman.{bits_of_bytes}
 use Rattle.qpack_base.specs.Payloads.{bits_ahead, IsAhead, PassesCodes}
 use Rattle.qpack_base.proofs.prefix_string.ahead.push_codes.Given as goal
 
-abbrev pub invariant-loop-ahead : goal.invariant-loop-ahead
-invariant-loop-ahead g l = record {
+abbrev pub invariant-loop-codes : goal.invariant-loop-codes
+invariant-loop-codes g l = record {
   ahead : IsAhead l.ahead;
   room : length (bits_ahead l.ahead) ≤ 5 * (vec_capacity l.text - vec_len l.text) + 4;
   passes : PassesCodes (bits_of_bytes l.payload) (bits_ahead l.ahead) l.fn.text.items l.text.items;
@@ -12,5 +12,5 @@ invariant-loop-ahead g l = record {
   capacity : vec_capacity l.text ≡ vec_capacity l.fn.text;
 }
 
-abbrev pub decreases-loop-ahead : goal.decreases-loop-ahead
-decreases-loop-ahead g l = vec_capacity l.text - vec_len l.text
+abbrev pub decreases-loop-codes : goal.decreases-loop-codes
+decreases-loop-codes g l = vec_capacity l.text - vec_len l.text
