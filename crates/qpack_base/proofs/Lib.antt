@@ -20,6 +20,7 @@ pub mod PutCodes
 pub mod FilledWords
 pub mod WholeCodes
 pub mod CodeRoom
+pub mod PushedCodes
 pub mod PutStrings
 pub mod FieldLists
 pub mod FieldOrder

@@ -137,21 +137,24 @@ pair_begins loaded count number codes table h most enough within t b are =
 pub nothing_passed : (old new items : List ℕ) → new ≡ old → PassesCodes old new items items
 nothing_passed old new items e = record { text = []; are = tt; bits = sym e; append = sym (append-nil items) }
 
--- codes more
-pub codes_passed : (old now left items appended more bytes : List ℕ) → PassesCodes old now items appended
-    → AreBytes bytes → now ≡ bits_of_text bytes ++ left → more ≡ appended ++ bytes → PassesCodes old left items more
-codes_passed old now left items appended more bytes p h front e = record {
-  text = p.text ++ bytes;
-  are = bytes_join p.text bytes p.are h;
-  bits = p.bits ∙ ap (λ (l : List ℕ). bits_of_text p.text ++ l) front
-      ∙ sym (append_assoc (bits_of_text p.text) (bits_of_text bytes) left)
-      ∙ ap (λ (l : List ℕ). l ++ left) (sym (flat_map-append code_of p.text bytes));
-  append = e ∙ ap (λ (l : List ℕ). l ++ bytes) p.append ∙ append_assoc items p.text bytes;
+-- codes behind codes
+pub passes_on : (old now left items appended more : List ℕ) → PassesCodes old now items appended
+    → PassesCodes now left appended more → PassesCodes old left items more
+passes_on old now left items appended more p q = record {
+  text = p.text ++ q.text;
+  are = bytes_join p.text q.text p.are q.are;
+  bits = p.bits ∙ ap (λ (l : List ℕ). bits_of_text p.text ++ l) q.bits
+      ∙ sym (append_assoc (bits_of_text p.text) (bits_of_text q.text) left)
+      ∙ ap (λ (l : List ℕ). l ++ left) (sym (flat_map-append code_of p.text q.text));
+  append = q.append ∙ ap (λ (l : List ℕ). l ++ q.text) p.append ∙ append_assoc items p.text q.text;
 }
 
--- one code more
-pub one_passed : (old now left items appended more : List ℕ) (b : ℕ) → PassesCodes old now items appended → b < 256
-    → now ≡ code_of b ++ left → more ≡ appended ++ b ∷ [] → PassesCodes old left items more
-one_passed old now left items appended more b p h front e =
-    codes_passed old now left items appended more (b ∷ []) p (h, tt)
-    (front ∙ ap (λ (l : List ℕ). l ++ left) (sym (one_code b))) e
+-- a code alone
+pub one_begins : (count loaded byte bits : ℕ) → bits ≤ count → BeginsCode count loaded byte bits
+    → BeginsCodes count loaded bits (byte ∷ [])
+one_begins count loaded byte bits there w = record {
+  are = (w.byte_is there, tt);
+  some = omega arith;
+  there = there;
+  is = one_code byte ∙ w.is there;
+}

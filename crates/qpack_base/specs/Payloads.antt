@@ -1,6 +1,7 @@
 -- What readers of Huffman coded payloads answer, and which bits they leave.
 use Rattle.std.specs.Prelude.{◌≡◌, ℕ, ◌-◌, ◌*◌, ◌/◌, ◌^◌, ◌%◌, ◌<◌, ◌≤◌, ◌⊎◌, List, [], ◌++◌, Option, Some, None}
-use Rattle.std.specs.Prelude.{Result, Ok, Err, length, ◌+◌, ◌∷◌, take}
+use Rattle.std.specs.Prelude.{Result, Ok, Err, length, ◌+◌, ◌∷◌, take, vec_len, vec_capacity}
+use Rattle.std.specs.declared.vec.Vec.{Vec}
 use Rattle.qpack_spec.specs.Huffman.{HuffmanFault, bits_of, bits_of_bytes, code_of, AreBytes, bits_of_text, item_at}
 use Rattle.qpack_spec.specs.Huffman.{text_of_bits}
 use Rattle.qpack_spec.specs.Huffman as huffman
@@ -83,6 +84,23 @@ pub record PassesCodes (old new items appended : List ℕ) : Type 0 where
   pub are : AreBytes text
   pub bits : old ≡ bits_of_text text ++ new
   pub append : appended ≡ items ++ text
+
+-- there is room for the longest text of what is ahead, since no code has fewer than five bits
+abbrev pub FitsAhead : {A : Type 0} → Ahead → Vec ℕ A → Type 0
+FitsAhead a text = length (bits_ahead a) ≤ 5 * (vec_capacity text - vec_len text) + 4
+
+-- codes were passed, one at least, and their bytes appended; there is still room for what is left
+pub record PushesCodes {A : Type 0} (old new : Ahead) (text longer : Vec ℕ A) : Type 0 where
+  pub ahead : IsAhead new
+  pub passes : PassesCodes (bits_ahead old) (bits_ahead new) text.items longer.items
+  pub fits : FitsAhead new longer
+  pub len : vec_len text < vec_len longer
+  pub capacity : vec_capacity longer ≡ vec_capacity text
+
+-- what is left after codes that were passed, if any were
+abbrev pub PushesNext : {A : Type 0} → Ahead → Option Ahead → Vec ℕ A → Vec ℕ A → Type 0
+PushesNext old None text longer = longer ≡ text
+PushesNext old (Some new) text longer = PushesCodes old new text longer
 
 -- there is room for the longest text of bits that are so many, since no code has fewer than five; or for the one that
 -- they mean

@@ -6,6 +6,7 @@ ghost use Rattle.std.specs.Prelude.{length, vec_len, vec_capacity};
 ghost use Rattle.qpack_base.specs.HuffmanTables.{pair_bits, pair_bytes};
 ghost use Rattle.qpack_spec.specs.Huffman.{bits_of, bits_of_bytes};
 ghost use Rattle.qpack_base.specs.Payloads.{bits_ahead, IsAhead, BeginsCode, BeginsCodes, PassesCodes, bytes_of_codes};
+ghost use Rattle.qpack_base.specs.Payloads.{FitsAhead, PushesNext};
 
 use crate::prefix_string::decoding::{DecodeIter, long_code};
 use crate::prefix_string::decoding_tables::short_codes;
@@ -113,6 +114,21 @@ impl<'a> Ahead<'a> {
         Some(codes)
     }
 
+    /// The code that comes next, where all of it is loaded.
+    #[inline(always)]
+    fn code(self) -> Option<Code>
+        requires { IsAhead self }
+        ensures { IfSome result (λ code. (code.bits ≤ self.entry.count) × BeginsCode self.entry.count
+            (self.entry.loaded / 2 ^ (64 - self.entry.count)) code.byte code.bits) }
+    {
+        let (byte, bits) = short_codes()[(self.loaded >> 56) as usize];
+        let bits = u32::from(bits);
+        if bits <= self.count {
+            return Some(Code { byte, bits });
+        }
+        self.long_code()
+    }
+
     /// The code of more than eight bits that comes next, where that many are loaded.
     #[inline(always)]
     fn long_code(self) -> Option<Code>
@@ -189,6 +205,48 @@ fn push_both<A: Allocator>(text: &mut Vec<u8, A>, codes: Codes)
     text.truncate(start + usize::from(codes.count));
 }
 
+/// Appends the bytes of the codes that the next twelve bits begin with, and passes them. Does nothing where fewer bits
+/// are loaded, or they begin with a longer code.
+#[inline(always)]
+fn push_pair<'a, A: Allocator>(ahead: Ahead<'a>, text: &mut Vec<u8, A>) -> Option<Ahead<'a>>
+    requires ahead { IsAhead ahead }
+    requires fits { FitsAhead ahead text.old }
+    ensures { PushesNext ahead.entry result text.old text.new }
+{
+    let codes = ahead.codes()?;
+    push_both(text, codes);
+    Some(ahead.pass(codes.bits))
+}
+
+/// Appends the byte of the code that comes next, and passes it. Does nothing where no whole code is loaded.
+#[inline(always)]
+fn push_code<'a, A: Allocator>(ahead: Ahead<'a>, text: &mut Vec<u8, A>) -> Option<Ahead<'a>>
+    requires ahead { IsAhead ahead }
+    requires fits { FitsAhead ahead text.old }
+    ensures { PushesNext ahead.entry result text.old text.new }
+{
+    let code = ahead.code()?;
+    text.push_reserved(code.byte);
+    Some(ahead.pass(code.bits))
+}
+
+/// Appends the bytes of the codes that come next, of up to four, and passes them. Does nothing where no whole code is
+/// loaded.
+#[inline(always)]
+fn push_next<'a, A: Allocator>(ahead: Ahead<'a>, text: &mut Vec<u8, A>) -> Option<Ahead<'a>>
+    requires ahead { IsAhead ahead }
+    requires fits { FitsAhead ahead text.old }
+    ensures { PushesNext ahead.entry result text.old text.new }
+{
+    let Some(left) = push_pair(ahead, text) else {
+        return push_code(ahead, text);
+    };
+    if let Some(left) = push_pair(left, text) {
+        return Some(left);
+    }
+    Some(left)
+}
+
 /// Appends the bytes whose codes stand at the front of the payload, up to what is no code. No code has fewer than five
 /// bits, so that there is room for all of them. Answers what is left of the payload, too.
 pub(super) fn push_codes<A: Allocator>(
@@ -204,23 +262,10 @@ pub(super) fn push_codes<A: Allocator>(
     let mut ahead = Ahead::new(payload);
     loop {
         ahead = ahead.load();
-        if let Some(codes) = ahead.codes() {
-            push_both(&mut text, codes);
-            ahead = ahead.pass(codes.bits);
-            continue;
-        }
-        let (byte, bits) = short_codes()[(ahead.loaded >> 56) as usize];
-        let bits = u32::from(bits);
-        if bits <= ahead.count {
-            text.push_reserved(byte);
-            ahead = ahead.pass(bits);
-            continue;
-        }
-        let Some(code) = ahead.long_code() else {
+        let Some(left) = push_next(ahead, &mut text) else {
             break;
         };
-        text.push_reserved(code.byte);
-        ahead = ahead.pass(code.bits);
+        ahead = left;
     }
     let rest = DecodeIter::behind(ahead.lowest(), ahead.count, ahead.rest, payload.len());
     (text, rest)
