@@ -1,10 +1,10 @@
 -- Codes that are passed, and their bytes appended where there is room for what is ahead.
-use Rattle.std.proofs.Common.{◌≡◌, ℕ, ◌+◌, ◌*◌, ◌-◌, ◌/◌, ◌^◌, ◌≤◌, ◌<◌, List, ◌++◌, length, Option, Some, None}
-use Rattle.std.proofs.Common.{vec_len, vec_capacity, refl, sym, ap, subst, ◌∙◌, arith}
+use Rattle.std.proofs.Common.{◌≡◌, ℕ, ◌+◌, ◌-◌, ◌/◌, ◌^◌, List, ◌++◌, length}
+use Rattle.std.proofs.Common.{vec_len, vec_capacity, refl, sym, ap, ◌∙◌, arith}
 use Rattle.std.specs.declared.vec.Vec.{Vec}
 use Rattle.qpack_spec.specs.Huffman.{bits_of, bits_of_bytes}
 use Rattle.qpack_base.specs.declared.prefix_string.ahead.Ahead.{Ahead}
-use Rattle.qpack_base.specs.Payloads.{bits_ahead, IsAhead, BeginsCodes, FitsAhead, PushesCodes, PushesNext}
+use Rattle.qpack_base.specs.Payloads.{bits_ahead, IsAhead, BeginsCodes, FitsAhead, PushesCodes}
 use Rattle.qpack_base.proofs.CodeRoom.{room_for_codes, room_after}
 use Rattle.qpack_base.proofs.WholeCodes.{passes_on}
 

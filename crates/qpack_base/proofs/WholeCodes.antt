@@ -9,7 +9,7 @@ use Rattle.qpack_spec.proofs.Codes.{code_found}
 use Rattle.std.specs.Prelude.{slice_index_or}
 use Rattle.std.proofs.lemmas.Bool.{cases_lt}
 use Rattle.std.proofs.lemmas.Nat.{shr-shr}
-use Rattle.qpack_base.specs.HuffmanTables.{BeginsWithCode, AreShortCodes, BeginsWithCodes, ArePairs, pair_bits, pair_bytes}
+use Rattle.qpack_base.specs.HuffmanTables.{BeginsWithCode, AreShortCodes, ArePairs, pair_bits, pair_bytes}
 use Rattle.qpack_base.specs.Payloads.{BeginsCode, BeginsCodes, PassesCodes, bytes_of_codes}
 use Rattle.qpack_base.specs.declared.prefix_string.ahead.Codes.{Codes}
 use Rattle.std.proofs.lemmas.Grind.{flat_map-append}

@@ -1,4 +1,4 @@
-use Rattle.std.proofs.Common.{◌≡◌, ◌+◌, ◌-◌, ◌*◌, ◌≤◌, length, vec_len, vec_capacity}
+use Rattle.std.proofs.Common.{◌≡◌, ◌-◌, ◌≤◌, vec_len, vec_capacity}
 use Rattle.qpack_spec.specs.Huffman.{bits_of_bytes}
 use Rattle.qpack_base.specs.Payloads.{bits_ahead, IsAhead, FitsAhead, PassesCodes}
 use Rattle.qpack_base.proofs.prefix_string.ahead.push_codes.Given as goal

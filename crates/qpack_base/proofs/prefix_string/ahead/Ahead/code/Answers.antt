@@ -1,4 +1,4 @@
-use Rattle.std.proofs.Common.{◌-◌, ◌/◌, ◌^◌, arith}
+use Rattle.std.proofs.Common.{arith}
 use Rattle.qpack_base.proofs.HighBits.{high_of}
 use Rattle.qpack_base.proofs.WholeCodes.{short_begins}
 use Rattle.qpack_base.proofs.prefix_string.ahead.Ahead.code.Goals as goal
