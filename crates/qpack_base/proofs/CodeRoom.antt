@@ -14,7 +14,7 @@ use Rattle.qpack_spec.proofs.Bits.{bits_length, bytes_bits, bytes_length}
 use Rattle.qpack_spec.proofs.CodeTable.{thirty_rows}
 use Rattle.qpack_spec.proofs.Payloads.{text_means}
 use Rattle.qpack_spec.proofs.WrittenPayloads.{payload_length}
-use Rattle.qpack_base.specs.Payloads.{BeginsCode}
+use Rattle.qpack_base.specs.Payloads.{BeginsCodes}
 
 -- whether the codes of k bytes from b on have at least five bits
 abbrev all_long : ℕ → ℕ → Bool
@@ -33,16 +33,6 @@ long_each (suc k) b c e l u =
       | inl q ↦ subst (λ (d : ℕ). 5 ≤ length (code_of d)) q (leb-true _ _ h.0)
       | inr n ↦ long_each k (suc b) c h.1 (omega arith) (omega arith)
     ]
-
--- a code that is there has at least five bits
-pub five_bits : (count loaded byte bits : ℕ) → BeginsCode count loaded byte bits → bits ≤ count → 5 ≤ bits
-five_bits count loaded byte bits begins there =
-    omega (
-      arith,
-      long_each 256 0 byte all_codes_long (omega arith) (omega (arith, begins.byte_is there)),
-      ap (λ (l : List ℕ). length l) (begins.is there),
-      bits_length bits (loaded / 2 ^ (count - bits)),
-    )
 
 bits_least : (text : List ℕ) → AreBytes text → 5 * length text ≤ length (bits_of_text text)
 bits_least [] h = omega arith
@@ -68,31 +58,45 @@ text_most payload value e =
       bytes_length payload,
     )
 
--- where a code is loaded, there is room for its byte
-pub room_for_one : (count loaded byte bits free : ℕ) (more now : List ℕ) → BeginsCode count loaded byte bits
-    → bits ≤ count → bits_of count loaded ++ more ≡ now → length now ≤ 5 * free + 4 → 0 < free
-room_for_one count loaded byte bits free more now begins there is fits =
+-- where codes are loaded, there is room for their bytes
+pub room_for_codes : (count loaded bits free : ℕ) (bytes more now : List ℕ) → BeginsCodes count loaded bits bytes
+    → bits_of count loaded ++ more ≡ now → length now ≤ 5 * free + 4 → length bytes ≤ free
+room_for_codes count loaded bits free bytes more now begins is fits =
     omega (
       arith,
-      five_bits count loaded byte bits begins there,
+      bits_least bytes begins.are,
+      ap (λ (l : List ℕ). length l) begins.is,
+      bits_length bits (loaded / 2 ^ (count - bits)),
+      begins.there,
       ap (λ (l : List ℕ). length l) is,
       length-append (bits_of count loaded) more,
       bits_length count loaded,
       fits,
     )
 
--- and behind it for what is left
-pub room_behind : (bits number free after : ℕ) (left now : List ℕ) → 5 ≤ bits → now ≡ bits_of bits number ++ left
-    → length now ≤ 5 * free + 4 → free ≡ after + 1 → length left ≤ 5 * after + 4
-room_behind bits number free after left now long is fits one =
+-- where twelve bits are loaded, there is room for two bytes
+pub room_for_two : (count loaded free : ℕ) (more now : List ℕ) → 12 ≤ count → bits_of count loaded ++ more ≡ now
+    → length now ≤ 5 * free + 4 → 2 ≤ free
+room_for_two count loaded free more now enough is fits =
     omega (
       arith,
       ap (λ (l : List ℕ). length l) is,
-      length-append (bits_of bits number) left,
-      bits_length bits number,
+      length-append (bits_of count loaded) more,
+      bits_length count loaded,
       fits,
-      one,
-      long,
+    )
+
+-- and after the bytes whose codes were passed there is room for what is left
+pub room_after : (bytes left now : List ℕ) (free after : ℕ) → AreBytes bytes → now ≡ bits_of_text bytes ++ left
+    → length now ≤ 5 * free + 4 → free ≡ after + length bytes → length left ≤ 5 * after + 4
+room_after bytes left now free after are is fits more =
+    omega (
+      arith,
+      bits_least bytes are,
+      ap (λ (l : List ℕ). length l) is,
+      length-append (bits_of_text bytes) left,
+      fits,
+      more,
     )
 
 -- ---- the room for a text's payload

@@ -5,6 +5,7 @@ pub mod StaticNames
 pub mod FirstIndexes
 pub mod StaticRows
 pub mod CodeTables
+pub mod PairTables
 pub mod LoadedBits
 pub mod HighBits
 pub mod LongCodes
@@ -19,6 +20,7 @@ pub mod PutCodes
 pub mod FilledWords
 pub mod WholeCodes
 pub mod CodeRoom
+pub mod PushedCodes
 pub mod PutStrings
 pub mod FieldLists
 pub mod FieldOrder

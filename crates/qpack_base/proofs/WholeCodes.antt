@@ -1,20 +1,22 @@
 -- The code that comes next, read whole.
 use Rattle.std.proofs.Common.{◌≡◌, ℕ, ◌+◌, ◌-◌, ◌*◌, ◌/◌, ◌%◌, ◌^◌, ◌<◌, ◌≤◌, List, []}
-use Rattle.std.proofs.Common.{◌∷◌, ◌++◌, length, Ok, refl, sym, ap}
+use Rattle.std.proofs.Common.{◌∷◌, ◌++◌, length, Ok, refl, sym, ap, subst}
 use Rattle.std.proofs.Common.{◌∙◌, arith, append-nil, append_assoc, inl, inr}
 use Rattle.std.proofs.lemmas.List.{length-append}
-use Rattle.qpack_spec.specs.Huffman.{bits_of, bits_of_bytes, code_of, bytes_by_length, code_at, bits_of_text}
+use Rattle.qpack_spec.specs.Huffman.{bits_of, bits_of_bytes, code_of, bytes_by_length, code_at, bits_of_text, AreBytes}
 use Rattle.qpack_spec.proofs.Bits.{bits_are, bits_length, bits_append, parts_same}
 use Rattle.qpack_spec.proofs.Codes.{code_found}
 use Rattle.std.specs.Prelude.{slice_index_or}
 use Rattle.std.proofs.lemmas.Bool.{cases_lt}
 use Rattle.std.proofs.lemmas.Nat.{shr-shr}
-use Rattle.qpack_base.specs.HuffmanTables.{BeginsWithCode, AreShortCodes}
-use Rattle.qpack_base.specs.Payloads.{BeginsCode, PassesCodes}
+use Rattle.qpack_base.specs.HuffmanTables.{BeginsWithCode, AreShortCodes, ArePairs, pair_bits, pair_bytes}
+use Rattle.qpack_base.specs.Payloads.{BeginsCode, BeginsCodes, PassesCodes, bytes_of_codes}
+use Rattle.qpack_base.specs.declared.prefix_string.ahead.Codes.{Codes}
 use Rattle.std.proofs.lemmas.Grind.{flat_map-append}
 use Rattle.qpack_base.proofs.AddedBits.{bytes_join}
 use Rattle.qpack_base.proofs.WrittenCodes.{one_code}
 use Rattle.qpack_base.proofs.HighBits.{IsHigh, high_front}
+use Rattle.qpack_base.proofs.PairTables.{pair_bytes_are}
 
 pub none_ahead : (n : ℕ) (bytes : List ℕ) → bits_of 0 n ++ bits_of_bytes bytes ≡ bits_of_bytes bytes
 unfolding bits_of
@@ -104,20 +106,55 @@ short_begins loaded count number bits table h few within t e le =
       | inr ge ↦ absurd (let p = t.past (loaded / 2 ^ 56) ge within in omega arith)
     ]
 
+abbrev pair_at : List ℕ → ℕ → ℕ
+pair_at table window = slice_index_or table window 0
+
+-- the highest twelve bits begin with the codes of an entry's bytes
+pub pair_begins : (loaded count number : ℕ) (codes : Codes) (table : List ℕ) → IsHigh loaded count number
+    → codes.bits ≤ 12 → 12 ≤ count → loaded / 2 ^ 52 < 4096 → ArePairs table
+    → codes.bits ≡ pair_bits (pair_at table (loaded / 2 ^ 52))
+    → bytes_of_codes codes ≡ pair_bytes (pair_at table (loaded / 2 ^ 52))
+    → BeginsCodes count number codes.bits (bytes_of_codes codes)
+pair_begins loaded count number codes table h most enough within t b are =
+    elim (cases_lt (loaded / 2 ^ 52) 4092) [
+      | inl lt ↦
+          let w = t.at (loaded / 2 ^ 52) lt in
+          let bits = codes.bits in
+          let there : bits ≤ count = omega arith in
+          let k : 52 + (12 - bits) ≡ 64 - bits = omega arith in record {
+            are = subst AreBytes (sym are) (pair_bytes_are (pair_at table (loaded / 2 ^ 52)));
+            some = subst (λ (l : List ℕ). 1 ≤ length l) (sym are) w.some;
+            there = there;
+            is = ap bits_of_text are ∙ w.is ∙ ap (λ (n : ℕ). bits_of n (loaded / 2 ^ 52 / 2 ^ (12 - n))) (sym b)
+                ∙ ap (bits_of bits) (shr-shr loaded 52 (12 - bits) ∙ ap (λ (n : ℕ). loaded / 2 ^ n) k
+                ∙ high_front loaded count number bits h there);
+          }
+      | inr ge ↦ absurd (let p = t.past (loaded / 2 ^ 52) ge within in omega arith)
+    ]
+
 -- ---- codes that were passed
 
 pub nothing_passed : (old new items : List ℕ) → new ≡ old → PassesCodes old new items items
 nothing_passed old new items e = record { text = []; are = tt; bits = sym e; append = sym (append-nil items) }
 
--- one code more
-pub one_passed : (old now left items appended more : List ℕ) (b : ℕ) → PassesCodes old now items appended → b < 256
-    → now ≡ code_of b ++ left → more ≡ appended ++ b ∷ [] → PassesCodes old left items more
-one_passed old now left items appended more b p h front e = record {
-  text = p.text ++ b ∷ [];
-  are = bytes_join p.text (b ∷ []) p.are (h, tt);
-  bits = p.bits ∙ ap (λ (l : List ℕ). bits_of_text p.text ++ l) front
-      ∙ sym (append_assoc (bits_of_text p.text) (code_of b) left)
-      ∙ ap (λ (l : List ℕ). l ++ left) (ap (λ (l : List ℕ). bits_of_text p.text ++ l) (sym (one_code b))
-      ∙ sym (flat_map-append code_of p.text (b ∷ [])));
-  append = e ∙ ap (λ (l : List ℕ). l ++ b ∷ []) p.append ∙ append_assoc items p.text (b ∷ []);
+-- codes behind codes
+pub passes_on : (old now left items appended more : List ℕ) → PassesCodes old now items appended
+    → PassesCodes now left appended more → PassesCodes old left items more
+passes_on old now left items appended more p q = record {
+  text = p.text ++ q.text;
+  are = bytes_join p.text q.text p.are q.are;
+  bits = p.bits ∙ ap (λ (l : List ℕ). bits_of_text p.text ++ l) q.bits
+      ∙ sym (append_assoc (bits_of_text p.text) (bits_of_text q.text) left)
+      ∙ ap (λ (l : List ℕ). l ++ left) (sym (flat_map-append code_of p.text q.text));
+  append = q.append ∙ ap (λ (l : List ℕ). l ++ q.text) p.append ∙ append_assoc items p.text q.text;
+}
+
+-- a code alone
+pub one_begins : (count loaded byte bits : ℕ) → bits ≤ count → BeginsCode count loaded byte bits
+    → BeginsCodes count loaded bits (byte ∷ [])
+one_begins count loaded byte bits there w = record {
+  are = (w.byte_is there, tt);
+  some = omega arith;
+  there = there;
+  is = one_code byte ∙ w.is there;
 }

@@ -1,7 +1,7 @@
 -- What the crate's tables of the Huffman code say of the code.
-use Rattle.std.specs.Prelude.{◌≡◌, ℕ, ◌-◌, ◌/◌, ◌^◌, ◌<◌, ◌≤◌, List, [], ◌∷◌, map, slice_index_or}
+use Rattle.std.specs.Prelude.{◌≡◌, ℕ, ◌-◌, ◌/◌, ◌%◌, ◌^◌, ◌<◌, ◌≤◌, List, [], ◌∷◌, map, take, length, slice_index_or}
 use Rattle.std.specs.Borrow.{Bor}
-use Rattle.qpack_spec.specs.Huffman.{bits_of, bytes_of_length, first_code, code_of}
+use Rattle.qpack_spec.specs.Huffman.{bits_of, bytes_of_length, first_code, code_of, bits_of_text}
 
 -- the eight bits begin with the code of the entry's byte, which has as many bits as the entry says
 pub record BeginsWithCode (window : ℕ) (entry : ℕ × ℕ) : Type 0 where
@@ -26,6 +26,27 @@ pub record AreShortCodes (table : List (ℕ × ℕ)) : Type 0 where
 -- the table of codes: each entry is the code of the byte of its place
 pub record AreCodes (table : List (ℕ × ℕ)) : Type 0 where
   pub at : (byte : ℕ) → byte < 256 → IsCodeOf byte (slice_index_or table byte (0, 0))
+
+-- the bytes of the codes of an entry of the table of twelve bits: of its two highest as many as its second lowest says
+abbrev pub pair_bytes : ℕ → List ℕ
+pair_bytes entry = take (entry / 256 % 256) (entry / 65536 % 256 ∷ entry / 16777216 % 256 ∷ [])
+
+-- how many bits these codes have together
+abbrev pub pair_bits : ℕ → ℕ
+pair_bits entry = entry % 256
+
+-- the twelve bits begin with the codes of the bytes, one after the other, which have so many bits together
+pub record BeginsWithCodes (window bits : ℕ) (bytes : List ℕ) : Type 0 where
+  pub some : 1 ≤ length bytes
+  pub most : bits ≤ 12
+  pub is : bits_of_text bytes ≡ bits_of bits (window / 2 ^ (12 - bits))
+
+-- the table of twelve bits: the codes of each entry's bytes begin the bits of its place, below FFC; the last four have
+-- more bits than are ever loaded
+pub record ArePairs (table : List ℕ) : Type 0 where
+  pub at : (window : ℕ) → window < 4092
+      → BeginsWithCodes window (pair_bits (slice_index_or table window 0)) (pair_bytes (slice_index_or table window 0))
+  pub past : (window : ℕ) → 4092 ≤ window → window < 4096 → 64 ≤ pair_bits (slice_index_or table window 0)
 
 -- the lengths of codes beyond eight bits
 abbrev pub long_lengths : List ℕ

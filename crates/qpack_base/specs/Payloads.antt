@@ -1,6 +1,7 @@
 -- What readers of Huffman coded payloads answer, and which bits they leave.
 use Rattle.std.specs.Prelude.{◌≡◌, ℕ, ◌-◌, ◌*◌, ◌/◌, ◌^◌, ◌%◌, ◌<◌, ◌≤◌, ◌⊎◌, List, [], ◌++◌, Option, Some, None}
-use Rattle.std.specs.Prelude.{Result, Ok, Err, length, ◌+◌}
+use Rattle.std.specs.Prelude.{Result, Ok, Err, length, ◌+◌, ◌∷◌, take, vec_len, vec_capacity}
+use Rattle.std.specs.declared.vec.Vec.{Vec}
 use Rattle.qpack_spec.specs.Huffman.{HuffmanFault, bits_of, bits_of_bytes, code_of, AreBytes, bits_of_text, item_at}
 use Rattle.qpack_spec.specs.Huffman.{text_of_bits}
 use Rattle.qpack_spec.specs.Huffman as huffman
@@ -8,6 +9,7 @@ use Rattle.qpack_base.specs.declared.prefix_string.decoding.HuffmanDecodingError
 use Rattle.qpack_base.specs.declared.prefix_string.decoding.HuffmanDecodingError.TheVariants.{MissingBits, Unhandled}
 use Rattle.qpack_base.specs.declared.prefix_string.decoding.Bits.{Bits}
 use Rattle.qpack_base.specs.declared.prefix_string.ahead.Ahead.{Ahead}
+use Rattle.qpack_base.specs.declared.prefix_string.ahead.Codes.{Codes}
 
 -- the fault that an error stands for
 abbrev pub huffman_fault_of : HuffmanDecodingError → HuffmanFault
@@ -65,12 +67,40 @@ pub record BeginsCode (count loaded byte bits : ℕ) : Type 0 where
   pub byte_is : bits ≤ count → byte < 256
   pub is : bits ≤ count → code_of byte ≡ bits_of bits (loaded / 2 ^ (count - bits))
 
+-- the bytes of the codes
+abbrev pub bytes_of_codes : Codes → List ℕ
+bytes_of_codes c = take c.count (c.first ∷ c.second ∷ [])
+
+-- so many of the highest bits of `count` are the codes of the bytes, one after the other
+pub record BeginsCodes (count loaded bits : ℕ) (bytes : List ℕ) : Type 0 where
+  pub are : AreBytes bytes
+  pub some : 1 ≤ length bytes
+  pub there : bits ≤ count
+  pub is : bits_of_text bytes ≡ bits_of bits (loaded / 2 ^ (count - bits))
+
 -- the bits passed are the codes of the bytes appended (RFC 7541, section 5.2)
 pub record PassesCodes (old new items appended : List ℕ) : Type 0 where
   pub text : List ℕ
   pub are : AreBytes text
   pub bits : old ≡ bits_of_text text ++ new
   pub append : appended ≡ items ++ text
+
+-- there is room for the longest text of what is ahead, since no code has fewer than five bits
+abbrev pub FitsAhead : {A : Type 0} → Ahead → Vec ℕ A → Type 0
+FitsAhead a text = length (bits_ahead a) ≤ 5 * (vec_capacity text - vec_len text) + 4
+
+-- codes were passed, one at least, and their bytes appended; there is still room for what is left
+pub record PushesCodes {A : Type 0} (old new : Ahead) (text longer : Vec ℕ A) : Type 0 where
+  pub ahead : IsAhead new
+  pub passes : PassesCodes (bits_ahead old) (bits_ahead new) text.items longer.items
+  pub fits : FitsAhead new longer
+  pub len : vec_len text < vec_len longer
+  pub capacity : vec_capacity longer ≡ vec_capacity text
+
+-- what is left after codes that were passed, if any were
+abbrev pub PushesNext : {A : Type 0} → Ahead → Option Ahead → Vec ℕ A → Vec ℕ A → Type 0
+PushesNext old None text longer = longer ≡ text
+PushesNext old (Some new) text longer = PushesCodes old new text longer
 
 -- there is room for the longest text of bits that are so many, since no code has fewer than five; or for the one that
 -- they mean

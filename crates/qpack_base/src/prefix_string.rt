@@ -26,6 +26,7 @@ mod decoding;
 mod decoding_tables;
 mod encoding;
 mod encoding_table;
+mod pair_table;
 
 use crate::coding::{Cursor, NoMemory, append_within, make_room, make_room_within};
 use crate::prefix_int;

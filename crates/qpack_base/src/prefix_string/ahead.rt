@@ -3,12 +3,18 @@
 
 ghost use Rattle.std.specs.Prelude.{◌≡◌, ◌+◌, ◌*◌, ◌-◌, ◌/◌, ◌^◌, ◌<◌, ◌≤◌, ◌++◌, IfSome};
 ghost use Rattle.std.specs.Prelude.{length, vec_len, vec_capacity};
+ghost use Rattle.qpack_base.specs.HuffmanTables.{pair_bits, pair_bytes};
 ghost use Rattle.qpack_spec.specs.Huffman.{bits_of, bits_of_bytes};
-ghost use Rattle.qpack_base.specs.Payloads.{bits_ahead, IsAhead, BeginsCode, PassesCodes};
+ghost use Rattle.qpack_base.specs.Payloads.{bits_ahead, IsAhead, BeginsCode, BeginsCodes, PassesCodes, bytes_of_codes};
+ghost use Rattle.qpack_base.specs.Payloads.{FitsAhead, PushesNext};
 
 use crate::prefix_string::decoding::{DecodeIter, long_code};
 use crate::prefix_string::decoding_tables::short_codes;
+use crate::prefix_string::pair_table::pairs;
 use std::alloc::Allocator;
+
+/// How many bits `pairs` goes by.
+const WINDOW: u32 = 12;
 
 /// The bits of a payload that are still to be read: the highest `count` bits of `loaded`, and then those of `rest`.
 #[derive(Clone, Copy)]
@@ -22,6 +28,16 @@ struct Ahead<'a> {
 #[derive(Clone, Copy)]
 struct Code {
     byte: u8,
+    bits: u32,
+}
+
+/// Codes that follow each other, one or two: their bytes, of which the second is of no meaning if there is one code,
+/// how many they are, and how many bits they have together.
+#[derive(Clone, Copy)]
+struct Codes {
+    first: u8,
+    second: u8,
+    count: u8,
     bits: u32,
 }
 
@@ -80,7 +96,40 @@ impl<'a> Ahead<'a> {
         ahead
     }
 
-    /// The code of more than eight bits that comes next, where so many are loaded.
+    /// The codes that the next twelve bits begin with, where that many are loaded.
+    #[inline(always)]
+    fn codes(self) -> Option<Codes>
+        requires { IsAhead self }
+        ensures enough { IfSome result (λ codes. 12 ≤ self.entry.count) }
+        ensures begins { IfSome result (λ codes. BeginsCodes self.entry.count
+            (self.entry.loaded / 2 ^ (64 - self.entry.count)) codes.bits (bytes_of_codes codes)) }
+    {
+        if self.count < WINDOW {
+            return None;
+        }
+        let codes = codes_of(pairs()[(self.loaded >> 52) as usize]);
+        if codes.bits > WINDOW {
+            return None;
+        }
+        Some(codes)
+    }
+
+    /// The code that comes next, where all of it is loaded.
+    #[inline(always)]
+    fn code(self) -> Option<Code>
+        requires { IsAhead self }
+        ensures { IfSome result (λ code. (code.bits ≤ self.entry.count) × BeginsCode self.entry.count
+            (self.entry.loaded / 2 ^ (64 - self.entry.count)) code.byte code.bits) }
+    {
+        let (byte, bits) = short_codes()[(self.loaded >> 56) as usize];
+        let bits = u32::from(bits);
+        if bits <= self.count {
+            return Some(Code { byte, bits });
+        }
+        self.long_code()
+    }
+
+    /// The code of more than eight bits that comes next, where that many are loaded.
     #[inline(always)]
     fn long_code(self) -> Option<Code>
         requires { IsAhead self }
@@ -127,6 +176,77 @@ impl<'a> Ahead<'a> {
     }
 }
 
+/// The codes of an entry of the table of twelve bits.
+#[inline(always)]
+fn codes_of(entry: u32) -> Codes
+    ensures bytes { bytes_of_codes result ≡ pair_bytes entry }
+    ensures bits { result.bits ≡ pair_bits entry }
+{
+    Codes {
+        first: (entry / 0x1_0000 % 0x100) as u8,
+        second: (entry / 0x100_0000) as u8,
+        count: (entry / 0x100 % 0x100) as u8,
+        bits: entry % 0x100,
+    }
+}
+
+/// Appends the bytes of the codes. Both are pushed, and the second is cut off again where there is one code, since a
+/// branch would be taken at random.
+#[inline(always)]
+fn push_both<A: Allocator>(text: &mut Vec<u8, A>, codes: Codes)
+    requires { vec_len text.old + 2 ≤ vec_capacity text.old }
+    ensures items { text.new.items ≡ text.old.items ++ bytes_of_codes codes }
+    ensures len { vec_len text.new ≡ vec_len text.old + length (bytes_of_codes codes) }
+    ensures capacity { vec_capacity text.new ≡ vec_capacity text.old }
+{
+    let start = text.len();
+    text.push_reserved(codes.first);
+    text.push_reserved(codes.second);
+    text.truncate(start + usize::from(codes.count));
+}
+
+/// Appends the bytes of the codes that the next twelve bits begin with, and passes them. Does nothing where fewer bits
+/// are loaded, or they begin with a longer code.
+#[inline(always)]
+fn push_pair<'a, A: Allocator>(ahead: Ahead<'a>, text: &mut Vec<u8, A>) -> Option<Ahead<'a>>
+    requires ahead { IsAhead ahead }
+    requires fits { FitsAhead ahead text.old }
+    ensures { PushesNext ahead.entry result text.old text.new }
+{
+    let codes = ahead.codes()?;
+    push_both(text, codes);
+    Some(ahead.pass(codes.bits))
+}
+
+/// Appends the byte of the code that comes next, and passes it. Does nothing where no whole code is loaded.
+#[inline(always)]
+fn push_code<'a, A: Allocator>(ahead: Ahead<'a>, text: &mut Vec<u8, A>) -> Option<Ahead<'a>>
+    requires ahead { IsAhead ahead }
+    requires fits { FitsAhead ahead text.old }
+    ensures { PushesNext ahead.entry result text.old text.new }
+{
+    let code = ahead.code()?;
+    text.push_reserved(code.byte);
+    Some(ahead.pass(code.bits))
+}
+
+/// Appends the bytes of the codes that come next, of up to four, and passes them. Does nothing where no whole code is
+/// loaded.
+#[inline(always)]
+fn push_next<'a, A: Allocator>(ahead: Ahead<'a>, text: &mut Vec<u8, A>) -> Option<Ahead<'a>>
+    requires ahead { IsAhead ahead }
+    requires fits { FitsAhead ahead text.old }
+    ensures { PushesNext ahead.entry result text.old text.new }
+{
+    let Some(left) = push_pair(ahead, text) else {
+        return push_code(ahead, text);
+    };
+    if let Some(left) = push_pair(left, text) {
+        return Some(left);
+    }
+    Some(left)
+}
+
 /// Appends the bytes whose codes stand at the front of the payload, up to what is no code. No code has fewer than five
 /// bits, so that there is room for all of them. Answers what is left of the payload, too.
 pub(super) fn push_codes<A: Allocator>(
@@ -142,18 +262,10 @@ pub(super) fn push_codes<A: Allocator>(
     let mut ahead = Ahead::new(payload);
     loop {
         ahead = ahead.load();
-        let (byte, bits) = short_codes()[(ahead.loaded >> 56) as usize];
-        let bits = u32::from(bits);
-        if bits <= ahead.count {
-            text.push_reserved(byte);
-            ahead = ahead.pass(bits);
-            continue;
-        }
-        let Some(code) = ahead.long_code() else {
+        let Some(left) = push_next(ahead, &mut text) else {
             break;
         };
-        text.push_reserved(code.byte);
-        ahead = ahead.pass(code.bits);
+        ahead = left;
     }
     let rest = DecodeIter::behind(ahead.lowest(), ahead.count, ahead.rest, payload.len());
     (text, rest)

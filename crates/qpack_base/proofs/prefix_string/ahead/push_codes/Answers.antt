@@ -1,17 +1,14 @@
-use Rattle.std.proofs.Common.{ℕ, ◌-◌, ◌/◌, ◌^◌, List, ◌++◌, length, vec_len, vec_capacity, ap, refl, sym, ◌∙◌}
-use Rattle.std.proofs.Common.{arith}
+use Rattle.std.proofs.Common.{ℕ, List, length, subst, ap, refl, sym, ◌∙◌, arith}
 use Rattle.qpack_spec.specs.Huffman.{bits_of_bytes}
 use Rattle.qpack_spec.proofs.Bits.{bytes_length}
-use Rattle.qpack_base.specs.Payloads.{bits_ahead}
-use Rattle.qpack_base.proofs.CodeRoom.{five_bits, room_for_one, room_behind}
-use Rattle.qpack_base.proofs.HighBits.{high_of}
-use Rattle.qpack_base.proofs.WholeCodes.{short_begins, nothing_passed, one_passed}
+use Rattle.qpack_base.specs.Payloads.{bits_ahead, PassesCodes}
+use Rattle.qpack_base.proofs.WholeCodes.{nothing_passed, passes_on}
 use Rattle.qpack_base.proofs.prefix_string.ahead.push_codes.Goals as goal
 
-pub loop-ahead-init : goal.loop-ahead-init
-loop-ahead-init g c = record {
+pub loop-left-init : goal.loop-left-init
+loop-left-init g c = record {
   ahead = c.new-ahead.ensures.ahead;
-  room = omega (
+  fits = omega (
     arith,
     ap (λ (l : List ℕ). length l) c.new-ahead.ensures.left,
     bytes_length c.args.payload.now,
@@ -23,80 +20,19 @@ loop-ahead-init g c = record {
   capacity = refl;
 }
 
-pub push_reserved-requires : goal.push_reserved-requires
-push_reserved-requires g c =
-    let a = c.load-ahead.result in
-    let few = c.load-ahead.ensures.ahead.few in
-    let high = high_of a.loaded a.count (omega arith) (omega arith) c.load-ahead.ensures.ahead.zeros in
-    let code = short_begins a.loaded a.count _ c.from-bits.result _ high few (omega arith) c.short_codes.ensures
-    c.from-bits.ensures c.if-bits-ahead.true in
-    let free = room_for_one a.count (a.loaded / 2 ^ (64 - a.count)) _ c.from-bits.result
-    (vec_capacity c.loop-ahead.text - vec_len c.loop-ahead.text) (bits_of_bytes a.rest.now)
-    (bits_ahead c.loop-ahead.ahead) code c.if-bits-ahead.true c.load-ahead.ensures.left c.loop-ahead.invariant.room in
-    omega (arith, free)
-
-pub push_reserved-requires-in-loop-ahead : goal.push_reserved-requires-in-loop-ahead
-push_reserved-requires-in-loop-ahead g c =
-    let a = c.load-ahead.result in
-    let code = c.in-Some.ensures in
-    let free = room_for_one a.count (a.loaded / 2 ^ (64 - a.count)) c.in-Some.code.byte c.in-Some.code.bits
-    (vec_capacity c.loop-ahead.text - vec_len c.loop-ahead.text) (bits_of_bytes a.rest.now)
-    (bits_ahead c.loop-ahead.ahead) code.1 code.0 c.load-ahead.ensures.left c.loop-ahead.invariant.room in
-    omega (arith, free)
-
-pub loop-ahead-preserved-then-bits-ahead : goal.loop-ahead-preserved-then-bits-ahead
-loop-ahead-preserved-then-bits-ahead g c =
-    let now = bits_ahead c.loop-ahead.ahead in
-    let a = c.load-ahead.result in
-    let few = c.load-ahead.ensures.ahead.few in
-    let left = bits_ahead c.pass-ahead.result in
-    let high = high_of a.loaded a.count (omega arith) (omega arith) c.load-ahead.ensures.ahead.zeros in
-    let code = short_begins a.loaded a.count _ c.from-bits.result _ high few (omega arith) c.short_codes.ensures
-    c.from-bits.ensures c.if-bits-ahead.true in
-    let free = room_for_one a.count (a.loaded / 2 ^ (64 - a.count)) _ c.from-bits.result
-    (vec_capacity c.loop-ahead.text - vec_len c.loop-ahead.text) (bits_of_bytes a.rest.now) now code
-    c.if-bits-ahead.true c.load-ahead.ensures.left c.loop-ahead.invariant.room in
-    let front = sym c.load-ahead.ensures.left ∙ c.pass-ahead.ensures.left
-    ∙ ap (λ (l : List ℕ). l ++ left) (sym (code.is c.if-bits-ahead.true)) in record {
-      ahead = c.pass-ahead.ensures.ahead;
-      room = room_behind c.from-bits.result
-          (a.loaded / 2 ^ (64 - a.count) / 2 ^ (a.count - c.from-bits.result))
-          (vec_capacity c.loop-ahead.text - vec_len c.loop-ahead.text) _ left now
-          (five_bits a.count (a.loaded / 2 ^ (64 - a.count)) _ c.from-bits.result code c.if-bits-ahead.true)
-          (sym c.load-ahead.ensures.left ∙ c.pass-ahead.ensures.left) c.loop-ahead.invariant.room
-          (omega (arith, c.push_reserved.ensures.len, c.push_reserved.ensures.capacity, free));
-      passes = one_passed (bits_of_bytes c.args.payload.now) now left c.args.text.items c.loop-ahead.text.items
-          c.push_reserved.new.self.items _ c.loop-ahead.invariant.passes (code.byte_is c.if-bits-ahead.true) front
-          c.push_reserved.ensures.items;
-      len = omega (arith, c.push_reserved.ensures.len, c.loop-ahead.invariant.len);
-      capacity = c.push_reserved.ensures.capacity ∙ c.loop-ahead.invariant.capacity;
-    }
-
-pub loop-ahead-preserved : goal.loop-ahead-preserved
-loop-ahead-preserved g c =
-    let now = bits_ahead c.loop-ahead.ahead in
-    let pass = c.pass-ahead-in-loop-ahead in
-    let push = c.push_reserved-in-loop-ahead in
-    let left = bits_ahead pass.result in
-    let code = c.in-Some.ensures in
-    let a = c.load-ahead.result in
-    let free = room_for_one a.count (a.loaded / 2 ^ (64 - a.count)) c.in-Some.code.byte c.in-Some.code.bits
-    (vec_capacity c.loop-ahead.text - vec_len c.loop-ahead.text) (bits_of_bytes a.rest.now) now code.1 code.0
-    c.load-ahead.ensures.left c.loop-ahead.invariant.room in
-    let front = sym c.load-ahead.ensures.left ∙ pass.ensures.left
-    ∙ ap (λ (l : List ℕ). l ++ left) (sym (code.1.is code.0)) in record {
-      ahead = pass.ensures.ahead;
-      room = room_behind c.in-Some.code.bits
-          (c.load-ahead.result.loaded / 2 ^ (64 - c.load-ahead.result.count)
-          / 2 ^ (c.load-ahead.result.count - c.in-Some.code.bits))
-          (vec_capacity c.loop-ahead.text - vec_len c.loop-ahead.text) _ left now
-          (five_bits c.load-ahead.result.count (c.load-ahead.result.loaded / 2 ^ (64 - c.load-ahead.result.count))
-          c.in-Some.code.byte c.in-Some.code.bits code.1 code.0)
-          (sym c.load-ahead.ensures.left ∙ pass.ensures.left) c.loop-ahead.invariant.room
-          (omega (arith, push.ensures.len, push.ensures.capacity, free));
-      passes = one_passed (bits_of_bytes c.args.payload.now) now left c.args.text.items c.loop-ahead.text.items
-          push.new.self.items c.in-Some.code.byte c.loop-ahead.invariant.passes (code.1.byte_is code.0) front
-          push.ensures.items;
-      len = omega (arith, push.ensures.len, c.loop-ahead.invariant.len);
-      capacity = push.ensures.capacity ∙ c.loop-ahead.invariant.capacity;
+pub loop-left-preserved : goal.loop-left-preserved
+loop-left-preserved g c =
+    let all = bits_of_bytes c.args.payload.now in
+    let loaded = bits_ahead c.load-ahead.result in
+    let left = c.in-Some.left in
+    let items = c.args.text.items in
+    let before = c.loop-left.text.items in
+    let pushes = c.in-Some.ensures in
+    let passed = subst (λ (l : List ℕ). PassesCodes all l items before) (sym c.load-ahead.ensures.left)
+    c.loop-left.invariant.passes in record {
+      ahead = pushes.ahead;
+      fits = pushes.fits;
+      passes = passes_on all loaded (bits_ahead left) items before c.push_next.new.text.items passed pushes.passes;
+      len = omega (arith, pushes.len, c.loop-left.invariant.len);
+      capacity = pushes.capacity ∙ c.loop-left.invariant.capacity;
     }

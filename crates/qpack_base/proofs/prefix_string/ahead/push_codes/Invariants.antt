@@ -1,16 +1,16 @@
-use Rattle.std.proofs.Common.{◌≡◌, ◌+◌, ◌-◌, ◌*◌, ◌≤◌, length, vec_len, vec_capacity}
+use Rattle.std.proofs.Common.{◌≡◌, ◌-◌, ◌≤◌, vec_len, vec_capacity}
 use Rattle.qpack_spec.specs.Huffman.{bits_of_bytes}
-use Rattle.qpack_base.specs.Payloads.{bits_ahead, IsAhead, PassesCodes}
+use Rattle.qpack_base.specs.Payloads.{bits_ahead, IsAhead, FitsAhead, PassesCodes}
 use Rattle.qpack_base.proofs.prefix_string.ahead.push_codes.Given as goal
 
-abbrev pub invariant-loop-ahead : goal.invariant-loop-ahead
-invariant-loop-ahead g l = record {
+abbrev pub invariant-loop-left : goal.invariant-loop-left
+invariant-loop-left g l = record {
   ahead : IsAhead l.ahead;
-  room : length (bits_ahead l.ahead) ≤ 5 * (vec_capacity l.text - vec_len l.text) + 4;
+  fits : FitsAhead l.ahead l.text;
   passes : PassesCodes (bits_of_bytes l.payload) (bits_ahead l.ahead) l.fn.text.items l.text.items;
   len : vec_len l.fn.text ≤ vec_len l.text;
   capacity : vec_capacity l.text ≡ vec_capacity l.fn.text;
 }
 
-abbrev pub decreases-loop-ahead : goal.decreases-loop-ahead
-decreases-loop-ahead g l = vec_capacity l.text - vec_len l.text
+abbrev pub decreases-loop-left : goal.decreases-loop-left
+decreases-loop-left g l = vec_capacity l.text - vec_len l.text
