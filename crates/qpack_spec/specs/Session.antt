@@ -357,7 +357,7 @@ pub record DeliversToEncoder (v : Session) (n : ℕ) (o : Outcome) (v' : Session
       (drop v.decoder_stream_taken (take (v.decoder_stream_delivered + n) v.decoder_stream))
       (λ front rest. EndsAtEncoder v n table front rest o v')
 
--- an event refused for memory, where it leaves everything as it was
+-- an event refused for memory, if it leaves everything as it was
 abbrev pub LeavesAll : Session → Outcome → Session → Type 0
 LeavesAll v o v' = (o ≡ NoMemory) × (v' ≡ v)
 

@@ -41,7 +41,7 @@ IsOutside v (Acknowledge s) reason = IsOutsideOn v s (HasUnacknowledged (stream_
 IsOutside v (Cancel s) reason = IsOutsideOn v s (Unit {0}) 0 reason
 IsOutside v (ChangeCapacity n) reason = ⊥
 
--- an event is skipped exactly where it is outside a lawful session, for that reason
+-- an event is skipped exactly if it is outside a lawful session, for that reason
 abbrev pub EventsAreSkippedExactly : Type 0
 EventsAreSkippedExactly =
     (v : Session) (e : Event) (reason : ℕ) → (skip_reason v e ≡ Some reason) ↔ IsOutside v e reason

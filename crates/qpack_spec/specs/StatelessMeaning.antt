@@ -96,8 +96,8 @@ AgreesWithoutTable bytes (Err (BadSection e)) r = r ≡ Faulty e
 AgreesWithoutTable bytes (Err NamesEntry) r = (e : Fault) × (r ≡ Faulty e) × NamesNoEntry bytes e
 AgreesWithoutTable bytes (Err (TooLong sum)) r = (required : ℕ) → r ≡ Missing required → ⊥
 
--- reading alone is reading under an empty table of capacity 0, up to the limit; and where that reads fields, they are
--- read alone, up to the limit. Neither refuses a prefix for what it says
+-- reading alone is reading under an empty table of capacity 0, up to the limit; and if that reads fields, they are read
+-- alone, up to the limit. Neither refuses a prefix for what it says
 abbrev pub StatelessIsWithoutTable : Type 0
 StatelessIsWithoutTable =
     (agreed_max : Option ℕ) → maximum_capacity agreed_max 0 ≡ 0 → (limit : ℕ) (bytes : List ℕ)

@@ -13,8 +13,8 @@ abbrev pub ReferencesWithin : ℕ → ℕ → List Line → Type 0
 ReferencesWithin required base lines = AllByRecursion (λ a. a ≤ required) (references_of base lines)
 
 -- a section of this required insert count and base, under this maximum capacity, that a strict decoder reads too: its
--- lines reference nothing past its count; where the maximum is 0 it encodes no count (section 4.5.1.1); and where it
--- requires nothing its base is not below 0 (section 4.5.1.2)
+-- lines reference nothing past its count; if the maximum is 0 it encodes no count (section 4.5.1.1); and if it requires
+-- nothing its base is not below 0 (section 4.5.1.2)
 pub record IsStrict (maximum required base : ℕ) (b : Block) : Type 0 where
   pub references : ReferencesWithin required base b.lines
   pub no_count : maximum ≡ 0 → b.prefix.count ≡ 0

@@ -173,8 +173,8 @@ put t f =
     && can_evict t (eviction_count_for t f) then Ok (with_entry t (put_entry f)) else Ok t)
     else Err DoesNotFit
 
--- another capacity (section 3.2.3): refused above the greatest one, or where an entry that is not evictable would have
--- to be evicted
+-- another capacity (section 3.2.3): refused if it is above the greatest one, or if it would evict an entry that is not
+-- evictable
 unfoldable pub with_capacity : Table → ℕ → Result Table TableRefusal
 with_capacity t n =
     let evicted = eviction_count n (fields_in t.live) in
@@ -223,8 +223,8 @@ without_oldest s (b ∷ bs) = if nat_eq b.stream s then Some bs else option_map 
 unfoldable pub without_stream : ℕ → List UnacknowledgedBlock → List UnacknowledgedBlock
 without_stream s bs = filter (λ b. not (nat_eq b.stream s)) bs
 
--- the known received count grows, held at the greatest number of 64 bits, and blocks that required less are blocked no
--- more (section 4.4.3)
+-- the known received count grows, saturating at the greatest number of 64 bits, and blocks that required less are
+-- blocked no more (section 4.4.3)
 unfoldable pub with_increment : Table → ℕ → Table
 with_increment t n =
     let known_received_count =

@@ -13,8 +13,8 @@ pub data StringFault : Type 0 where
   LengthOverflows : StringFault
   BadHuffman : (fault : HuffmanFault) → StringFault
 
--- The length of the payload, with a prefix one bit shorter, whose lowest flag is `huffman` (1 where the payload
--- is coded) and whose other flags are `flags`; and then the payload.
+-- The length of the payload, with a prefix one bit shorter, whose lowest flag is `huffman` (1 if the payload is coded)
+-- and whose other flags are `flags`; and then the payload.
 pub record IsLiteral (n : ℕ) (encoding : List ℕ) (flags huffman : ℕ) (payload : List ℕ) : Type 0 where
   pub head : List ℕ
   pub parts : encoding ≡ head ++ payload
