@@ -77,8 +77,8 @@ pub record AreMapped (bs : List BlockedStream) (m : BTreeMap ℕ ℕ) : Type 0 w
 abbrev pub MayBlockAmong : ℕ → ℕ → ℕ → List BlockedStream → Type 0
 MayBlockAmong inserted most stream bs = is_blocked inserted stream bs ≡ false → blocked_among inserted bs < most
 
--- a stream comes to be blocked, where it may; it is one too many; or memory is refused, where it may be blocked and is not
--- counted yet with what its section requires. Unless it comes to be blocked, nothing changes
+-- a stream becomes blocked, if it may; it is one too many; or memory is refused, if it may be blocked and does not yet
+-- count with what its section requires. Unless it becomes blocked, nothing changes
 abbrev pub Blocks : List BlockedStream → List BlockedStream → BlockedStream → ℕ → ℕ → Result ⊤ NotBlocked → Type 0
 Blocks old new b inserted most (Ok done) =
     (new ≡ with_blocked b old) × MayBlockAmong inserted most b.stream old

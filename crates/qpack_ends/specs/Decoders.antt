@@ -149,7 +149,7 @@ abbrev pub blocked_behind : ℕ → ℕ → DecodingEnd → DecodingEnd
 blocked_behind stream required d =
     record d { blocked = with_blocked (record { stream = stream; required = required }) d.blocked }
 
--- why a stream was not counted as blocked: it would be one too many; or memory was refused, where it may be blocked
+-- why a stream was not counted as blocked: it would be one too many; or memory was refused, if it may be blocked
 abbrev pub StopsBlocking : DecodingEnd → DecodingEnd → BlockedStream → DecodingError → Type 0
 StopsBlocking old new b (TooManyBlocked s) =
     (s ≡ b.stream) × IsOneTooMany old b.stream × (new ≡ refused (TooManyBlocked b.stream) old)

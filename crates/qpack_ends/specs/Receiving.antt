@@ -109,8 +109,8 @@ stream_code_of Memory = None
 abbrev pub IsShort : Table → List ℕ → Type 0
 IsShort t pending = length pending < 4 * t.capacity + 10
 
--- a stream that is received: the bytes that wait; how many of them there must be before they are read again, 0 where
--- they are read in any case; and the place of the first instruction that was not taken
+-- a stream that is received: the bytes that wait; how many of them there must be before they are read again, 0 if they
+-- are read in any case; and the place of the first instruction that was not taken
 pub record StreamView : Type 0 where
   pub pending : List ℕ
   pub wanted : ℕ

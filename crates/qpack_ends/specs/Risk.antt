@@ -29,7 +29,7 @@ streams_at_risk t =
 abbrev pub with_limit : ℕ → Table → Table
 with_limit n t = record t { limit = n }
 
--- its limit while a section is written: as many as it keeps where the stream may be blocked, else none
+-- its limit while a section is written: as many as it keeps if the stream may be blocked, else none
 abbrev pub limit_for : Bool → ℕ
 limit_for may = if may then 4096 else 0
 

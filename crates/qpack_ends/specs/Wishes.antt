@@ -16,7 +16,7 @@ use Rattle.qpack_ends.specs.declared.encoder.EncodingError.{EncodingError}
 use Rattle.qpack_ends.specs.Encoders.{EncodingEnd, begun, is_full, may_block}
 use Rattle.qpack_ends.specs.Risk.{with_limit, limit_for}
 
--- a field is inserted: its line references the new entry where one more section may be blocked and there is room; where no
+-- a field is inserted: its line references the new entry if one more section may be blocked and there is room; if no
 -- more may be blocked, it is inserted without a reference (sections 2.1.1 and 2.1.2)
 pub record InsertsField (t : Table) (f : Field) (c : Chosen) : Type 0 where
   pub referenced : (below_limit t && has_room t f) ≡ true → c.line ≡ Inserts
@@ -27,7 +27,7 @@ pub record InsertsNothing (c : Chosen) : Type 0 where
   pub line : c.line ≡ Inserts → ⊥
   pub unreferenced : c.unreferenced ≡ false
 
--- what the word asks of the choice of a chooser, where the newest equal entry is this
+-- what the wish asks of the choice of a chooser, if the newest equal entry is this
 abbrev pub KeepsWish : Table → Field → Wish → Option ℕ → choices.Choice → Type 0
 KeepsWish t f Insert None c =
     ((below_limit t && has_room t f) ≡ true → c ≡ Inserted) × (below_limit t ≡ false → inserts_after c ≡ true)
@@ -60,7 +60,8 @@ SuitAlong base d (l ∷ ls) (w ∷ ws) (c ∷ cs) =
     SuitsField d.table l w c × SuitAlong base (chosen_field base d l c) ls ws cs
 SuitAlong base d ls ws cs = ⊥
 
--- where sections may wait, the section was written under choices that suit the caller's words; at capacity 0 there is nothing to choose
+-- if sections may wait, the section was written under choices that suit the caller's wishes; at capacity 0 there is
+-- nothing to choose
 pub record KeepsWishes (d new : EncodingEnd) (stream : ℕ) (fields : List FieldLine) (wishes : List Wish)
     (before after : List ℕ) (required : ℕ) : Type 0 where
   pub section : EncodesChosen stream fields d.table new.table before after d.unsent new.unsent required

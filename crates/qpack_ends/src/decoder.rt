@@ -37,7 +37,7 @@ pub struct DecoderSettings {
     pub max_section_size: u64,
 }
 
-/// Why settings are refused.
+/// Why settings are rejected.
 #[derive(Clone, Copy, Debug, PartialEq, Eq, Drop, Error)]
 pub enum SettingsError {
     /// The maximum capacity is 2^30 bytes or more.
@@ -51,7 +51,7 @@ pub enum SettingsError {
 /// Why a call of a decoding end did not do what it was asked for.
 #[derive(Clone, Copy, Debug, PartialEq, Drop, Error)]
 pub enum DecodingError {
-    /// The encoder stream is refused at an instruction.
+    /// The encoder stream is rejected at an instruction.
     #[error("encoder stream: in instruction {} at offset {}: {error}", .place.number, .place.offset)]
     EncoderStream {
         /// Where the instruction is on the stream.
@@ -81,7 +81,7 @@ pub enum DecodingError {
 /// The least number that no stream has (RFC 9000, section 2.1).
 pub(crate) const STREAMS: u64 = 1 << 62;
 
-/// The least limit of blocked streams that is refused.
+/// The least limit of blocked streams that is rejected.
 const BLOCKED_LIMITS: usize = 65_535;
 
 impl DecodingError {
@@ -262,11 +262,11 @@ impl ConnectionDecoder {
     ) -> Result<Reading, DecodingError>
         ensures decodes { Decodes self.old self.new stream
             (strict_reading (window self.old.table) self.old.settings.max_section_size section.now) fields.new.fields result }
-        // Memory is refused only where the section asks for it, where the stream may come to be blocked and is not counted
-        // with this count, or where an acknowledgment is written.
+        // Memory is refused only if the section asks for it, if the stream may become blocked and is not counted with
+        // this count, or if an acknowledgment is written.
         ensures memory { result ≡ Err Memory → AsksToDecode self.old stream section.now }
         ensures room { IsRoomWithin self.old.settings.max_section_size fields.old fields.new }
-        // Memory is given back only where a section is refused, and only what one within the limit can't use.
+        // Memory is given back only if a section is rejected, and only what one within the limit can't use.
         ensures kept { OnOk result (GrowsWithin self.old.settings.max_section_size fields.old fields.new) }
     {
         fields.clear();
@@ -278,9 +278,9 @@ impl ConnectionDecoder {
         reading
     }
 
-    /// Reading of a stream is given up, or it was reset: what is blocked of it is forgotten, and a cancellation is
-    /// written, unless the maximum capacity is 0 (RFC 9204, section 2.2.2.2). It may be called for any stream. Refused,
-    /// nothing changes.
+    /// Cancels a stream. Call this when a stream is reset or you stop reading it. The stream is no longer blocked, and
+    /// a cancellation is written, unless the maximum capacity is 0 (RFC 9204, section 2.2.2.2). You may call it for any
+    /// stream. On error nothing changes.
     pub fn cancel(&mut self, stream: u64) -> Result<(), DecodingError>
         ensures { Cancels self.old self.new stream result }
     {
@@ -305,7 +305,8 @@ impl ConnectionDecoder {
             → ReceivesBytes start before self.old self.new buf.old.rest buf.new.rest result }
         ensures ended { IfSome self.old.failure
             (λ e. (result ≡ Err e) × (self.new ≡ self.old) × (buf.new.rest ≡ buf.old.rest)) }
-        // Memory is refused only where insertions are to be reported, for an instruction, or for bytes that are left.
+        // Memory is refused only for insertions that are to be reported, for an instruction, or for bytes that are
+        // left.
         ensures memory { result ≡ Err Memory → AsksForBytes self.new buf.new.rest }
         ensures total { buf.new.total ≡ buf.old.total }
     {

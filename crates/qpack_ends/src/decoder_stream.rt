@@ -20,7 +20,7 @@ mod pending;
 /// QPACK_DECODER_STREAM_ERROR: the decoder stream can't be interpreted (RFC 9204, section 6).
 pub const DECODER_STREAM_ERROR: u64 = 0x202;
 
-/// Why a decoder instruction is refused.
+/// Why a decoder instruction is rejected.
 #[derive(Clone, Copy, Debug, PartialEq, Drop, Error)]
 pub enum HearingError {
     /// Its integer is too large (RFC 9204, section 4.1.1).
@@ -38,7 +38,7 @@ pub enum HearingError {
     UnknownStream(u64),
 }
 
-/// Why the decoder stream is refused, and where.
+/// Why the decoder stream is rejected, and where.
 #[derive(Clone, Copy, Debug, PartialEq, Drop, Error)]
 #[error("in instruction {} at offset {}: {error}", .place.number, .place.offset)]
 pub struct DecoderStreamError {

@@ -46,7 +46,7 @@ pub const DEFAULT_UNACKNOWLEDGED: usize = 100;
 /// How many sections the table counts that may be blocked, cancelled ones among them.
 const MOST_BLOCKED: usize = 4_096;
 
-/// The least maximum capacity that is refused, in bytes.
+/// The least maximum capacity that is rejected, in bytes.
 const CAPACITIES: usize = 1 << 30;
 
 /// The settings that the peer sent (RFC 9204, section 5), and this end's choices for its table.
@@ -118,7 +118,7 @@ impl EncoderSettings {
 /// Why a call of an encoding end did not do what it was asked for.
 #[derive(Clone, Copy, Debug, PartialEq, Drop, Error)]
 pub enum EncodingError {
-    /// The decoder stream is refused at an instruction, which ends the connection (RFC 9204, section 4.4).
+    /// The decoder stream is rejected at an instruction, which ends the connection (RFC 9204, section 4.4).
     #[error("decoder stream: {0}")]
     DecoderStream(DecoderStreamError),
     /// The capacity is above the maximum capacity of the peer (RFC 9204, section 3.2.3); nothing was done.
@@ -318,10 +318,10 @@ impl ConnectionEncoder {
     ///
     /// # Errors
     ///
-    /// In this order: the error that ended the connection, if one did; `LimitLowered` for a limit of blocked streams
-    /// below the one that this end has; `MaximumChanged` for another maximum, where this end has one above 0. The last
-    /// two end the connection. `MaximumTooLarge` is of a new maximum of 2^30 bytes or more: nothing changes, and the
-    /// encoder goes on without a table.
+    /// Fails, checking in this order, after an error that ended the connection, with that error; with `LimitLowered` if
+    /// the limit of blocked streams is below the one that this end has; and with `MaximumChanged` if the maximum
+    /// differs and this end has one above 0. The last two end the connection. Fails with `MaximumTooLarge` if a new
+    /// maximum is 2^30 bytes or more: nothing changes, and the encoder goes on without a table.
     pub fn set_peer_settings(
         &mut self,
         max_capacity: usize,
@@ -373,8 +373,8 @@ impl ConnectionEncoder {
     /// A field that the static table has is one byte or two. Of the others, the table keeps those that come again: a
     /// new field is inserted while a quarter of the capacity is free, when it comes a second time, or for a name that
     /// no table has. The oldest entries that are still used are inserted again, so that the others can be evicted
-    /// (section 2.1.1.1). Where no more sections may be blocked, a field is inserted without a reference (section
-    /// 2.1.2). `AsField::wish` has the caller's word, which goes first: insert this field, or insert nothing for it.
+    /// (section 2.1.1.1). If no more sections may be blocked, a field is inserted without a reference (section 2.1.2).
+    /// The caller's `AsField::wish` comes first: insert this field, or insert nothing for it.
     ///
     /// A field that is never to be indexed becomes a literal with that mark, by the name of a static field or of an
     /// entry. It is neither inserted nor compared with the values of entries (section 7.1.3). Only inserted fields are
@@ -572,8 +572,9 @@ fn encode_alone<A: Allocator, H: AsField>(
     }
 }
 
-/// Appends a section of a stream, which may be blocked or not, and its instructions. Where it may not be, the table lets
-/// none be while the section is written, so that it requires nothing that is not known to be received.
+/// Appends a section of a stream, which may be blocked or not, and its instructions. If it may not be, the table
+/// permits no blocked block while the section is written, so that the section requires nothing that is not known to be
+/// received.
 fn write_section<A: Allocator, H: AsField>(
     table: &mut EncoderTable,
     stream: u64,

@@ -31,7 +31,7 @@ impl Draining {
         entry <= self.newest
     }
 
-    /// Takes up which entries drain where a section begins.
+    /// Notes which entries drain when a section begins.
     pub(super) fn advance(&mut self, block: &DynamicTableEncoder<'_>) {
         self.count(block);
         let most = self.capacity - self.capacity / 4;
