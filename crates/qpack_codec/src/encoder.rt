@@ -83,9 +83,9 @@ impl Encoder {
     /// cancellation every one, and an increment raises the known received count. It leaves a truncated rest at the
     /// cursor; pass that rest again with the bytes that follow it. It takes no memory.
     ///
-    /// An instruction may be refused: its bytes (`InvalidInteger`), or an acknowledgment of a stream that has no
-    /// unacknowledged block (`Insertion(UnknownStreamId)`; then, and only then, the cursor is moved past it). Those
-    /// before it stay applied.
+    /// Rejects malformed bytes (`InvalidInteger`), and an acknowledgment of a stream that has no unacknowledged block
+    /// (`Insertion(UnknownStreamId)`; the cursor moves past it then, and in no other case). The instructions before it
+    /// stay applied.
     pub fn on_decoder_recv(&mut self, buf: &mut Cursor) -> Result<(), EncoderError>
         ensures hears { Hears self.old self.new buf.old.rest buf.new.rest result }
         ensures total { buf.new.total ≡ buf.old.total }

@@ -22,7 +22,7 @@ pub enum Wish {
     Never,
     /// What is in the table is referenced. The field is not inserted.
     Reuse,
-    /// The field is inserted where there is room.
+    /// The field is inserted if there is room.
     Insert,
 }
 
