@@ -143,7 +143,7 @@ abbrev pub LooksUp : Result (Bor HeaderField) Error → Result Field Fault → T
 LooksUp (Ok field) read = read ≡ Ok (field_of field.now)
 LooksUp (Err e) read = IsRefusedFor read (lookup_fault_of e)
 
--- the table is what the definition makes of it, or as before where that is refused
+-- the table is what the definition makes of it, or unchanged if that is refused
 abbrev pub Changes : Result ⊤ Error → Result table.Table TableRefusal → table.Table → table.Table → Type 0
 Changes (Ok done) read old new = read ≡ Ok new
 Changes (Err e) read old new = IsRefusedFor read (refusal_of e) × (new ≡ old)

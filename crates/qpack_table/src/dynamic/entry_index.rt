@@ -1,4 +1,4 @@
-//! What a table keeps beside its entries to find one by its field: an index, or nothing where it is never asked.
+//! What a table keeps beside its entries to find one by its field: an index, or nothing if it is never used.
 
 ghost use Rattle.std.specs.Prelude.{◌≡◌, ℕ, ◌+◌, ◌^◌, ◌<◌, ◌≤◌, ⊤, List, [], ◌∷◌, ◌++◌, OnOk, length, drop};
 ghost use Rattle.qpack_base.specs.HeaderFields.{field_of, line_of};
@@ -16,7 +16,7 @@ use std::collections::VecDeque;
 /// What is kept beside the entries of a [`DynamicTable`](crate::dynamic::DynamicTable), as a map is over its hasher:
 /// [`Index`], by which an encoder finds them, or [`NoIndex`].
 pub trait EntryIndex: Drop {
-    /// What is known of a field where its entry comes in.
+    /// What is known of a field when its entry is added.
     type Key: Copy;
 
     // The live entries are in; this many were dropped before the first of them.

@@ -109,8 +109,8 @@ impl DynamicTable {
         Ok(())
     }
 
-    /// Inserts a field that an encoder sends, which has such hashes, and the block in progress references it. Refused,
-    /// which is for memory alone, nothing changes.
+    /// Inserts a field that an encoder sends, which has these hashes, and references it in the block in progress. On
+    /// error, which is for memory only, nothing changes.
     #[inline(always)]
     pub(super) fn insert_sent(
         &mut self,
@@ -432,8 +432,8 @@ impl<I: EntryIndex> DynamicTable<I> {
         self.capacities.maximum()
     }
 
-    /// Agrees on a maximum capacity in bytes, before anything is inserted; a capacity above it is not set any more
-    /// (RFC 9204, section 3.2.3). It is refused from 2^30 on, and takes no memory. On error nothing changes.
+    /// Agrees on a maximum capacity in bytes, before anything is inserted; from then on no capacity above it is set
+    /// (RFC 9204, section 3.2.3). Fails if the maximum is 2^30 or more. It takes no memory. On error nothing changes.
     pub fn set_agreed_max(&mut self, max: usize) -> Result<(), Error>
         requires empty { insert_count self.old ≡ 0 }
         requires most { self.old.capacity ≤ max }
@@ -447,9 +447,9 @@ impl<I: EntryIndex> DynamicTable<I> {
         Ok(())
     }
 
-    /// Sets the capacity in bytes: what doesn't fit goes, the oldest first (RFC 9204, section 3.2.3). It is
-    /// refused above the maximum capacity and from 2^30 on, and where an entry that is not evictable would have to be
-    /// evicted. On error nothing changes.
+    /// Sets the capacity in bytes, and evicts entries that no longer fit, the oldest first (RFC 9204, section 3.2.3).
+    /// Fails if the capacity is above the maximum or is 2^30 or more, and if it would evict an entry that is not
+    /// evictable. On error nothing changes.
     pub fn set_max_size(&mut self, size: usize) -> Result<(), Error>
         ensures { Changes result (with_capacity self.old size) self.old self.new }
     {
