@@ -69,7 +69,7 @@ TellsRefusal refuses old r =
     → (is_cut_kind fault ≡ false → Fails r fault → Begins (λ encoding. refuses encoding fault) old.rest)
     × (Begins (λ encoding. refuses encoding fault) old.rest → Fails r fault ⊎ (r ≡ Err Memory))
 
--- an early end exactly where the bytes are truncated, unless memory is refused
+-- an early end exactly if the bytes are truncated, unless memory is refused
 abbrev pub TellsEnd : {V L : Type 0} → (List ℕ → L → Type 0) → (List ℕ → KindFault → Type 0) → CursorView
     → Result V ParseError → Type 0
 TellsEnd spells refuses old r =
