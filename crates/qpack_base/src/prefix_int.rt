@@ -96,9 +96,8 @@ fn read_groups(buf: &mut Cursor) -> Result<u64, Error>
     Err(Error::Overflow)
 }
 
-/// Appends the shortest spelling of the value with a prefix of `size` bits, under the flags, which are
-/// cut to the bits above the prefix. On error the vector is as before; with free room for the
-/// spelling it succeeds and takes no memory.
+/// Appends the shortest spelling of the value with a prefix of `size` bits, under the flags, which are cut to the bits
+/// above the prefix. On error the vector is unchanged; with free room for the spelling it succeeds and takes no memory.
 #[inline(always)]
 pub fn encode<A: Allocator>(
     size: u8,
