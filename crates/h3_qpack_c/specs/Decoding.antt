@@ -60,8 +60,8 @@ told_of_decoding (Ok (Blocked required)) fields =
     record { status = blocked; fields = 0; len = 0; required = required; number = 0; offset = 0 }
 told_of_decoding (Err e) fields = told_of_refusal e
 
--- a section is decoded as the end does it, and its fields are kept; where there are none, none are. Memory is kept for no
--- more fields than before, or than a section within the limit can have
+-- a section is decoded as the end does it, and its fields are kept; if there are none, none are kept. Memory is kept
+-- for no more fields than before, or than a section within the limit can have
 pub record DecodesTo (old new : State) (stream : ℕ) (bytes : List ℕ) (told : Decoding) : Type 0 where
   pub answer : Result Reading DecodingError
   pub decodes : Decodes old.end new.end stream

@@ -235,7 +235,7 @@ fn read(state: &mut State, bytes: &[u8]) -> Received
     )
 }
 
-/// Returns how many bytes a call took: all if it refused the stream, and otherwise those that are not left.
+/// Returns how many bytes a call consumed: all if it rejected the stream, and otherwise those that are not left.
 fn taken(
     ended: Option<DecodingError>,
     answer: &Result<usize, DecodingError>,
