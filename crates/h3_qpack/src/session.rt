@@ -120,7 +120,7 @@ impl Session {
     /// capacity is 2^30 or more, then with `MaxBlockedStreamsTooLarge` if the limit is 65,535 or more. It takes no
     /// memory. `with_maximum` begins below the maximum capacity.
     pub fn new(alloc: Global, capacity: usize, limit: usize) -> Result<Session, dynamic::Error>
-        // It begins as the definition begins, or is refused as that is.
+        // It begins as the definition does, or fails as that does.
         ensures begins { Begins result (begin_session capacity capacity limit) }
         // And no events lead to it.
         ensures reaches { IfOk result
@@ -140,7 +140,7 @@ impl Session {
         maximum: usize,
         limit: usize,
     ) -> Result<Session, dynamic::Error>
-        // It begins as the definition begins, or is refused as that is.
+        // It begins as the definition does, or fails as that does.
         ensures begins { Begins result (begin_session capacity maximum limit) }
         // And no events lead to it.
         ensures reaches { IfOk result
