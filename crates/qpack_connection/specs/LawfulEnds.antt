@@ -136,7 +136,7 @@ pub record IsLawfulStill (maximum : ℕ) (made : History) (k : Section) (b : Una
 
 -- all that was written is lawful for each decoding end of a peer (sections 2.1.1 and 2.1.2): the encoder stream,
 -- however much of it has come; each section that waits, which are those that the table has; and for each section under
--- way the limit of blocked streams, where those that wait at the decoder are under way too
+-- way the limit of blocked streams, if those that wait at the decoder are under way too
 pub record KeepsToTheStandard (settings : EncoderSettings) (w : Writer) : Type 0 where
   pub instructions : List EncoderInstruction
   pub made : History

@@ -120,7 +120,7 @@ pub enum Outcome {
 /// Why a run was not done.
 #[derive(Clone, Copy, Debug, PartialEq, Eq, Drop, Error)]
 pub enum RunError {
-    /// The settings are refused.
+    /// The settings are rejected.
     #[error("{0}")]
     Settings(SettingsError),
     /// There was no memory for the outcomes of the events.
