@@ -174,7 +174,7 @@ run_of (word ∷ words) =
 
 -- ---- words of `show` and `check`
 
--- what they say where there are none
+-- what they say if there are none
 abbrev pub connection_words : Bool → ConnectionWords
 connection_words is_check =
     record {
@@ -201,7 +201,7 @@ with_connection_option w word =
     else if bytes_eq word (codes "--table") && not w.is_check then Ok (record w { table = true })
     else Err (BadWord (topic_for w.is_check) wanted.Option word)
 
--- a word more, which is a number where one is expected
+-- one more word, which is a number if one is expected
 abbrev pub with_expected : Expected → ConnectionWords → List ℕ → Result ConnectionWords WordsFault
 with_expected expected.MaxCapacity w word =
     read_number (topic_for w.is_check) word >>= λ n. Ok (record w { max_capacity = n; expected = expected.None })
@@ -217,7 +217,7 @@ abbrev pub with_connection_words : ConnectionWords → List (List ℕ) → Resul
 with_connection_words w [] = Ok w
 with_connection_words w (word ∷ words) = with_connection_word w word >>= λ v. with_connection_words v words
 
--- the command, where no number is missing
+-- the command, if no number is missing
 abbrev pub finished_with : Expected → ConnectionWords → Result Command WordsFault
 finished_with expected.MaxCapacity w = Err (MissingWord (topic_for w.is_check) wanted.MaxCapacity)
 finished_with expected.MaxBlocked w = Err (MissingWord (topic_for w.is_check) wanted.MaxBlocked)
@@ -251,7 +251,7 @@ connection_of is_check (word ∷ words) =
 
 -- ---- words of `explain`
 
--- what they say where there are none
+-- what they say if there are none
 abbrev pub explain_words : ExplainWords
 explain_words =
     record { kind = kind.Section; max_capacity = 4096; expects_capacity = false; has_bytes = false }
@@ -273,7 +273,7 @@ abbrev pub with_explain_words : ExplainWords → List (List ℕ) → Result Expl
 with_explain_words w [] = Ok w
 with_explain_words w (word ∷ words) = with_explain_word w word >>= λ v. with_explain_words v words
 
--- the command, where no number is missing
+-- the command, if no number is missing
 abbrev pub finished_explain : ExplainWords → Result Command WordsFault
 finished_explain w =
     if w.expects_capacity then Err (MissingWord topic.Explain wanted.MaxCapacity)

@@ -133,7 +133,7 @@ MayFind (ExplainWords options) found = Unit {0}
 MayFind (ExplainInput options) found = Unit {0}
 MayFind command found = found ≡ false
 
--- the status where something was refused or found
+-- the status if something was refused or found
 abbrev pub TellsFound : Command → ℕ → Type 0
 TellsFound (Show options) status = status ≡ 2
 TellsFound (Check options) status = status ≡ 1

@@ -279,7 +279,7 @@ fn help(alloc: Global, topic: Topic) -> Result<String, AllocError>
     Ok(text)
 }
 
-/// Returns an output that may have something refused or found.
+/// Returns an output in which something may be rejected or found.
 fn viewed(view: View) -> Output
     ensures { result.refused ≡ None }
 {
