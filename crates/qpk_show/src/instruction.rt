@@ -19,7 +19,7 @@ use qpack_wire::stream::{
 };
 
 /// Applies an instruction to the table, and gives the field that it inserts, if it inserts one. At capacity 0 no
-/// insertion is lawful (RFC 9204, section 3.2.2). On error the table is as before; for memory, it is unspecified.
+/// insertion is lawful (RFC 9204, section 3.2.2). On error the table is unchanged; for memory, it is unspecified.
 #[tactic(auto, unfolding(qpack_spec::specs::StrictInstructions::strict_apply))]
 pub fn apply_instruction(
     table: &mut ReceivedTable,

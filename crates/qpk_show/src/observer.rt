@@ -237,7 +237,7 @@ impl Observer {
         self.show_read(index, arrived, reading)
     }
 
-    /// Notes that a section with a required insert count is to be acknowledged, where it was not tried before.
+    /// Notes that a section with a required insert count is to be acknowledged, if it was not tried before.
     fn note(&mut self, arrived: &Arrived, reading: &Reading) -> Result<(), AllocError>
         ensures { (r : ReadingOf) → IsReading reading.now r
             → OnOk result (self.new ≡ noted self.old arrived.now (required_of r)) }
@@ -400,7 +400,7 @@ fn drop_stream(arrived: &mut Vec<Arrived>, stream: u64)
     arrived.retain(|a| a.stream != stream);
 }
 
-/// Bytes that are no encoder instruction, unless memory was refused.
+/// Returns bytes that are no encoder instruction, or out of memory.
 fn no_encoder_instruction(offset: usize, error: ParseError) -> Result<Option<Shown>, NoMemory>
     ensures { result ≡ no_encoder_instruction offset error }
 {
@@ -410,7 +410,7 @@ fn no_encoder_instruction(offset: usize, error: ParseError) -> Result<Option<Sho
     }
 }
 
-/// Bytes that are no decoder instruction, unless memory was refused.
+/// Returns bytes that are no decoder instruction, or out of memory.
 fn no_decoder_instruction(offset: usize, error: ParseError) -> Result<Option<Shown>, NoMemory>
     ensures { result ≡ no_decoder_instruction offset error }
 {
