@@ -216,7 +216,7 @@ fn split_number<'a, 'b>(
     }
 }
 
-/// Refuses words where none should be.
+/// Rejects words if there should be none.
 fn no_more(alloc: Global, line: usize, words: &[&str]) -> Result<(), Fault> {
     match words.first() {
         None => Ok(()),
