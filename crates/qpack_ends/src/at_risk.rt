@@ -16,7 +16,7 @@ pub(crate) struct StreamsAtRisk {
 }
 
 impl StreamsAtRisk {
-    /// Returns none. Takes no memory.
+    /// Returns an empty list. Takes no memory.
     pub(crate) fn new(alloc: Global) -> StreamsAtRisk
         ensures { result.streams.items ≡ [] }
     {

@@ -48,7 +48,7 @@ pub enum SettingsError {
     BlockedTooLarge,
 }
 
-/// Why a call of a decoding end did not do what it was asked for.
+/// Why a call of a decoding end failed.
 #[derive(Clone, Copy, Debug, PartialEq, Drop, Error)]
 pub enum DecodingError {
     /// The encoder stream is rejected at an instruction.
@@ -59,7 +59,7 @@ pub enum DecodingError {
         /// Why.
         error: DecoderError,
     },
-    /// A section is refused.
+    /// A section is rejected.
     #[error("field section of stream {stream}: {error}")]
     Section {
         /// The stream that it came on.
@@ -67,18 +67,18 @@ pub enum DecodingError {
         /// Why.
         error: SectionError,
     },
-    /// With this stream more would be blocked than may be (RFC 9204, section 2.1.2).
+    /// With this stream the limit of blocked streams would be exceeded (RFC 9204, section 2.1.2).
     #[error("stream {0} would be one blocked stream too many")]
     TooManyBlocked(u64),
-    /// No stream has this number, which is 2^62 or more; nothing was done.
+    /// The stream number is invalid: it is 2^62 or more. Nothing was done.
     #[error("no stream has the number {0}")]
     NoStream(u64),
-    /// No memory was left; the call can be made again.
+    /// Out of memory; you can call again.
     #[error("out of memory")]
     Memory,
 }
 
-/// The least number that no stream has (RFC 9000, section 2.1).
+/// The least invalid stream number (RFC 9000, section 2.1).
 pub(crate) const STREAMS: u64 = 1 << 62;
 
 /// The least limit of blocked streams that is rejected.
@@ -249,11 +249,14 @@ impl ConnectionDecoder {
     ///
     /// It acknowledges the fields of a section that requires insertions, after increments for insertions not yet
     /// reported, and the stream is no longer blocked. It does not keep a blocked section. The stream counts as blocked
-    /// while insertions are missing; once `next_ready` returns the stream, pass the section again. It fails, checking
-    /// in this order, after an error that ended the connection, with that error; with `NoStream` if the stream number
-    /// is invalid; with `Section` if `read_section` fails; and with `TooManyBlocked` if one stream too many would be
-    /// blocked. After `Section` the stream is no longer blocked. Any other error without a code changes nothing, except
-    /// that increments may have been written before memory ran out.
+    /// while insertions are missing; once `next_ready` returns the stream, pass the section again.
+    ///
+    /// # Errors
+    ///
+    /// Fails, checking in this order, after an error that ended the connection, with that error; with `NoStream` if the
+    /// stream number is invalid; with `Section` if `read_section` fails; and with `TooManyBlocked` if one stream too
+    /// many would be blocked. After `Section` the stream is no longer blocked. Any other error without a code changes
+    /// nothing, except that increments may have been written before memory ran out.
     pub fn decode(
         &mut self,
         stream: u64,
@@ -295,6 +298,8 @@ impl ConnectionDecoder {
     /// Receives the bytes left at the cursor, which continue those of earlier calls and may be cut anywhere (RFC 9204,
     /// sections 4.2 and 4.3), as `EncoderStream::receive` does. Returns how many insertions were ever made. It reports
     /// them by increments of 64 and one of the rest (section 4.4.3).
+    ///
+    /// # Errors
     ///
     /// A rejected instruction ends the connection (`EncoderStream`); the instructions before it stay applied. After
     /// `Memory`, call again with the bytes left at the cursor, even if there are none; that call reports the insertions
@@ -360,7 +365,7 @@ impl ConnectionDecoder {
         }
     }
 
-    /// Does what the reading of a section asks for.
+    /// Acts on the reading of a section.
     fn take_reading(&mut self, stream: u64, reading: Reading) -> Result<(), DecodingError>
         ensures { TakesReading self.old self.new stream reading result }
     {

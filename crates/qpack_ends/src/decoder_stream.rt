@@ -29,8 +29,8 @@ pub enum HearingError {
     /// It is an increment of 0 (RFC 9204, section 4.4.3).
     #[error("increment of 0")]
     ZeroIncrement,
-    /// It is an increment by so much, which raises the known received count above the insertions made (RFC 9204,
-    /// section 4.4.3).
+    /// It is an increment by this number, which would raise the known received count above the insertions made (RFC
+    /// 9204, section 4.4.3).
     #[error("increment of {0}, past the insertions")]
     IncrementPastInsertions(usize),
     /// It is an acknowledgment of this stream, which has no unacknowledged section (RFC 9204, section 4.4.1).
@@ -102,6 +102,8 @@ impl DecoderStream {
     /// unacknowledged section of its stream, and raises the known received count to what that section required; a
     /// cancellation releases every section of its stream; an increment raises the count (RFC 9204, sections 2.1.4 and
     /// 4.4). The bytes of an instruction that is not whole yet are kept.
+    ///
+    /// # Errors
     ///
     /// Fails if an integer is too large, if an increment is 0 or exceeds the insertions that were made, or if an
     /// acknowledged stream has no unacknowledged section. The table is then as it was before that instruction, no bytes

@@ -115,7 +115,7 @@ impl EncoderSettings {
     }
 }
 
-/// Why a call of an encoding end did not do what it was asked for.
+/// Why a call of an encoding end failed.
 #[derive(Clone, Copy, Debug, PartialEq, Drop, Error)]
 pub enum EncodingError {
     /// The decoder stream is rejected at an instruction, which ends the connection (RFC 9204, section 4.4).
@@ -124,11 +124,10 @@ pub enum EncodingError {
     /// The capacity is above the maximum capacity of the peer (RFC 9204, section 3.2.3); nothing was done.
     #[error("capacity above the maximum of the peer")]
     CapacityTooLarge,
-    /// For the capacity an entry would have to be evicted that is not evictable yet (RFC 9204, section 2.1.1); nothing
-    /// was done.
+    /// The capacity would evict an entry that is not evictable yet (RFC 9204, section 2.1.1); nothing was done.
     #[error("entries that are not evictable do not fit the capacity")]
     EntriesHeld,
-    /// No stream has this number, which is 2^62 or more; nothing was done.
+    /// The stream number is invalid: it is 2^62 or more. Nothing was done.
     #[error("no stream has the number {0}")]
     NoStream(u64),
     /// The peer's SETTINGS have another maximum capacity than the one that this end was made with, which is not 0. This
@@ -141,7 +140,7 @@ pub enum EncodingError {
     /// The peer's maximum capacity is 2^30 bytes or more; nothing was done.
     #[error("maximum capacity of the peer too large")]
     MaximumTooLarge,
-    /// No memory was left; the call can be made again.
+    /// Out of memory; you can call again.
     #[error("out of memory")]
     Memory,
 }
@@ -229,6 +228,8 @@ impl Model for ConnectionEncoder {
 impl ConnectionEncoder {
     /// Returns an encoding end for a peer that sent these settings. Its table has capacity 0 until the first section,
     /// before which it announces another (RFC 9204, section 3.2.3). Takes no memory.
+    ///
+    /// # Errors
     ///
     /// Fails with `CapacityTooLarge` if the maximum capacity is 2^30 bytes or more. A smaller one in its place would
     /// change how required insert counts are encoded, which depends on the maximum that the peer sent (section
@@ -351,6 +352,8 @@ impl ConnectionEncoder {
     /// no longer fit, the oldest first (section 3.2.2). If the maximum is 0, the only capacity is 0, and nothing is
     /// written (section 3.2.3).
     ///
+    /// # Errors
+    ///
     /// Fails, checking in this order, after an error that ended the connection, with that error; with
     /// `CapacityTooLarge` if the capacity is above the maximum; with `EntriesHeld` if it would evict an entry that is
     /// not evictable; and with `Memory` if memory runs out. On error nothing changes.
@@ -383,6 +386,8 @@ impl ConnectionEncoder {
     /// The first call announces the capacity of the settings, if none was announced. Once the limit of sections that
     /// wait for acknowledgments is reached, a section is written without references, as `encode_section_stateless`
     /// does, and does not wait.
+    ///
+    /// # Errors
     ///
     /// Fails, checking in this order, after an error that ended the connection, with that error; with `NoStream` if the
     /// stream number is invalid; and with `Memory` if memory runs out. On error the vector is unchanged. After
@@ -439,10 +444,12 @@ impl ConnectionEncoder {
         Ok(required)
     }
 
-    /// Receives the bytes of the decoder stream that the cursor has left, which follow on those of the calls before,
+    /// Receives the bytes of the decoder stream left at the cursor, which continue those of earlier calls and may be
     /// cut anywhere (RFC 9204, sections 4.2 and 4.4), as `DecoderStream::receive` does: acknowledgments and
     /// cancellations release sections, acknowledgments and increments raise the known received count (section 2.1.4).
     /// It takes no memory.
+    ///
+    /// # Errors
     ///
     /// A rejected instruction ends the connection (`DecoderStream`); the instructions before it stay applied. The
     /// cursor moves to its end, except after an error that ended the connection: then it does not move.

@@ -109,6 +109,8 @@ impl EncoderStream {
     /// whole. It reads them in place. It keeps only the bytes of an instruction that is not whole: fewer than four
     /// bytes for each byte of the capacity, plus ten.
     ///
+    /// # Errors
+    ///
     /// Rejects an instruction with malformed bytes (`InvalidInteger`, `InvalidString`), one with an index that has no
     /// entry (`InvalidStaticIndex`, `DynamicTable`), and one that the table rejects (`DynamicTable`). At capacity 0 it
     /// rejects an insertion by its first byte, and it rejects a truncated one as soon as its field can't fit. The error

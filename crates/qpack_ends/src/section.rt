@@ -24,7 +24,7 @@ mod lines;
 
 pub(crate) use crate::section::lines::{Lines, read_lines};
 
-/// What a section gives.
+/// The result of reading a section.
 #[derive(Clone, Copy, Debug, PartialEq, Eq)]
 pub enum Reading {
     /// The fields, which are in the field section.
@@ -42,7 +42,7 @@ pub enum Reading {
 /// Why a line gives no field.
 #[derive(Clone, Copy, Debug, PartialEq, Drop, Error)]
 pub enum LineError {
-    /// Its bytes mean nothing, or it references no entry or static field.
+    /// Its bytes are malformed, or it references no entry or static field.
     #[error("{0}")]
     Meaningless(DecoderError),
     /// It references an entry past the required insert count of its section (RFC 9204, section 2.2.3): the one of this
@@ -147,6 +147,8 @@ pub fn longest_section(size: u64) -> u64
 /// Reads a section under a table, strictly, and up to a limit on the sum of its fields' sizes in bytes (RFC 9204,
 /// section 3.2.1). It first empties the field section, which stays empty unless `Reading::Fields` is returned. It
 /// appends nothing that exceeds the limit: under a limit of n bytes the field section grows to at most 2n bytes.
+///
+/// # Errors
 ///
 /// Rejects, checking in this order, a section longer than any within the limit, unread (`TooLong`); bytes that are no
 /// prefix (`Prefix`); a count if the maximum capacity is 0 (`CountAtZero`); a prefix that is out of range, or a base

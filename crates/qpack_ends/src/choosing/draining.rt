@@ -16,7 +16,7 @@ pub(super) struct Draining {
 }
 
 impl Draining {
-    /// Returns that no entry drains.
+    /// Returns a state in which no entry drains.
     pub(super) fn new() -> Draining {
         Draining {
             newest: 0,

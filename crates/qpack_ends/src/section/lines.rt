@@ -470,7 +470,7 @@ fn at_line(number: usize, offset: usize, error: LineError) -> SectionError
     }
 }
 
-/// Reads the lines to the end of the cursor, each strictly, until one is refused.
+/// Reads the lines to the end of the cursor, each strictly, until one is rejected.
 pub(crate) fn read_lines<I: EntryIndex>(
     lines: &Lines<I>,
     buf: &mut Cursor,
