@@ -81,7 +81,9 @@ impl<I: EntryIndex> Decoder<I> {
         &self.table
     }
 
-    /// Decodes the field section that the cursor has left, to its end. It changes nothing but the cursor.
+    /// Decodes the field section left at the cursor, to its end. It changes only the cursor.
+    ///
+    /// # Errors
     ///
     /// Rejects, checking in this order, bytes that are no prefix, and a prefix that is out of range (`InvalidInteger`);
     /// a base below 0 if the section requires insertions (`BadBaseIndex`); a required insert count above the insertions
@@ -103,6 +105,8 @@ impl<I: EntryIndex> Decoder<I> {
     /// made (RFC 9204, sections 4.2 and 4.3). It applies each whole instruction to the table, and leaves a truncated
     /// rest at the cursor; pass that rest again with the bytes that follow it. Then it reports the insertions in
     /// `write`, for the decoder stream, by increments of 64 and one of the rest (section 4.4.3).
+    ///
+    /// # Errors
     ///
     /// Rejects an instruction with malformed bytes (`InvalidInteger`, `InvalidString`), with an index that has no entry
     /// (`InvalidStaticIndex`, `DynamicTable`), or with a field or a capacity that the table rejects (`DynamicTable`;

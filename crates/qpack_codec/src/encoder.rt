@@ -83,6 +83,8 @@ impl Encoder {
     /// cancellation every one, and an increment raises the known received count. It leaves a truncated rest at the
     /// cursor; pass that rest again with the bytes that follow it. It takes no memory.
     ///
+    /// # Errors
+    ///
     /// Rejects malformed bytes (`InvalidInteger`), and an acknowledgment of a stream that has no unacknowledged block
     /// (`Insertion(UnknownStreamId)`; the cursor moves past it then, and in no other case). The instructions before it
     /// stay applied.
@@ -116,6 +118,8 @@ impl<D: WritesSections> Encoder<D> {
     /// instructions of its insertions to the other. Returns the block's required insert count, which is 0 if it
     /// references no entry. For each field it takes the first of these that applies: an equal static field, the newest
     /// equal entry that was live at the block's start, an insertion, and a literal.
+    ///
+    /// # Errors
     ///
     /// On error, which is `Memory` only, the block is unchanged. The insertions that were made stay, their instructions
     /// are written, and nothing more is referenced: you can call again. A block's vector with free room for it does not

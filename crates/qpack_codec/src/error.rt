@@ -24,7 +24,7 @@ pub enum Error {
     Decoder(DecoderError),
 }
 
-/// Why fields were not encoded, or an instruction of the decoder was not taken.
+/// Why fields were not encoded, or an instruction of the decoder was not applied.
 #[derive(Clone, Copy, Debug, PartialEq, Drop, thiserror::Error)]
 pub enum EncoderError {
     /// The dynamic table rejected the operation.

@@ -17,6 +17,8 @@ const GREATEST_NUMBER: usize = 11;
 /// 9204, sections 3.2.3 and 4.3.1). It first checks that the table takes the capacity, then makes room for the
 /// instruction.
 ///
+/// # Errors
+///
 /// Fails with `Insertion(MaximumTableSizeTooLarge)` if the capacity is above the maximum or is 2^30 or more, with
 /// `Insertion(MaxTableSizeReached)` if it would evict an entry that is not evictable, and with `Memory` if memory runs
 /// out. On error nothing changes and nothing is written. With eleven bytes of free room it takes no memory.

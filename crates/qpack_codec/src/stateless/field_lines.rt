@@ -20,9 +20,9 @@ use qpack_wire::block::{HeaderPrefix, Indexed, Literal, LiteralWithNameRef};
 use std::alloc::Allocator;
 
 /// Appends the section of field lines that is written without a dynamic table, as `encode_stateless` writes it: it
-/// references no entry, and is never blocked. A field line that is never to be indexed is a literal that says so, by
-/// the first static field of its name if there is one (RFC 9204, section 7.1.3). Room for the section is enough, and
-/// then is not grown. On error, which is for memory alone, the vector is unchanged.
+/// references no entry, and is never blocked. A field line that is never to be indexed becomes a literal with that
+/// mark, by the first static field of its name if there is one (RFC 9204, section 7.1.3). A vector with room for the
+/// section does not grow. On error, which is for memory only, the vector is unchanged.
 pub fn encode_section_stateless<A: Allocator, H: AsField>(
     block: &mut Vec<u8, A>,
     fields: &[H],
