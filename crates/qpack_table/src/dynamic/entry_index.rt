@@ -25,14 +25,14 @@ pub trait EntryIndex: Drop {
     // The key is that of the field.
     ghost is_key_of: { Self.Key → Field → Type 0 };
 
-    // There is room for one entry more, with such a key.
+    // There is room for one more entry, with this key.
     ghost has_room: { Self.Key → Self → Type 0 };
 
     /// Returns the key of a field.
     fn key_of(field: &FieldLine<'_>) -> Self::Key
         ensures { is_key_of result (line_of field.now).field };
 
-    /// Makes room for one entry more, with such a key. On error the same entries are in.
+    /// Makes room for one more entry, with this key. On error the same entries are in.
     fn reserve(
         &mut self,
         entries: &VecDeque<Entry>,

@@ -64,7 +64,7 @@ impl SoughtField {
         }
     }
 
-    /// Returns its hashes, which are taken now if they were not.
+    /// Returns its hashes, and computes them unless they are known.
     #[inline(always)]
     pub(super) fn hashes_of(&self, field: &FieldLine<'_>) -> Hashes
         requires { IfSome self.now.hashes (λ hashes. AreHashesOf hashes (line_of field.now).field) }

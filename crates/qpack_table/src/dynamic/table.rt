@@ -55,7 +55,7 @@ pub struct DynamicTable<I: EntryIndex = Index> {
     pub(super) max_blocked: usize,
     /// The known received count.
     pub(super) known_received_count: usize,
-    /// The absolute indexes that the block in progress names.
+    /// The absolute indexes that the block in progress references.
     pub(super) referenced: Vec<usize>,
     pub(super) unacknowledged: OpenBlocks,
     pub(super) blocked: BlockedBlocks,
@@ -422,8 +422,8 @@ impl<I: EntryIndex> DynamicTable<I> {
         self.capacities.greatest()
     }
 
-    /// Returns the maximum capacity in bytes: what was agreed, and the present capacity until something is (RFC 9204,
-    /// section 3.2.3).
+    /// Returns the maximum capacity in bytes: what was agreed, and the present capacity until then (RFC 9204, section
+    /// 3.2.3).
     pub fn agreed_max(&self) -> usize
         ensures exact { result ≡ maximum_capacity self.now.agreed_max self.now.capacity }
         ensures most { self.now.capacity ≤ result }
@@ -485,7 +485,7 @@ impl<I: EntryIndex> DynamicTable<I> {
     }
 }
 
-/// A table under the base of a block, whose lines name its entries.
+/// A table under the base of a block, whose lines reference its entries.
 #[derive(Debug, Drop)]
 pub struct DynamicTableDecoder<'a, I: EntryIndex = Index> {
     table: &'a DynamicTable<I>,
