@@ -62,7 +62,7 @@ impl<'a> Cursor<'a> {
         }
     }
 
-    /// Another cursor at this position, to look ahead with.
+    /// Returns another cursor at this position, to look ahead with.
     pub fn fork(&self) -> Cursor<'a>
         ensures { result ≡ self.now }
     {

@@ -147,8 +147,8 @@ pub fn decode(alloc: Global, size: u8, buf: &mut Cursor) -> Result<Vec<u8>, Erro
 }
 
 /// Reads the string at the cursor, with a prefix of `size` bits, plain or coded, and appends its value to the text. On
-/// error the text is unchanged, and the cursor's position is unspecified. With free room for the text that any payload
-/// of the bytes that are left could mean it takes no memory.
+/// error the text is unchanged, and the cursor's position is unspecified. With free room for any text that the bytes
+/// left could mean, it takes no memory.
 pub fn decode_onto<A: Allocator>(
     size: u8,
     buf: &mut Cursor,
@@ -167,8 +167,8 @@ pub fn decode_onto<A: Allocator>(
 }
 
 /// Reads the string at the cursor as `decode_onto` does, and appends its value if it has at most `most` bytes. Returns
-/// how many it has. A longer one takes no memory, and the text is unchanged. The text never gets room past `most` bytes
-/// more.
+/// how many it has. A longer one takes no memory, and the text is unchanged. The text never gets room for more than
+/// `most` more bytes.
 pub fn decode_within<A: Allocator>(
     size: u8,
     most: usize,
