@@ -28,7 +28,7 @@ pub struct Written {
 #[derive(Drop)]
 pub struct Received {
     pub status: i32,
-    /// How many of the bytes were taken.
+    /// How many of the bytes were consumed.
     pub taken: usize,
     /// Where an instruction was rejected: its number on the stream, from 1, else 0.
     pub number: u64,
