@@ -22,8 +22,8 @@ ghost use Rattle.qpack_connection.specs.SettledSections.{SectionsSettle};
 ghost use Rattle.qpack_connection.specs.TwoEndsHeadline.{TwoEndsAnswerWhatWasHanded};
 
 /// What [`EncoderStream::receive`](crate::EncoderStream::receive) and
-/// [`DecoderStream::receive`](crate::DecoderStream::receive) promise comes to this: of a stream whose instructions a
-/// strict end applies, up to the last, no piece is refused, wherever the stream is cut (RFC 9204, sections 4.2 to 4.4).
+/// [`DecoderStream::receive`](crate::DecoderStream::receive) promise: of a stream whose instructions a strict end
+/// applies, up to the last, no piece is refused, wherever the stream is cut (RFC 9204, sections 4.2 to 4.4).
 pub fn lawful_streams_are_never_refused()
     ensures encoder_stream { EncoderStreamsAreNeverRefused }
     ensures decoder_stream { DecoderStreamsAreNeverRefused }
