@@ -145,7 +145,7 @@ impl Observer {
         self.decoder_stream.cut()
     }
 
-    /// Takes bytes of the encoder stream. On error, which is for memory alone, nothing changes.
+    /// Takes bytes of the encoder stream. On error, which is for memory only, nothing changes.
     pub fn receive_encoder(&mut self, bytes: &[u8]) -> Result<(), AllocError>
         ensures ok { OnOk result (self.new ≡ record self.old {
           encoder_stream = record self.old.encoder_stream {
@@ -157,7 +157,7 @@ impl Observer {
         self.encoder_stream.receive(bytes)
     }
 
-    /// Takes bytes of the decoder stream. On error, which is for memory alone, nothing changes.
+    /// Takes bytes of the decoder stream. On error, which is for memory only, nothing changes.
     pub fn receive_decoder(&mut self, bytes: &[u8]) -> Result<(), AllocError>
         ensures ok { OnOk result (self.new ≡ record self.old {
           decoder_stream = record self.old.decoder_stream {
