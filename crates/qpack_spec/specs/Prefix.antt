@@ -37,7 +37,7 @@ pub record IsRequired (total entries count required : ℕ) : Type 0 where
   pub above : total < required + entries
   pub most : required ≤ total + entries
 
--- ---- the same, computed
+-- ---- computed
 
 -- the greatest number of the residue count - 1 modulo 2 entries that is at most top; 0 if none is above 0
 unfoldable pub required_at : ℕ → ℕ → ℕ → ℕ

@@ -208,7 +208,7 @@ skip_reason v (ChangeCapacity n) = None
 
 -- ---- what happens
 
--- the session with a block more
+-- the session with one more block
 abbrev pub with_block : Session → ℕ → List Field → Session
 with_block v s fs =
     let d = rule v.encoder fs in

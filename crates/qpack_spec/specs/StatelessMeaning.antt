@@ -57,18 +57,18 @@ pub data StopsStateless (limit : ℕ) (bytes : List ℕ) (e : StatelessFault) : 
   in_lines : (head lines : List ℕ) (prefix : Prefix) → bytes ≡ head ++ lines → SpellsPrefix head prefix
       → StopsBehind limit 0 lines e → StopsStateless limit bytes e
 
--- what a section gives: its fields, or the first fault
+-- the result for a section: its fields, or the first fault
 abbrev pub GivesStateless : ℕ → List ℕ → Result (List Field) StatelessFault → Type 0
 GivesStateless limit bytes (Ok fs) = MeansStateless limit bytes fs
 GivesStateless limit bytes (Err e) = StopsStateless limit bytes e
 
--- reading from left to right gives exactly that
+-- reading from left to right gives exactly this result
 abbrev pub StatelessReadingIsMeaning : Type 0
 StatelessReadingIsMeaning =
     (limit : ℕ) (bytes : List ℕ) (r : Result (List Field) StatelessFault)
     → (stateless_reading limit bytes ≡ r) ↔ GivesStateless limit bytes r
 
--- ---- the same under an empty table
+-- ---- under an empty table
 
 -- the window of an empty table of capacity 0
 abbrev pub no_table : Option ℕ → Window

@@ -49,7 +49,7 @@ TruncatesString n bytes =
     → ((flags : ℕ) (value : List ℕ) → SpellsString n encoding flags value → ⊥)
     × ((fault : StringFault) → RefusesString n encoding fault → ⊥)
 
--- ---- the same, as reading from left to right
+-- ---- reading from left to right
 
 -- the value of a payload before a rest
 abbrev pub value_before : ℕ → List ℕ → Result (List ℕ) HuffmanFault → Result (ℕ × List ℕ × List ℕ) StringFault
