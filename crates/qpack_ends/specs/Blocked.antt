@@ -27,11 +27,11 @@ exceeds inserted (Some required) = nat_lt inserted required
 abbrev pub is_blocked : ℕ → ℕ → List BlockedStream → Bool
 is_blocked inserted stream bs = exceeds inserted (required_of stream bs)
 
--- how many of the streams are
+-- how many of the streams are blocked after this many insertions
 abbrev pub blocked_among : ℕ → List BlockedStream → ℕ
 blocked_among inserted bs = length (filter (λ b. nat_lt inserted b.required) bs)
 
--- the others
+-- the streams without this one
 abbrev pub without : ℕ → List BlockedStream → List BlockedStream
 without stream bs = filter (λ b. not (nat_eq b.stream stream)) bs
 

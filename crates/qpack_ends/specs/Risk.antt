@@ -47,7 +47,7 @@ covers b rs = list_any (λ r. nat_eq r.stream b.stream && nat_le b.required r.re
 abbrev pub with_stream : BlockedStream → List BlockedStream → List BlockedStream
 with_stream b rs = if covers b rs then rs else without b.stream rs ++ b ∷ []
 
--- those of which a section is unacknowledged still that requires more than is known
+-- the streams with an unacknowledged section that requires more than is known to be received
 abbrev pub still_at_risk : Table → List BlockedStream → List BlockedStream
 still_at_risk t rs =
     filter (λ r. nat_lt t.known_received_count r.required && is_some (oldest_required r.stream t.unacknowledged)) rs

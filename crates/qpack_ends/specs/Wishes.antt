@@ -1,4 +1,4 @@
--- What the caller's word asks of an encoding end for each field (RFC 9204, sections 2.1, 2.1.2 and 7.1.3).
+-- What the caller's wish asks of an encoding end for each field (RFC 9204, sections 2.1, 2.1.2 and 7.1.3).
 use Rattle.std.specs.Prelude.{◌≡◌, ℕ, Bool, true, false, ◌&&◌, List, [], ◌∷◌, Option, None, Some, Result, Ok, Err}
 use Rattle.qpack_spec.specs.Chosen.{Inserts, Chosen, alone_chosen, chosen_field}
 use Rattle.qpack_spec.specs.Field.{Field, FieldLine, is_field}
@@ -34,8 +34,8 @@ KeepsWish t f Insert None c =
 KeepsWish t f Reuse newest c = (c ≡ Inserted → ⊥) × (inserts_after c ≡ false)
 KeepsWish t f w newest c = Unit {0}
 
--- what the word asks of a choice at a table, for a field that no static field equals: `Insert`, that it is inserted unless
--- an entry equals it; `Reuse`, that nothing is inserted
+-- what the wish asks of a choice at a table, for a field that no static field equals: `Insert`, that it is inserted
+-- unless an entry equals it; `Reuse`, that nothing is inserted
 abbrev pub SuitsWish : Table → FieldLine → Wish → Chosen → Type 0
 SuitsWish t l Insert c = l.never_indexed ≡ false → newest_index t (is_field l.field) ≡ None → InsertsField t l.field c
 SuitsWish t l Reuse c = l.never_indexed ≡ false → InsertsNothing c
