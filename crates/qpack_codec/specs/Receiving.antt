@@ -58,7 +58,7 @@ field_to_insert t (InsertLiteralName name value) = Some (record { name = name; v
 field_to_insert t (Duplicate relative) = relative_entry (window t) relative
 field_to_insert t (SetCapacity capacity) = None
 
--- the field that an instruction is to insert was found; or it is refused as the instruction is, or memory is
+-- the field that an instruction is to insert was found; or it is refused as the instruction is, or memory is refused
 abbrev pub FindsField : Table → EncoderInstruction → Result HeaderField DecoderError → Type 0
 FindsField t i (Ok field) = IsSome (field_to_insert t i) × (apply_encoder_instruction t i ≡ put t (field_of field))
 FindsField t i (Err Memory) = IsSome (field_to_insert t i)
