@@ -84,7 +84,7 @@ pub record Decodes {V L : Type 0} (view : V → L) (spells : List ℕ → L → 
   pub refused : TellsRefusal refuses old r
   pub truncated : TellsEnd spells refuses old r
 
--- ---- the same, as reading from left to right
+-- ---- reading from left to right
 
 -- what was read is this fault
 abbrev pub ReadAs : {A F : Type 0} → Result A F → Option F → Type 0

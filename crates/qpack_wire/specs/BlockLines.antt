@@ -10,7 +10,7 @@ use Rattle.qpack_wire.specs.declared.block.line.HeaderBlockField.TheVariants as 
 use Rattle.qpack_wire.specs.declared.block.line.BlockLine.{BlockLine}
 use Rattle.qpack_wire.specs.declared.block.line.BlockLine.TheVariants as block
 
--- the form that a first byte names: 0000N, 0001, 001NH, 01NT and 1T
+-- the form that a first byte determines: 0000N, 0001, 001NH, 01NT and 1T
 abbrev pub field_of_first : ℕ → HeaderBlockField
 field_of_first first =
     if nat_lt first 16 then field.LiteralWithPostBaseNameRef

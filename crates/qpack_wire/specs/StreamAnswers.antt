@@ -51,7 +51,7 @@ StaysUnlessRead old new (Ok None) = new ≡ old
 StaysUnlessRead old new (Ok (Some v)) = Unit {0}
 StaysUnlessRead old new (Err e) = new ≡ old
 
--- ---- the same, as reading from left to right
+-- ---- reading from left to right
 
 -- the reading ends early
 abbrev pub EndsEarly : {A : Type 0} → Result A KindFault → Type 0
