@@ -109,7 +109,7 @@ pub record TakesStream (old new : State) (before after : List ℕ) (taken : ℕ)
   pub copied_is : after ≡ written_over (take taken old.end.unsent) before
   pub new_is : new ≡ record old { end = record old.end { unsent = drop taken old.end.unsent } }
 
--- reading of a stream is given up as the end does it
+-- a stream is cancelled as the end does it
 pub record CancelsTo (old new : State) (stream : ℕ) (status : ℤ) : Type 0 where
   pub answer : Result ⊤ DecodingError
   pub cancels : Cancels old.end new.end stream answer
