@@ -20,8 +20,8 @@ use Rattle.qpk.specs.declared.refusal.Wanted.{Wanted}
 use Rattle.qpk.specs.declared.refusal.Wanted.TheVariants as wanted
 use Rattle.qpk.specs.declared.text.Fault.TheVariants.{Memory}
 
--- why words ask for nothing: they are none of the usage's; or they begin with an addition to it, and then a word is
--- missing, or one is not what it should be
+-- why words give no command: they give none of the usage's four; or they begin a command beyond these, and a word of it
+-- is missing or is not what it should be
 pub data WordsFault : Type 0 where
   OtherWords : WordsFault
   MissingWord : (topic : Topic) (wanted : Wanted) → WordsFault
@@ -48,7 +48,7 @@ only_numbers (first ∷ second ∷ []) =
     or_other_words (number_of first) >>= λ m. or_other_words (number_of second) >>= λ n. Ok (m, n)
 only_numbers (first ∷ second ∷ more ∷ words) = Err OtherWords
 
--- ---- words of additions to it
+-- ---- words of commands beyond the usage's four
 
 -- a word begins as an option does
 abbrev pub is_option : List ℕ → Bool
@@ -190,7 +190,7 @@ connection_words is_check =
 abbrev pub topic_for : Bool → Topic
 topic_for is_check = if is_check then topic.Check else topic.Show
 
--- an option more
+-- one more option
 abbrev pub with_connection_option : ConnectionWords → List ℕ → Result ConnectionWords WordsFault
 with_connection_option w word =
     if bytes_eq word (codes "-") then Ok w
@@ -256,7 +256,7 @@ abbrev pub explain_words : ExplainWords
 explain_words =
     record { kind = kind.Section; max_capacity = 4096; expects_capacity = false; has_bytes = false }
 
--- a word more
+-- one more word
 abbrev pub with_explain_word : ExplainWords → List ℕ → Result ExplainWords WordsFault
 with_explain_word w word =
     if w.expects_capacity

@@ -98,7 +98,7 @@ abbrev pub Stops : Command → List ℕ → List ℕ → DecoderError → Type 0
 Stops (Inspect capacity) input out e = PrintsInspection capacity input out (Some e)
 Stops command input out e = ⊥
 
--- which only an inspection does
+-- only the output of an inspection ends so
 abbrev pub IsInspection : Command → Type 0
 IsInspection (Inspect capacity) = Unit {0}
 IsInspection command = ⊥

@@ -187,7 +187,7 @@ fn read_version(alloc: Global, rest: &[String]) -> Result<Command, Refusal>
     Ok(Command::Version)
 }
 
-/// Refuses words.
+/// Rejects words.
 fn no_more(alloc: Global, topic: Topic, words: &[String]) -> Result<(), Refusal>
     ensures { ReadsWords result (no_more topic (map string_bytes words.now)) }
 {
@@ -440,7 +440,7 @@ fn with_connection_word(
     }
 }
 
-/// Returns what words of `show` or `check` say with an option more.
+/// Returns what words of `show` or `check` say with one more option.
 fn with_connection_option(
     alloc: Global,
     words: ConnectionWords,

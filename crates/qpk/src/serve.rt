@@ -98,7 +98,7 @@ fn say_note<E: Write>(note: Option<String>, faults: &mut E)
     }
 }
 
-/// Writes a line to the faults. A write that fails is passed over.
+/// Writes a line to the faults. A write that fails is ignored.
 fn say<E: Write>(line: &str, faults: &mut E)
     ensures { AppendsFront (E.contents faults.old) (E.contents faults.new) line.now }
 {
