@@ -17,7 +17,7 @@ pub record Awaited : Type 0 where
 abbrev pub nothing_awaited : Awaited
 nothing_awaited = record { known = 0; sent = [] }
 
--- a section more
+-- one more section
 abbrev pub with_sent : Awaited → ℕ → ℕ → Awaited
 with_sent w stream required = record w { sent = w.sent ++ record { stream = stream; required = required } ∷ [] }
 
