@@ -68,8 +68,8 @@ pub record KeepsWishes (d new : EncodingEnd) (stream : ℕ) (fields : List Field
   pub suit : (d.table.capacity ≡ 0 → ⊥)
       → SuitAlong (insert_count d.table) (empty_draft d.table) fields wishes section.choices
 
--- the end as a section of a stream meets it, and leaves it: the table lets one more be blocked if that stream may be
--- (section 2.1.2)
+-- the end as a section of a stream meets it, and leaves it: the table permits one more blocked block if that stream may
+-- be blocked (section 2.1.2)
 abbrev pub limited : Bool → EncodingEnd → EncodingEnd
 limited may d = record d { table = with_limit (limit_for may) d.table }
 
