@@ -121,7 +121,7 @@ encoder_of instructions made free w =
       sections = map (λ b. open_section b) w.end.table.unacknowledged ++ map (λ s. free_section s) free;
     }
 
--- a decoding end of its peer: it has the maximum capacity that the encoder knows, lets no fewer streams be blocked, and
+-- a decoding end of its peer: it has the maximum capacity that the encoder knows, permits no fewer blocked streams, and
 -- has reported all insertions that the encoder knows to be received
 pub record IsPeer (settings : EncoderSettings) (w : Writer) (d : DecodingEnd) : Type 0 where
   pub capacity : d.settings.max_capacity ≡ settings.max_capacity
