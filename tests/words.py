@@ -3,10 +3,11 @@
 
     tests/words.py
 
-It reads the documents, the comments of the C header, the doc comments of the Rust crate, and the help of qpk. Code in
-them is left out. It prints each forbidden word with its file and line, the count of each watched word, and the number
-of words of all documents: with code and the signs of tables, as wc counts them, and without. The exit status is 1 if a
-forbidden word was found.
+It reads the documents, the comments of the C header, the doc comments of the Rust crate, the help of qpk, and the
+comments of the sources and the definitions of all crates. Code in them is left out. It prints each forbidden word with
+its file and line, the count of each watched word, and the number of words of all documents: with code and the signs of
+tables, as wc counts them, and without. In the comments of the crates no watched words are counted. The exit status is 1
+if a forbidden word was found.
 """
 import re
 import sys
@@ -44,6 +45,12 @@ WATCHED = {
 }
 # Documents that a script writes.
 GENERATED = ["docs/DEFINITIONS.md"]
+# Fronts of the names of files whose comments still have forbidden words. They are not read until they are rewritten.
+UNREAD = (
+    "crates/qpack_base/src/prefix_string/", "crates/qpack_base/specs/Payloads.antt",
+    "crates/qpack_table/src/dynamic/index", "crates/qpack_table/specs/Hashes.antt",
+    "crates/qpack_table/specs/Indexes.antt", "crates/qpack_table/specs/Rows.antt",
+)
 # Between two words of a phrase: blanks, or the end of a line.
 GAP = r"(?: +| *\n *)"
 # Code in a line, which does not go on past an empty line.
@@ -61,9 +68,11 @@ def list_files():
         prose_of_rust: ["rust/h3_qpack/src/**/*.rs"],
         prose_of_help: ["crates/qpk/src/usage.rt"],
         prose_of_manual: ["dist/qpk.1"],
+        prose_of_rattle: ["crates/*/src/**/*.rt", "crates/*/specs/**/*.antt"],
     }
     found = [(path, prose) for prose, globs in patterns.items() for it in globs for path in sorted(TOP.glob(it))]
-    return [(path, prose) for path, prose in found if str(path.relative_to(TOP)) not in GENERATED]
+    names = ((str(path.relative_to(TOP)), path, prose) for path, prose in found)
+    return [(path, prose) for name, path, prose in names if name not in GENERATED and not name.startswith(UNREAD)]
 
 
 def blank(found):
@@ -93,6 +102,13 @@ def prose_of_rust(text):
     """Keeps the doc comments, without the code in them."""
     kept = keep(text, re.compile(r"^ *//[/!].*", re.M))
     kept = re.sub(r"^ *//[/!]", blank, kept, flags=re.M)
+    return re.sub(CODE, blank, re.sub(r"```.*?```", blank, kept, flags=re.S))
+
+
+def prose_of_rattle(text):
+    """Keeps the comments that have a line of their own, without the code in them."""
+    kept = keep(text, re.compile(r"^ *(?:///|//!|//|--) .*", re.M))
+    kept = re.sub(r"^ *(?://[/!]?|--)", blank, kept, flags=re.M)
     return re.sub(CODE, blank, re.sub(r"```.*?```", blank, kept, flags=re.S))
 
 
@@ -130,8 +146,9 @@ def main():
         if path.suffix == ".md":
             words += len(text.split())
             words_of_prose += len([it for it in prose.split() if re.search(r"\w", it)])
-        for word, pattern in watched.items():
-            counts[word] += len(pattern.findall(prose))
+        if keep_prose is not prose_of_rattle:
+            for word, pattern in watched.items():
+                counts[word] += len(pattern.findall(prose))
         for word, pattern in forbidden.items():
             for it in pattern.finditer(prose):
                 line = prose.count("\n", 0, it.start()) + 1

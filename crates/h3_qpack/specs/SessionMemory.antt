@@ -1,4 +1,4 @@
--- Where an event of a session asks for memory.
+-- When an event of a session asks for memory.
 use Rattle.std.specs.Prelude.{◌<◌, ℕ, ◌⊎◌, List, take, drop, Err, IsOk}
 use Rattle.qpack_spec.specs.Session as spec
 use Rattle.qpack_spec.specs.Session.{stream_at, oldest_undecoded}

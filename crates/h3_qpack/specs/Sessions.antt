@@ -68,7 +68,7 @@ stored_stream k =
 
 -- ---- what is skipped, as the session's definition has it
 
--- an event on a stream of this number, which is lawful where it is not cancelled and this holds of it
+-- an event on a stream of this number, which is lawful if it is not cancelled and this holds of it
 abbrev pub stored_skip : ℕ → StoredStream → Bool → ℕ → Option ℕ
 stored_skip number k lawful reason =
     if nat_le (2 ^ 62) number then Some 1

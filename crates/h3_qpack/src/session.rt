@@ -29,22 +29,22 @@ mod offered;
 mod stream;
 mod streams;
 
-/// What may happen in a session. Streams go by their numbers, which are below 2^62.
+/// An event of a session. Stream numbers are below 2^62.
 #[derive(Debug, PartialEq, Drop)]
 pub enum Event {
-    /// A field section is encoded for a stream (RFC 9204, section 2.1).
+    /// Encodes a field section for a stream (RFC 9204, section 2.1).
     Encode(u64, Vec<HeaderField>),
-    /// The oldest undecoded block of a stream is decoded (RFC 9204, section 2.2).
+    /// Decodes the oldest undecoded block of a stream (RFC 9204, section 2.2).
     Decode(u64),
     /// Delivers this many more bytes of the encoder stream to the decoder, or all that are left.
     ToDecoder(usize),
     /// Delivers this many more bytes of the decoder stream to the encoder, or all that are left.
     ToEncoder(usize),
-    /// The oldest decoded block of a stream that requires an entry is acknowledged (RFC 9204, section 4.4.1).
+    /// Acknowledges the oldest decoded block of a stream that requires an entry (RFC 9204, section 4.4.1).
     Ack(u64),
-    /// A stream is cancelled (RFC 9204, section 4.4.2).
+    /// Cancels a stream (RFC 9204, section 4.4.2).
     Cancel(u64),
-    /// The encoder sets the capacity in bytes (RFC 9204, section 4.3.1).
+    /// Sets the encoder's capacity in bytes (RFC 9204, section 4.3.1).
     SetCapacity(usize),
 }
 
@@ -57,7 +57,7 @@ pub enum Outcome {
     Decoded(Result<Decoded, DecoderError>),
     /// How many insertions the decoder received in all.
     Delivered(Result<usize, DecoderError>),
-    /// The instructions were taken.
+    /// The instructions were applied.
     Heard(Result<(), EncoderError>),
     /// The acknowledgment was written.
     Acknowledged(Result<(), NoMemory>),
@@ -120,7 +120,7 @@ impl Session {
     /// capacity is 2^30 or more, then with `MaxBlockedStreamsTooLarge` if the limit is 65,535 or more. It takes no
     /// memory. `with_maximum` begins below the maximum capacity.
     pub fn new(alloc: Global, capacity: usize, limit: usize) -> Result<Session, dynamic::Error>
-        // It begins as the definition begins, or is refused as that is.
+        // It begins as the definition does, or fails as that does.
         ensures begins { Begins result (begin_session capacity capacity limit) }
         // And no events lead to it.
         ensures reaches { IfOk result
@@ -140,7 +140,7 @@ impl Session {
         maximum: usize,
         limit: usize,
     ) -> Result<Session, dynamic::Error>
-        // It begins as the definition begins, or is refused as that is.
+        // It begins as the definition does, or fails as that does.
         ensures begins { Begins result (begin_session capacity maximum limit) }
         // And no events lead to it.
         ensures reaches { IfOk result

@@ -69,12 +69,12 @@ abbrev pub text_of : List FieldLine → List ℕ
 text_of [] = []
 text_of (f ∷ fs) = text_of_field f ++ text_of fs
 
--- how many bytes the names and values of fields have, held at the greatest number
+-- how many bytes the names and values of fields have, saturating
 abbrev pub text_len : List FieldLine → ℕ
 text_len fs = min (length (text_of fs)) (2 ^ 64 - 1)
 
--- the size of a list of fields: the names, the values, and 32 bytes for each field (RFC 9114, section 4.2.2), held at the
--- greatest number
+-- the size of a list of fields: the names, the values, and 32 bytes for each field (RFC 9114, section 4.2.2),
+-- saturating
 abbrev pub list_size : List FieldLine → ℕ
 list_size fs = min (total_size (fields_of_lines fs)) (2 ^ 64 - 1)
 
@@ -98,7 +98,7 @@ pub record GivesAll (fields : List FieldLine) (told_before told_after : List Giv
   pub text_is : after ≡ (if fit fields told_before before then written_over (text_of fields) before else before)
 
 -- an end was made, as the settings ask, which are in range; or memory was refused for it, or the settings are out of
--- range, and what the caller keeps is as before
+-- range, and what the caller keeps is unchanged
 abbrev pub Makes : Type 0 → Type 0 → Type 0 → ℤ → Type 0
 Makes InRange IsMade AsBefore status =
     ((status ≡ done) × InRange × IsMade)

@@ -60,8 +60,8 @@ told_of_decoding (Ok (Blocked required)) fields =
     record { status = blocked; fields = 0; len = 0; required = required; number = 0; offset = 0 }
 told_of_decoding (Err e) fields = told_of_refusal e
 
--- a section is decoded as the end does it, and its fields are kept; where there are none, none are. Memory is kept for no
--- more fields than before, or than a section within the limit can have
+-- a section is decoded as the end does it, and its fields are kept; if there are none, none are kept. Memory is kept
+-- for no more fields than before, or than a section within the limit can have
 pub record DecodesTo (old new : State) (stream : ℕ) (bytes : List ℕ) (told : Decoding) : Type 0 where
   pub answer : Result Reading DecodingError
   pub decodes : Decodes old.end new.end stream
@@ -109,7 +109,7 @@ pub record TakesStream (old new : State) (before after : List ℕ) (taken : ℕ)
   pub copied_is : after ≡ written_over (take taken old.end.unsent) before
   pub new_is : new ≡ record old { end = record old.end { unsent = drop taken old.end.unsent } }
 
--- reading of a stream is given up as the end does it
+-- a stream is cancelled as the end does it
 pub record CancelsTo (old new : State) (stream : ℕ) (status : ℤ) : Type 0 where
   pub answer : Result ⊤ DecodingError
   pub cancels : Cancels old.end new.end stream answer

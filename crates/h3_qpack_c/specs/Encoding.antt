@@ -59,7 +59,7 @@ told_of_hearing (Err (DecoderStream e)) taken =
     record { status = of_encoding (DecoderStream e); taken = taken; number = e.place.number; offset = e.place.offset }
 told_of_hearing (Err e) taken = record { status = of_encoding e; taken = taken; number = 0; offset = 0 }
 
--- bytes of the decoder stream are received as the end does it: all of them, or none where the connection was ended
+-- bytes of the decoder stream are received as the end does it: all of them, or none if the connection was ended
 pub record HearsTo (old new : State) (bytes : List ℕ) (told : Received) : Type 0 where
   pub answer : Result ⊤ EncodingError
   pub left : List ℕ

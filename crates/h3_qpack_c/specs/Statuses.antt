@@ -35,7 +35,7 @@ invalid = negsuc 3
 abbrev pub too_large : ℤ
 too_large = negsuc 4
 
--- entries would have to go that may still be referenced
+-- the capacity would evict entries that may still be referenced
 abbrev pub held : ℤ
 held = negsuc 5
 

@@ -28,9 +28,9 @@ pub struct Written {
 #[derive(Drop)]
 pub struct Received {
     pub status: i32,
-    /// How many of the bytes were taken.
+    /// How many of the bytes were consumed.
     pub taken: usize,
-    /// Where an instruction was refused: its number on the stream, from 1, else 0.
+    /// Where an instruction was rejected: its number on the stream, from 1, else 0.
     pub number: u64,
     /// And where it begins, in bytes from the stream's start.
     pub offset: u64,
@@ -47,7 +47,7 @@ pub struct Decoding {
     pub len: usize,
     /// The required insert count of a section that was decoded or that waits.
     pub required: usize,
-    /// Where a line was refused: its number in the section, from 1, else 0.
+    /// Where a line was rejected: its number in the section, from 1, else 0.
     pub number: u64,
     /// And where it begins, in bytes from the section's start.
     pub offset: u64,
@@ -73,7 +73,7 @@ pub struct DecodedAlone {
     pub fields: usize,
     /// How many bytes their names and values have, at most 2^64 - 1.
     pub len: usize,
-    /// Where a line was refused: its number in the section, from 1, else 0.
+    /// Where a line was rejected: its number in the section, from 1, else 0.
     pub number: u64,
     /// And where it begins, in bytes from the section's start.
     pub offset: u64,

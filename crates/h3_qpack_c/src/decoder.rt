@@ -235,7 +235,7 @@ fn read(state: &mut State, bytes: &[u8]) -> Received
     )
 }
 
-/// Returns how many bytes a call took: all if it refused the stream, and otherwise those that are not left.
+/// Returns how many bytes a call consumed: all if it rejected the stream, and otherwise those that are not left.
 fn taken(
     ended: Option<DecodingError>,
     answer: &Result<usize, DecodingError>,
@@ -347,7 +347,7 @@ pub extern "C" fn h3q_decoder_stream_len(handle: &mut Handle) -> usize
     len
 }
 
-/// Reading of a stream is given up, or it was reset.
+/// Cancels a stream, which was reset or is read no further.
 #[unsafe(no_mangle)]
 pub extern "C" fn h3q_decoder_cancel(handle: &mut Handle, stream: u64) -> i32
     ensures { CancelsTo handle.old.value handle.new.value stream result }

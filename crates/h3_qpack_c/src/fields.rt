@@ -55,7 +55,7 @@ impl AsField for Field<'_> {
     }
 }
 
-/// Copies bytes to the front of a caller's memory, if they fit; else that is as before.
+/// Copies bytes to the front of a caller's memory, if they fit. Otherwise the memory is unchanged.
 pub(crate) fn write(bytes: &[u8], out: &mut [u8]) -> Written
     ensures told { result ≡ told_of_copy bytes.now out.old }
     ensures copied { out.new ≡ copied bytes.now out.old }

@@ -20,7 +20,7 @@ const MOST_ROOM: usize = 4096;
 /// The section of no field: a prefix whose count and base are 0 (RFC 9204, section 4.5.1).
 const NO_FIELDS: [u8; 2] = [0, 0];
 
-/// How many bytes of a section are taken for a line, where room is made before it is read.
+/// How many bytes of a section count as a line when room is made before it is read.
 const LINE_LEN: usize = 4;
 
 /// Encodes fields without a dynamic table, and copies the section to the caller's memory if it fits there.
@@ -30,7 +30,7 @@ pub extern "C" fn h3q_encode_stateless(
     fields: &[Field],
     section: &mut [u8],
 ) -> Written
-    // Memory is refused only where there is a field.
+    // Memory is refused only if there is a field.
     ensures { ((result ≡ told_of_copy (written_alone (map line_of_lent fields.now)) section.old)
         × (section.new ≡ copied (written_alone (map line_of_lent fields.now)) section.old))
         ⊎ ((fields.now ≡ [] → ⊥) × (result ≡ record { status = no_memory; len = 0 }) × (section.new ≡ section.old)) }
@@ -39,7 +39,7 @@ pub extern "C" fn h3q_encode_stateless(
         return write(&NO_FIELDS, section);
     }
     let mut bytes = Vec::new(alloc);
-    // As much as the caller expects; where that is refused, the section may find less.
+    // As much as the caller expects; if that is refused, the section may find less.
     let _is_made = bytes.reserve(section.len().min(MOST_ROOM)).is_ok();
     if encode_section_stateless(&mut bytes, fields).is_err() {
         return Written {

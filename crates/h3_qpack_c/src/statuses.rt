@@ -9,7 +9,7 @@ use qpack_ends::{DecodingError, EncodingError, LineError, SectionError};
 /// Done.
 pub(crate) const DONE: i32 = 0;
 
-/// No memory was left; the call can be made again.
+/// Out of memory; you can call again.
 pub(crate) const NO_MEMORY: i32 = -1;
 
 /// The caller's memory is too small; the lengths say how much is needed.
@@ -24,7 +24,7 @@ pub(crate) const INVALID: i32 = -4;
 /// The sizes of the section's fields sum to more than the limit.
 pub(crate) const TOO_LARGE: i32 = -5;
 
-/// For a capacity entries would have to go that may still be referenced; nothing was done.
+/// The capacity would evict entries that may still be referenced; nothing was done.
 pub(crate) const HELD: i32 = -6;
 
 /// QPACK_DECOMPRESSION_FAILED (RFC 9204, section 6).

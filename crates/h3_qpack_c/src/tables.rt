@@ -25,7 +25,7 @@ pub(crate) fn give_entry<I: EntryIndex>(
     }
 }
 
-/// Returns how many entries a table has. The number is sought by halves.
+/// Returns how many entries a table has. It is found by binary search.
 pub(crate) fn count_entries<I: EntryIndex>(table: &DynamicTable<I>) -> usize
     ensures { result ≡ length table.now.live }
 {

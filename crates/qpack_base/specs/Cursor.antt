@@ -1,4 +1,4 @@
--- What a cursor over bytes has still to read.
+-- What is left to read at a cursor over bytes.
 use Rattle.std.specs.Prelude.{◌≡◌, ℕ, List, [], ◌∷◌, ◌++◌, Result, Ok, Err}
 use Rattle.qpack_base.specs.declared.coding.UnexpectedEnd.{UnexpectedEnd}
 

@@ -34,7 +34,7 @@ DrainsFields steps it P = (fs : List (Bor HeaderField)) × Drains steps it fs ×
 unfoldable pub field_cmp : Field → Field → Ordering
 field_cmp f g = ordering_then (slice_cmp nat_cmp f.name g.name) (slice_cmp nat_cmp f.value g.value)
 
--- the name, a TAB and the value, with U+FFFD for what is no UTF-8
+-- the name, a TAB and the value, with U+FFFD in place of bytes that are not UTF-8
 abbrev pub text_of : Field → List ℕ
 text_of f = encode_utf8_all (lossy_chars f.name) ++ 9 ∷ [] ++ encode_utf8_all (lossy_chars f.value)
 

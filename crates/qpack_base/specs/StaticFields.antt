@@ -1,4 +1,4 @@
--- The static table as the crate holds it, and the positions of its names.
+-- The static table as the crate keeps it, and the positions of its names.
 use Rattle.std.specs.Prelude.{◌≡◌, ◌≤◌, ◌<◌, ◌-◌, ℕ, Bool, false, List, [], Option, Some, None, map, filter, All}
 use Rattle.std.specs.Prelude.{Contains, length, slice_get, slice_index_or}
 use Rattle.std.specs.Borrow.{Bor}
@@ -26,7 +26,7 @@ abbrev pub is_value_of : List ℕ → Option Field → Bool
 is_value_of value None = false
 is_value_of value (Some f) = bytes_eq value f.value
 
--- whether the field at a index of the static table has the value
+-- whether the field at an index of the static table has the value
 abbrev pub has_value_at : List ℕ → ℕ → Bool
 has_value_at value index = is_value_of value (slice_get static_table index)
 

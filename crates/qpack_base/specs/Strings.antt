@@ -20,7 +20,7 @@ abbrev pub error_of_integer : IntegerError → Error
 error_of_integer integer.UnexpectedEnd = UnexpectedEnd
 error_of_integer integer.Overflow = Integer integer.Overflow
 
--- a whole payload that is not empty was offered, so that memory may be asked for (RFC 9204, section 4.1.2)
+-- a whole payload that is not empty was read, so that memory may be asked for (RFC 9204, section 4.1.2)
 abbrev pub IsWhole : Result (ℕ × List ℕ × List ℕ) StringFault → Type 0
 IsWhole (Ok x) = x.1 ≢ []
 IsWhole (Err EndsEarly) = ⊥

@@ -3,7 +3,8 @@ use Rattle.std.specs.Prelude.{◌≡◌, ℕ, ◌+◌, ◌≤◌, List, ◌++◌
 use Rattle.std.specs.Prelude.{if◌then◌else◌, nat_le, []}
 use Rattle.std.specs.declared.vec.Vec.{Vec}
 
--- the encoding is appended, or the vector is as before; free room for the encoding is enough, and then is not grown
+-- the encoding is appended, or the vector is unchanged; with free room for the encoding it is appended, and the vector
+-- does not grow
 pub record Writes {A E : Type 0} (encoding : List ℕ) (old new : Vec ℕ A) (r : Result (Unit {0}) E) : Type 0 where
   pub ok : OnOk r (new.items ≡ old.items ++ encoding)
   pub err : OnErr r (new.items ≡ old.items)

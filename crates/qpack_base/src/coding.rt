@@ -62,7 +62,7 @@ impl<'a> Cursor<'a> {
         }
     }
 
-    /// Another cursor at this position, to look ahead with.
+    /// Returns another cursor at this position, to look ahead with.
     pub fn fork(&self) -> Cursor<'a>
         ensures { result ≡ self.now }
     {
@@ -121,8 +121,8 @@ pub trait Encode {
     /// The bytes that are written.
     ghost encoding: { Self → List ℕ };
 
-    /// Appends the value's bytes; refused, the vector is as before. With free room for them it
-    /// succeeds and takes no memory.
+    /// Appends the value's bytes. On error the vector is unchanged. With free room for them it succeeds and takes no
+    /// memory.
     fn encode<A: Allocator>(&self, buf: &mut Vec<u8, A>) -> std::result::Result<(), NoMemory>
         ensures ok { OnOk result (buf.new.items ≡ buf.old.items ++ encoding self.now) }
         ensures err { OnErr result (buf.new.items ≡ buf.old.items) }
@@ -208,11 +208,11 @@ pub(crate) fn make_room<A: Allocator>(
     Ok(())
 }
 
-/// The least room that a growth makes, in elements, where it may.
+/// The least room that a growth makes, in elements, if it may.
 const LEAST_GROWTH: usize = 4;
 
-/// Makes room for `additional` elements more, of at most `most`. A growth doubles the capacity, but makes no room past
-/// `most` elements more. Where it is free already, nothing changes and no memory is taken.
+/// Makes room for `additional` more elements, of at most `most`. A growth doubles the capacity, but makes no room past
+/// `most` more elements. If the room is free already, nothing changes and no memory is taken.
 pub fn make_room_within<T, A: Allocator>(
     buf: &mut Vec<T, A>,
     additional: usize,
@@ -246,7 +246,7 @@ pub fn append_within<A: Allocator>(
     ensures ok { IfOk result (λ len. (len ≡ length bytes.now) ×
         (buf.new.items ≡ buf.old.items ++ kept_within most bytes.now)) }
     ensures err { OnErr result (buf.new.items ≡ buf.old.items) }
-    // Memory is refused only where there was less room, and only to bytes that would be appended.
+    // Memory is refused only if there was less room, and only for bytes that would be appended.
     ensures full { OnErr result (vec_capacity buf.old < vec_len buf.old + length bytes.now) }
     ensures fits { OnErr result (length bytes.now ≤ most) }
     ensures capacity { vec_capacity buf.old ≤ vec_capacity buf.new }

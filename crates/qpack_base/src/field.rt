@@ -16,8 +16,8 @@ use std::hash::{Hash, Hasher};
 /// What a table counts for an entry besides its name and its value, in bytes (RFC 9204, section 3.2.1).
 pub const ESTIMATED_OVERHEAD_BYTES: usize = 32;
 
-/// A name and a value, each borrowed for good or owned. Two fields are equal, and hash alike, exactly
-/// if their names and their values are the same bytes; they are ordered by name, then by value, byte by byte.
+/// A name and a value, each borrowed for 'static or owned. Two fields are equal, and hash alike, exactly if their names
+/// and their values are the same bytes; they are ordered by name, then by value, byte by byte.
 #[derive(Debug, PartialEq, Eq, PartialOrd, Ord, Hash, Clone, Drop)]
 pub struct HeaderField {
     pub name: CowSlice<'static, u8>,
@@ -77,7 +77,7 @@ impl HeaderField {
         (self.name, self.value)
     }
 
-    /// Returns the name, a TAB and the value as text, with U+FFFD for what is no UTF-8.
+    /// Returns the name, a TAB and the value as text, with U+FFFD in place of bytes that are not UTF-8.
     pub fn to_text(&self, alloc: Global) -> Result<String, NoMemory>
         ensures { IfOk result (λ text. string_bytes text ≡ text_of (field_of self.now)) }
     {
@@ -97,7 +97,7 @@ pub struct FieldLine<'a> {
     pub name: &'a [u8],
     /// The value.
     pub value: &'a [u8],
-    /// Whether the field is never to be indexed: whoever sends it on must send it as a literal that says so.
+    /// Whether the field is never to be indexed: anyone who sends it on must send it as a literal with that mark.
     pub never_indexed: bool,
 }
 

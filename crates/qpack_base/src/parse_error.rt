@@ -21,7 +21,7 @@ pub enum ParseError {
     /// The first bits are those of another form: the flags above the prefix, or the whole first byte.
     #[error("invalid prefix: {0}")]
     InvalidPrefix(u8),
-    /// The base of a block is below 0; it is held at the least number.
+    /// The base of a block is below 0; it saturates at the least number.
     #[error("invalid base: {0}")]
     InvalidBase(isize),
     /// No memory was left.

@@ -18,8 +18,8 @@ use thiserror::Error as ThisError;
 /// Why an integer could not be read.
 #[derive(Clone, Copy, Debug, PartialEq, Drop, ThisError)]
 pub enum Error {
-    /// The prefix is full, and nine further bytes have their high bits set: the value may pass what is
-    /// read, 2^63 + 2^n - 2 for a prefix of n bits.
+    /// The prefix is full, and nine further bytes have their high bits set: the value may exceed the greatest one that
+    /// is read, 2^63 + 2^n - 2 for a prefix of n bits.
     #[error("value overflow")]
     Overflow,
     /// The bytes end within the integer.
@@ -96,9 +96,8 @@ fn read_groups(buf: &mut Cursor) -> Result<u64, Error>
     Err(Error::Overflow)
 }
 
-/// Appends the shortest spelling of the value with a prefix of `size` bits, under the flags, which are
-/// cut to the bits above the prefix. On error the vector is as before; with free room for the
-/// spelling it succeeds and takes no memory.
+/// Appends the shortest spelling of the value with a prefix of `size` bits, under the flags, which are cut to the bits
+/// above the prefix. On error the vector is unchanged; with free room for the spelling it succeeds and takes no memory.
 #[inline(always)]
 pub fn encode<A: Allocator>(
     size: u8,
@@ -225,7 +224,7 @@ pub(crate) fn encoded_len(size: u8, value: u64) -> usize
     1 + groups_len(value - (end - 1))
 }
 
-/// Two to the number of bits.
+/// Returns two to the number of bits.
 fn power(bits: u8) -> u64
     requires { bits ≤ 8 }
     ensures { result ≡ 2 ^ bits }

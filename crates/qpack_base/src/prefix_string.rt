@@ -139,7 +139,7 @@ pub fn decode(alloc: Global, size: u8, buf: &mut Cursor) -> Result<Vec<u8>, Erro
         Begins (λ encoding. RefusesString size encoding (BadHuffman fault)) buf.old.rest }
     ensures refused { (fault : HuffmanFault) →
         Begins (λ encoding. RefusesString size encoding (BadHuffman fault)) buf.old.rest → GivesFault result fault }
-    // Memory is refused only to a whole payload.
+    // Memory is refused only for a whole payload.
     ensures memory { result ≡ Err NoRoom → Begins (HoldsPayload size) buf.old.rest }
     // The clauses above as one function, which reads from left to right.
     ensures exact { ReadsString buf.old buf.new result (string_at size buf.old.rest) }
@@ -147,9 +147,9 @@ pub fn decode(alloc: Global, size: u8, buf: &mut Cursor) -> Result<Vec<u8>, Erro
     read(alloc, size, buf)
 }
 
-/// Reads the string at the cursor, with a prefix of `size` bits, plain or coded, and appends its value to the text.
-/// On error the text is as before, and the cursor's position is unspecified. With free room for the text that any
-/// payload of the bytes that are left could mean it takes no memory.
+/// Reads the string at the cursor, with a prefix of `size` bits, plain or coded, and appends its value to the text. On
+/// error the text is unchanged, and the cursor's position is unspecified. With free room for any text that the bytes
+/// left could mean, it takes no memory.
 pub fn decode_onto<A: Allocator>(
     size: u8,
     buf: &mut Cursor,
@@ -168,8 +168,8 @@ pub fn decode_onto<A: Allocator>(
 }
 
 /// Reads the string at the cursor as `decode_onto` does, and appends its value if it has at most `most` bytes. Returns
-/// how many it has. A longer one takes no memory, and the text is as before. The text never gets room past `most` bytes
-/// more.
+/// how many it has. A longer one takes no memory, and the text is unchanged. The text never gets room for more than
+/// `most` more bytes.
 pub fn decode_within<A: Allocator>(
     size: u8,
     most: usize,
@@ -191,9 +191,8 @@ pub fn decode_within<A: Allocator>(
     read_within(take_payload(size, buf)?, most, text)
 }
 
-/// Appends the coded literal of the value with a prefix of `size` bits, under the flags, which are cut
-/// to the bits above it. On error the vector is as before; with free room for the literal it succeeds
-/// and takes no memory.
+/// Appends the coded literal of the value with a prefix of `size` bits, under the flags, which are cut to the bits
+/// above it. On error the vector is unchanged; with free room for the literal it succeeds and takes no memory.
 #[inline(always)]
 pub fn encode<A: Allocator>(
     size: u8,
@@ -237,8 +236,8 @@ fn has_ample_room<A: Allocator>(value: &[u8], buf: &Vec<u8, A>) -> bool
 }
 
 /// Appends the literal of a text whose payload is written first, with room in front of it for its length: as much as
-/// that takes if a code has six bits, which is about what one has in a field. Where it takes more or less, and where
-/// that is more than two bytes, the vector is as before.
+/// that takes if a code has six bits, which is about what one has in a field. If it takes more or less, or more than
+/// two bytes, the vector is unchanged.
 #[inline(always)]
 fn append_unmeasured<A: Allocator>(size: u8, flags: u8, value: &[u8], buf: &mut Vec<u8, A>) -> bool
     requires least { 2 ≤ size }
@@ -515,7 +514,7 @@ fn push_text<A: Allocator>(
     push_rest(start, rest, text)
 }
 
-/// Appends what the rest of a payload means into the free room. Where that is nothing, the text is cut to its first
+/// Appends what the rest of a payload means into the free room. If the rest is malformed, the text is cut to its first
 /// `start` bytes.
 fn push_rest<A: Allocator>(
     start: usize,

@@ -18,7 +18,7 @@ use thiserror::Error as ThisError;
 mod names;
 mod rows;
 
-/// Why the static table has no field to give.
+/// Why the static table has no such field.
 #[derive(Clone, Copy, Debug, PartialEq, Drop, ThisError)]
 pub enum Error {
     /// No field has this index.

@@ -1,5 +1,5 @@
-//! Names and values of a browser's requests and of their answers, each with the payload that the Rust
-//! crate `h3` 0.0.8 writes for it, in hexadecimal: a text, a TAB, a payload, a line feed.
+//! Names and values of a browser's requests and of the responses to them, each with the payload that the Rust crate
+//! `h3` 0.0.8 writes for it, in hexadecimal: a text, a TAB, a payload, a line feed.
 
 pub(crate) static STRINGS: &[u8] = b"\
 www.example-shop.com\tf1e3c2e5f23a6ba0ab2273d6b90f4f\n\

@@ -127,7 +127,7 @@ fn payloads_that_mean_nothing_are_refused(rt: HostRuntime) -> Result<(), Fail> {
     Ok(())
 }
 
-/// The string is refused, and the text that it would stand behind stays.
+/// The string is rejected, and the text that it would follow does not change.
 fn stays(alloc: Global, literal: &[u8]) -> Result<(), Fail> {
     let mut text = again(|| Vec::from_slice(alloc, b"text"))?;
     let refused = get_onto(8, literal, &mut text).is_err();

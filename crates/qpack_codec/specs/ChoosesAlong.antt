@@ -12,7 +12,7 @@ use Rattle.qpack_spec.specs.Table.{Table}
 abbrev pub Chooses : Type 0 → Type 0 → Type 1
 Chooses K W = K → Table → FieldLine → W → Chosen → K → Type 0
 
--- one field; where a static field equals it, and it is not marked, the chooser is not asked
+-- one field; if a static field equals it, and it is not marked, the chooser is not called
 abbrev pub ChoosesUnless : {K W : Type 0} → Option ℕ → Bool → Chooses K W → Chooses K W
 ChoosesUnless (Some i) false chooses old t l w c new = (c ≡ alone_chosen) × (new ≡ old)
 ChoosesUnless o marked chooses old t l w c new = chooses old t l w c new

@@ -99,7 +99,7 @@ pub record DraftsAlong {K W : Type 0} (chooses : Chooses K W) (fields : List Fie
   pub drafts : DraftsChosen fields old new block_old block_new written_old written_new required
   pub along : ChoosesSection chooses fields wishes old drafts.choices
 
--- the block of the field lines was written by what a chooser chose; at capacity 0 it is not asked
+-- the block of the field lines was written by what a chooser chose; at capacity 0 the chooser is not called
 pub record EncodesAlong {K W : Type 0} (chooses : Chooses K W) (stream : ℕ) (fields : List FieldLine) (wishes : List W)
     (old new : Table) (block_old block_new written_old written_new : List ℕ) (required : ℕ) : Type 0 where
   pub section : EncodesChosen stream fields old new block_old block_new written_old written_new required

@@ -27,7 +27,7 @@ refusal_of e = None
 
 -- ---- one instruction
 
--- the table is what the instruction makes of it, or as before where it is refused
+-- the table is what the instruction makes of it, or unchanged if it is refused
 abbrev pub Applies : Result ⊤ EncoderError → Result Table TableRefusal → Table → Table → Type 0
 Applies (Ok done) read old new = read ≡ Ok new
 Applies (Err e) read old new = IsRefusedFor read (refusal_of e) × (new ≡ old)
@@ -62,7 +62,7 @@ Hears old new bytes left r =
 -- ---- a capacity
 
 -- the capacity is set and its instruction written; or it is refused, by the table as the definition refuses it, or for
--- memory where the definition takes it, and then nothing changes and nothing is written
+-- memory if the definition takes it, and then nothing changes and nothing is written
 abbrev pub SetsCapacity : ℕ → Table → Table → List ℕ → List ℕ → Result ⊤ EncoderError → Type 0
 SetsCapacity size old new written_old written_new (Ok done) =
     (with_capacity old size ≡ Ok new) × (written_new ≡ written_old ++ written_encoder_instruction (SetCapacity size))

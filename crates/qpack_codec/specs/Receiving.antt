@@ -43,13 +43,13 @@ refusal_of e = None
 
 -- ---- one instruction
 
--- the table is what the instruction makes of it, or as before where it is refused, or memory is
+-- the table is what the instruction makes of it, or unchanged if it is refused, or memory is
 abbrev pub Applies : Result ⊤ DecoderError → Result Table TableRefusal → Table → Table → Type 0
 Applies (Ok done) read old new = read ≡ Ok new
 Applies (Err Memory) read old new = new ≡ old
 Applies (Err e) read old new = IsRefusedFor read (refusal_of e) × (new ≡ old)
 
--- the field that an instruction is to insert, where what it names is there (sections 4.3.2 to 4.3.4)
+-- the field that an instruction is to insert, if what it references is there (sections 4.3.2 to 4.3.4)
 abbrev pub field_to_insert : Table → EncoderInstruction → Option Field
 field_to_insert t (InsertStaticName index value) = option_map (λ f. with_value value f) (slice_get static_table index)
 field_to_insert t (InsertDynamicName relative value) = option_map (λ f. with_value value f)
@@ -58,7 +58,7 @@ field_to_insert t (InsertLiteralName name value) = Some (record { name = name; v
 field_to_insert t (Duplicate relative) = relative_entry (window t) relative
 field_to_insert t (SetCapacity capacity) = None
 
--- the field that an instruction is to insert was found; or it is refused as the instruction is, or memory is
+-- the field that an instruction is to insert was found; or it is refused as the instruction is, or memory is refused
 abbrev pub FindsField : Table → EncoderInstruction → Result HeaderField DecoderError → Type 0
 FindsField t i (Ok field) = IsSome (field_to_insert t i) × (apply_encoder_instruction t i ≡ put t (field_of field))
 FindsField t i (Err Memory) = IsSome (field_to_insert t i)

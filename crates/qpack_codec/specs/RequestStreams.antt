@@ -6,11 +6,11 @@ use Rattle.std.specs.BTreeMap.{is_at}
 use Rattle.std.specs.Option.{IsSome}
 use Rattle.qpack_spec.specs.Session.{RequestStream, stream_at}
 
--- each stream stays
+-- no stream changes
 abbrev pub KeepsStreams : {B : Type 0} → List (ℕ × RequestStream B) → List (ℕ × RequestStream B) → Type 0
 KeepsStreams old new = (s : ℕ) → stream_at new s ≡ stream_at old s
 
--- one stream becomes this, and each other one stays
+-- one stream becomes this, and no other one changes
 abbrev pub ChangesStream : {B : Type 0} → ℕ → RequestStream B → List (ℕ × RequestStream B) → List (ℕ × RequestStream B)
     → Type 0
 ChangesStream number k old new = (s : ℕ) → stream_at new s ≡ (if nat_eq number s then k else stream_at old s)

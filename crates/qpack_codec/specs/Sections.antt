@@ -68,7 +68,7 @@ abbrev pub TellsFault : {A : Type 0} → DecoderError → Result A Fault → Typ
 TellsFault e (Ok x) = ⊥
 TellsFault e (Err fault) = Tells e fault
 
--- or memory was refused
+-- the error reports the fault that was read, or out of memory
 abbrev pub FailsWith : {A : Type 0} → DecoderError → Result A Fault → Type 0
 FailsWith Memory read = Unit {0}
 FailsWith e read = TellsFault e read

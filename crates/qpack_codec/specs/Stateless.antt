@@ -56,7 +56,7 @@ DecodesStateless (Err e) read = FailsStateless e read
 abbrev pub IsFinished : CursorView → CursorView → Type 0
 IsFinished old new = (new.rest ≡ []) × (new.total ≡ old.total)
 
--- ---- the same by cases
+-- ---- by cases
 
 -- the error reports this fault, or out of memory
 abbrev pub Tells : DecoderError → StatelessFault → Type 0

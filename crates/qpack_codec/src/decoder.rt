@@ -81,13 +81,15 @@ impl<I: EntryIndex> Decoder<I> {
         &self.table
     }
 
-    /// Decodes the field section that the cursor has left, to its end. It changes nothing but the cursor.
+    /// Decodes the field section left at the cursor, to its end. It changes only the cursor.
     ///
-    /// Refused are, in this order: bytes that are no prefix, and a prefix that is out of range
-    /// (`InvalidInteger`); a base below 0 where the section requires insertions (`BadBaseIndex`); a required insert
-    /// count above the insertions that were received (`MissingRefs`, the section can be decoded later); then line by
-    /// line its bytes (`InvalidInteger`, `InvalidString`) and its index (`DynamicTable`, `InvalidStaticIndex`). On
-    /// error the cursor's position is unspecified.
+    /// # Errors
+    ///
+    /// Rejects, checking in this order, bytes that are no prefix, and a prefix that is out of range (`InvalidInteger`);
+    /// a base below 0 if the section requires insertions (`BadBaseIndex`); a required insert count above the insertions
+    /// that were received (`MissingRefs`, the section can be decoded later); then line by line its bytes
+    /// (`InvalidInteger`, `InvalidString`) and its index (`DynamicTable`, `InvalidStaticIndex`). On error the cursor's
+    /// position is unspecified.
     pub fn decode_header(&self, buf: &mut Cursor) -> Result<Decoded, DecoderError>
         // Returns what the section means under the table, or the first fault in reading order.
         ensures exact { DecodesSection result (reading_of_bytes (window self.now.table) buf.old.rest) }
@@ -103,6 +105,8 @@ impl<I: EntryIndex> Decoder<I> {
     /// made (RFC 9204, sections 4.2 and 4.3). It applies each whole instruction to the table, and leaves a truncated
     /// rest at the cursor; pass that rest again with the bytes that follow it. Then it reports the insertions in
     /// `write`, for the decoder stream, by increments of 64 and one of the rest (section 4.4.3).
+    ///
+    /// # Errors
     ///
     /// Rejects an instruction with malformed bytes (`InvalidInteger`, `InvalidString`), with an index that has no entry
     /// (`InvalidStaticIndex`, `DynamicTable`), or with a field or a capacity that the table rejects (`DynamicTable`;
@@ -134,8 +138,7 @@ impl<I: EntryIndex> Decoder<I> {
 }
 
 /// Appends the acknowledgment of a section of this stream that referenced the dynamic table, for the decoder stream
-/// (RFC 9204, section 4.4.1). On error the vector is as before; with free room for it, it succeeds and takes no
-/// memory.
+/// (RFC 9204, section 4.4.1). On error the vector is unchanged; with free room for it, it succeeds and takes no memory.
 pub fn ack_header<A: Allocator>(stream_id: u64, decoder: &mut Vec<u8, A>) -> Result<(), NoMemory>
     ensures writes { Writes (written_decoder_instruction (Acknowledgment stream_id)) decoder.old decoder.new result }
 {
@@ -143,7 +146,7 @@ pub fn ack_header<A: Allocator>(stream_id: u64, decoder: &mut Vec<u8, A>) -> Res
 }
 
 /// Appends the cancellation of this stream, for the decoder stream (RFC 9204, section 4.4.2). On error the vector is
-/// as before; with free room for it, it succeeds and takes no memory.
+/// unchanged; with free room for it, it succeeds and takes no memory.
 pub fn stream_canceled<A: Allocator>(
     stream_id: u64,
     decoder: &mut Vec<u8, A>,

@@ -83,9 +83,11 @@ impl Encoder {
     /// cancellation every one, and an increment raises the known received count. It leaves a truncated rest at the
     /// cursor; pass that rest again with the bytes that follow it. It takes no memory.
     ///
-    /// An instruction may be refused: its bytes (`InvalidInteger`), or an acknowledgment of a stream that has no
-    /// unacknowledged block (`Insertion(UnknownStreamId)`; then, and only then, the cursor is moved past it). Those
-    /// before it stay applied.
+    /// # Errors
+    ///
+    /// Rejects malformed bytes (`InvalidInteger`), and an acknowledgment of a stream that has no unacknowledged block
+    /// (`Insertion(UnknownStreamId)`; the cursor moves past it then, and in no other case). The instructions before it
+    /// stay applied.
     pub fn on_decoder_recv(&mut self, buf: &mut Cursor) -> Result<(), EncoderError>
         ensures hears { Hears self.old self.new buf.old.rest buf.new.rest result }
         ensures total { buf.new.total ≡ buf.old.total }
@@ -116,6 +118,8 @@ impl<D: WritesSections> Encoder<D> {
     /// instructions of its insertions to the other. Returns the block's required insert count, which is 0 if it
     /// references no entry. For each field it takes the first of these that applies: an equal static field, the newest
     /// equal entry that was live at the block's start, an insertion, and a literal.
+    ///
+    /// # Errors
     ///
     /// On error, which is `Memory` only, the block is unchanged. The insertions that were made stay, their instructions
     /// are written, and nothing more is referenced: you can call again. A block's vector with free room for it does not

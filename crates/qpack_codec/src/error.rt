@@ -24,10 +24,10 @@ pub enum Error {
     Decoder(DecoderError),
 }
 
-/// Why fields were not encoded, or an instruction of the decoder was not taken.
+/// Why fields were not encoded, or an instruction of the decoder was not applied.
 #[derive(Clone, Copy, Debug, PartialEq, Drop, thiserror::Error)]
 pub enum EncoderError {
-    /// The dynamic table refused what it was asked for.
+    /// The dynamic table rejected the operation.
     #[error("dynamic table insertion: {0:?}")]
     Insertion(dynamic::Error),
     /// A string is bad; kept from the original, and never returned.
@@ -110,7 +110,7 @@ pub enum DecoderError {
     /// An index of the dynamic table references no live entry; kept from the original, and never returned.
     #[error("invalid dynamic index: {0:?}")]
     InvalidIndex(vas::Error),
-    /// The dynamic table refused what it was asked for, or has no entry of an index.
+    /// The dynamic table rejected the operation, or has no entry of an index.
     #[error("dynamic table error: {0:?}")]
     DynamicTable(dynamic::Error),
     /// No field of the static table has this index.
@@ -123,7 +123,7 @@ pub enum DecoderError {
     /// 0 if they could never be received.
     #[error("missing {0} refs to decode bloc")]
     MissingRefs(usize),
-    /// The base is below 0; it is held at the least number.
+    /// The base is below 0; it saturates at the least number.
     #[error("out of bounds base index: {0}")]
     BadBaseIndex(isize),
     /// Kept from the original, and never returned: a block that is cut ends within an integer or a string.

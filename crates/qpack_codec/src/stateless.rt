@@ -57,7 +57,7 @@ pub fn encode_stateless<'a, A: Allocator, T: Iterator<Item = &'a HeaderField> + 
     answer
 }
 
-/// Appends the block; refused, what stood before is still at the front.
+/// Appends the block. On error the earlier bytes are still at the front.
 fn append_stateless<'a, A: Allocator, T: Iterator<Item = &'a HeaderField> + Drop>(
     block: &mut Vec<u8, A>,
     fields: T,
@@ -142,8 +142,8 @@ fn read_stateless_fields(
     })
 }
 
-/// Reads the line at the cursor, which begins with this byte, and gives its field. A post-base line is
-/// refused by this byte alone.
+/// Reads the line at the cursor, which begins with this byte, and returns its field. A post-base line is rejected by
+/// this byte alone.
 fn read_stateless_field(
     alloc: Global,
     first: u8,

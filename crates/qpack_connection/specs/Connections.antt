@@ -57,7 +57,7 @@ pub record Connection : Type 0 where
   pub decoder_stream : Wire
   pub streams : List (ℕ × RequestStream SentSection)
 
--- both ends were made with one maximum capacity, the encoding end lets no more streams be blocked than the decoding end
+-- both ends were made with one maximum capacity, the encoding end permits no more blocked streams than the decoding end
 -- does, and nothing has happened (sections 2.1.2 and 3.2.3)
 pub record IsNew (c : Connection) : Type 0 where
   pub encoder_settings : EncoderSettings

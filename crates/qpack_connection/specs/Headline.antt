@@ -117,7 +117,7 @@ AnswersEncode s (Err encoding.Memory) = s < 2 ^ 62
 AnswersEncode s (Err (encoding.NoStream q)) = (q ≡ s) × (2 ^ 62 ≤ s)
 AnswersEncode s (Err e) = ⊥
 
--- a capacity is refused as too large exactly where it is above the maximum. Else it is set, or memory was refused, or
+-- a capacity is refused as too large exactly if it is above the maximum. Otherwise it is set, or memory was refused, or
 -- entries that are needed do not fit it, of which there are none before an encode
 abbrev pub AnswersCapacity : Bool → ℕ → ℕ → Result ⊤ EncodingError → Type 0
 AnswersCapacity has_encoded maximum capacity (Ok done) = capacity ≤ maximum

@@ -108,8 +108,8 @@ abbrev pub AreLawful : (calls : List Call) (old new : EncodingEnd) → Run calls
 AreLawful [] old new run = Unit {0}
 AreLawful (call ∷ calls) old new run = IsLawfulCall call old × AreLawful calls run.0 new run.2
 
--- a section whose first field is new, and is to be inserted by the caller's word, requires an insertion that was not made
--- before, if nothing is under way, some stream may be blocked, and some section may wait for its acknowledgment
+-- a section whose first field is new, and is to be inserted by the caller's wish, requires an insertion that was not
+-- made before, if nothing is under way, some stream may be blocked, and some section may wait for its acknowledgment
 abbrev pub GoesOn : EncoderSettings → EncodingEnd → List FieldLine → List Wish → ℕ → Type 0
 GoesOn settings e (l ∷ more) (Insert ∷ words) required =
     IsQuiet e.table → IsToBeInserted e.table l → 0 < settings.max_blocked → is_full e ≡ false

@@ -52,8 +52,7 @@ abbrev pub IsUnderWay : Encoder → ℕ → ℕ → Type 0
 IsUnderWay p stream required =
     (i : ℕ) × (slice_get p.sections i ≡ Some (record { stream = stream; required = required }))
 
--- a stream may come to be blocked: a section of it requires an insertion that is not known to be received (section
--- 2.1.2)
+-- a stream may become blocked: a section of it requires an insertion that is not known to be received (section 2.1.2)
 abbrev pub IsAtRisk : Encoder → ℕ → Type 0
 IsAtRisk p stream = (required : ℕ) × IsUnderWay p stream required × (p.known < required)
 

@@ -121,7 +121,7 @@ encoder_of instructions made free w =
       sections = map (λ b. open_section b) w.end.table.unacknowledged ++ map (λ s. free_section s) free;
     }
 
--- a decoding end of its peer: it has the maximum capacity that the encoder knows, lets no fewer streams be blocked, and
+-- a decoding end of its peer: it has the maximum capacity that the encoder knows, permits no fewer blocked streams, and
 -- has reported all insertions that the encoder knows to be received
 pub record IsPeer (settings : EncoderSettings) (w : Writer) (d : DecodingEnd) : Type 0 where
   pub capacity : d.settings.max_capacity ≡ settings.max_capacity
@@ -136,7 +136,7 @@ pub record IsLawfulStill (maximum : ℕ) (made : History) (k : Section) (b : Una
 
 -- all that was written is lawful for each decoding end of a peer (sections 2.1.1 and 2.1.2): the encoder stream,
 -- however much of it has come; each section that waits, which are those that the table has; and for each section under
--- way the limit of blocked streams, where those that wait at the decoder are under way too
+-- way the limit of blocked streams, if those that wait at the decoder are under way too
 pub record KeepsToTheStandard (settings : EncoderSettings) (w : Writer) : Type 0 where
   pub instructions : List EncoderInstruction
   pub made : History

@@ -258,8 +258,8 @@ abbrev pub encoder_unheard : Encoder
 encoder_unheard = record encoder_literal { known = 0 }
 
 -- it acknowledges the section on stream 4 (B.2), reports one insertion (B.3), cancels stream 8 (B.4), and writes
--- nothing more (B.5). Another decoder cancels stream 4 and reports all three insertions at once, also where one byte
--- comes first
+-- nothing more (B.5). Another decoder cancels stream 4 and reports all three insertions at once, also if one byte comes
+-- first
 abbrev pub AppendixDecoderIsLawful : Type 0
 AppendixDecoderIsLawful =
     decoders.IsLawful (encoder_after (table_after encoder_first open_on_4 (2 ∷ [])) [] []) (0x84 ∷ [])

@@ -87,7 +87,7 @@ CapacitiesAreRefined =
     → (more : List EndStep)
     × RefinesSession maximum new (after_end_steps (steps ++ more) (abstract_start 0 maximum limit))
 
--- a stream that is cancelled is one that the session cancels, or forgets where no cancellation is written
+-- a stream that is cancelled is one that the session cancels, or forgets if no cancellation is written
 abbrev pub CancellationsAreRefined : Type 0
 CancellationsAreRefined =
     (maximum limit : ℕ) (c new : Connection) (steps : List EndStep) (s : ℕ)

@@ -69,12 +69,12 @@ impl ConnectionSettings {
     }
 }
 
-/// What may happen on a connection. Streams go by their numbers, which are below 2^62.
+/// An event of a connection. Stream numbers are below 2^62.
 #[derive(Debug, Drop)]
 pub enum Event {
-    /// A field section is encoded for a stream (RFC 9204, section 2.1).
+    /// Encodes a field section for a stream (RFC 9204, section 2.1).
     Encode(u64, Vec<OwnedFieldLine>),
-    /// The encoding end sets the capacity of its table, in bytes (RFC 9204, section 4.3.1).
+    /// Sets the capacity of the encoding end's table, in bytes (RFC 9204, section 4.3.1).
     SetCapacity(usize),
     /// Delivers this many more bytes of the encoder stream to the decoding end, or all that are left.
     ToDecoder(usize),
@@ -82,7 +82,7 @@ pub enum Event {
     ToEncoder(usize),
     /// Passes the oldest section of a stream that was not decoded to the decoding end (RFC 9204, section 2.2).
     Decode(u64),
-    /// The decoding end gives a stream up (RFC 9204, section 4.4.2).
+    /// Cancels a stream at the decoding end (RFC 9204, section 4.4.2).
     Cancel(u64),
 }
 
@@ -117,10 +117,10 @@ pub enum Outcome {
     NoRoom,
 }
 
-/// Why a run was not done.
+/// Why a run failed.
 #[derive(Clone, Copy, Debug, PartialEq, Eq, Drop, Error)]
 pub enum RunError {
-    /// The settings are refused.
+    /// The settings are rejected.
     #[error("{0}")]
     Settings(SettingsError),
     /// There was no memory for the outcomes of the events.

@@ -22,8 +22,8 @@ ghost use Rattle.qpack_connection.specs.SettledSections.{SectionsSettle};
 ghost use Rattle.qpack_connection.specs.TwoEndsHeadline.{TwoEndsAnswerWhatWasHanded};
 
 /// What [`EncoderStream::receive`](crate::EncoderStream::receive) and
-/// [`DecoderStream::receive`](crate::DecoderStream::receive) promise comes to this: of a stream whose instructions a
-/// strict end applies, up to the last, no piece is refused, wherever the stream is cut (RFC 9204, sections 4.2 to 4.4).
+/// [`DecoderStream::receive`](crate::DecoderStream::receive) promise: of a stream whose instructions a strict end
+/// applies, up to the last, no piece is refused, wherever the stream is cut (RFC 9204, sections 4.2 to 4.4).
 pub fn lawful_streams_are_never_refused()
     ensures encoder_stream { EncoderStreamsAreNeverRefused }
     ensures decoder_stream { DecoderStreamsAreNeverRefused }
@@ -105,7 +105,7 @@ pub fn sections_settle()
 
 /// What the laws ask of a peer is met by the ends of RFC 9204, appendix B, at each of its moments: its encoder stream,
 /// however it is cut; its sections, also marked ones, those with a base above, at and below their count, and those that
-/// wait; and its decoder stream, also where more than one insertion is reported at once. Its sections are decoded in
+/// wait; and its decoder stream, also if more than one insertion is reported at once. Its sections are decoded in
 /// order, and its decoder is a peer of its encoder.
 pub fn ends_of_the_standard_are_lawful()
     ensures encoder_stream { AppendixEncoderIsLawful }

@@ -1,4 +1,4 @@
-//! Calls that begin an end or need none, and texts of errors that no case is answered.
+//! Calls that begin an end or need none, and texts of errors that occur in no case.
 
 use crate::{decoder, encoder};
 use anyhow::{Result, bail};

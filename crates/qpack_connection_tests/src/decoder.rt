@@ -84,7 +84,7 @@ fn push_error(answer: &mut String, error: DecodingError) -> Result<()> {
 }
 
 impl Decoder {
-    /// Receives bytes of the encoder stream in pieces; answers how many insertions were made, or the last refusal.
+    /// Receives bytes of the encoder stream in pieces, and returns how many insertions were made, or the last error.
     fn receive(&mut self, bytes: &[u8], answer: &mut String) -> Result<()> {
         let mut received = self.end.receive(&mut Cursor::new(b""));
         for piece in bytes.chunks(self.size.max(1)) {
@@ -96,7 +96,7 @@ impl Decoder {
         }
     }
 
-    /// Decodes a section; where it waits, answers how many streams are blocked too.
+    /// Decodes a section; if it waits, returns how many streams are blocked too.
     fn decode(&mut self, stream: u64, section: &[u8], answer: &mut String) -> Result<()> {
         self.fields.clear();
         match self.end.decode(stream, section, &mut self.fields) {
@@ -149,7 +149,7 @@ impl Decoder {
     }
 }
 
-/// Appends what a decoder stream tells: how many insertions were received, and the streams that are acknowledged and
+/// Appends what a decoder stream reports: how many insertions were received, and the streams that are acknowledged and
 /// cancelled, in turn.
 fn push_told(alloc: Global, answer: &mut String, stream: &[u8]) -> Result<()> {
     let mut received = 0usize;

@@ -39,7 +39,7 @@ fn reference(block: &mut DynamicTableEncoder<'_>, field: &HeaderField) -> Result
     Ok(())
 }
 
-/// A section on a stream that references a field; answers how many insertions it requires.
+/// Encodes a section on a stream that references a field, and returns how many insertions it requires.
 pub(crate) fn send(
     table: &mut DynamicTable,
     stream: u64,

@@ -20,7 +20,7 @@ pub(crate) struct Encoder {
     section: Vec<u8>,
     peer: ConnectionDecoder,
     fields: FieldSection,
-    /// Whether what is handed are header fields, which have no marks.
+    /// Whether header fields are passed, which have no marks.
     is_of_header_fields: bool,
     size: usize,
 }
@@ -156,7 +156,7 @@ impl Encoder {
         self.end.encode(stream, fields, &mut self.section)
     }
 
-    /// Encodes the fields of words on a stream; answers how many insertions the section requires.
+    /// Encodes the fields of words on a stream, and returns how many insertions the section requires.
     fn encode_words(
         &mut self,
         alloc: Global,
@@ -199,7 +199,7 @@ impl Encoder {
         }
     }
 
-    /// Encodes the fields of words on a stream, and sends the section; answers what the peer decoded.
+    /// Encodes the fields of words on a stream, and sends the section. Returns what the peer decoded.
     fn encode_and_pass(
         &mut self,
         alloc: Global,
@@ -212,7 +212,7 @@ impl Encoder {
         self.pass(stream, answer)
     }
 
-    /// Encodes the fields on each of so many streams; answers how many insertions the sections require in all.
+    /// Encodes the fields on each of this many streams, and returns how many insertions the sections require in all.
     fn fill(&mut self, alloc: Global, words: &mut Words<'_>, answer: &mut String) -> Result<()> {
         let streams = words.number()?;
         let fields = fields_of(alloc, words)?;
@@ -224,7 +224,7 @@ impl Encoder {
         Ok(write!(answer, "{required}")?)
     }
 
-    /// Sends the encoder stream, the last section, and the decoder stream; answers what the peer decoded.
+    /// Sends the encoder stream, the last section, and the decoder stream. Returns what the peer decoded.
     fn pass(&mut self, stream: u64, answer: &mut String) -> Result<()> {
         self.peer
             .receive(&mut Cursor::new(self.end.encoder_stream()))?;
@@ -237,7 +237,7 @@ impl Encoder {
         Ok(())
     }
 
-    /// Encodes the fields that the peer decoded last, as they are lent.
+    /// Encodes the fields that the peer decoded last, as they are borrowed.
     fn encode_again(&mut self, alloc: Global, stream: u64) -> Result<()> {
         let mut lines = Vec::new(alloc);
         for field in self.fields.iter() {
@@ -248,7 +248,7 @@ impl Encoder {
         Ok(())
     }
 
-    /// Receives bytes of the decoder stream in pieces; answers the last of them.
+    /// Receives bytes of the decoder stream in pieces, and returns the last result.
     fn receive(&mut self, bytes: &[u8]) -> Result<(), EncodingError> {
         let mut received = self.end.receive(&mut Cursor::new(b""));
         for piece in bytes.chunks(self.size.max(1)) {

@@ -9,7 +9,7 @@ use std::fmt::Write;
 /// What the marks of cases ask.
 const WISHES: [Wish; 4] = [Wish::Unmarked, Wish::Never, Wish::Reuse, Wish::Insert];
 
-/// Lends fields, each with what is asked for it.
+/// Borrows fields, each with its wish.
 pub(crate) fn wish_fields(alloc: Global, fields: &[Field]) -> Result<Vec<WishedField<'_>>> {
     let mut wished = Vec::with_capacity(alloc, fields.len())?;
     for field in fields {

@@ -66,7 +66,7 @@ impl Subject for H3Encoder {
 }
 
 impl H3Encoder {
-    /// Encodes the fields of words on a stream; answers how many insertions the section requires.
+    /// Encodes the fields of words on a stream, and returns how many insertions the section requires.
     fn encode(&mut self, alloc: Global, words: &mut Words<'_>) -> Result<usize> {
         let stream = words.number()?;
         let fields = header_fields(alloc, &fields_of(alloc, words)?)?;

@@ -76,7 +76,7 @@ impl Subject for Sections {
 }
 
 impl Sections {
-    /// Reads a section up to a limit, into the fields that stand there.
+    /// Reads a section up to a limit, into the fields of the one before.
     fn read(&mut self, section: &[u8], limit: u64, answer: &mut String) -> Result<()> {
         match read_section(&self.table, section, limit, &mut self.fields) {
             Ok(reading) => push_reading(answer, reading, &self.fields),

@@ -188,7 +188,7 @@ fn found(table: &mut DynamicTable, fields: &[HeaderField]) -> Result<DynamicLook
     found
 }
 
-/// What the insertion of the last of some fields answers. The block is given up then.
+/// Returns the result of inserting the last of some fields. The block is given up then.
 fn inserted(
     table: &mut DynamicTable,
     fields: &[HeaderField],
@@ -202,8 +202,8 @@ fn inserted(
     inserted
 }
 
-/// Appends the base of a block, what it finds for the first of some fields, and what the insertion of each answers. The
-/// block is given up then.
+/// Appends the base of a block, what it finds for the first of some fields, and the result of inserting each. The block
+/// is given up then.
 fn push_block(answer: &mut String, table: &mut DynamicTable, fields: &[HeaderField]) -> Result<()> {
     let mut block = table.encoder(4);
     let pushed = push_answers(answer, &mut block, fields);
@@ -211,7 +211,7 @@ fn push_block(answer: &mut String, table: &mut DynamicTable, fields: &[HeaderFie
     pushed
 }
 
-/// Appends what a block answers.
+/// Appends the result of a block.
 fn push_answers(
     answer: &mut String,
     block: &mut DynamicTableEncoder<'_>,

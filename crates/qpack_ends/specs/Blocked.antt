@@ -27,11 +27,11 @@ exceeds inserted (Some required) = nat_lt inserted required
 abbrev pub is_blocked : ℕ → ℕ → List BlockedStream → Bool
 is_blocked inserted stream bs = exceeds inserted (required_of stream bs)
 
--- how many of the streams are
+-- how many of the streams are blocked after this many insertions
 abbrev pub blocked_among : ℕ → List BlockedStream → ℕ
 blocked_among inserted bs = length (filter (λ b. nat_lt inserted b.required) bs)
 
--- the others
+-- the streams without this one
 abbrev pub without : ℕ → List BlockedStream → List BlockedStream
 without stream bs = filter (λ b. not (nat_eq b.stream stream)) bs
 
@@ -77,8 +77,8 @@ pub record AreMapped (bs : List BlockedStream) (m : BTreeMap ℕ ℕ) : Type 0 w
 abbrev pub MayBlockAmong : ℕ → ℕ → ℕ → List BlockedStream → Type 0
 MayBlockAmong inserted most stream bs = is_blocked inserted stream bs ≡ false → blocked_among inserted bs < most
 
--- a stream comes to be blocked, where it may; it is one too many; or memory is refused, where it may be blocked and is not
--- counted yet with what its section requires. Unless it comes to be blocked, nothing changes
+-- a stream becomes blocked, if it may; it is one too many; or memory is refused, if it may be blocked and does not yet
+-- count with what its section requires. Unless it becomes blocked, nothing changes
 abbrev pub Blocks : List BlockedStream → List BlockedStream → BlockedStream → ℕ → ℕ → Result ⊤ NotBlocked → Type 0
 Blocks old new b inserted most (Ok done) =
     (new ≡ with_blocked b old) × MayBlockAmong inserted most b.stream old

@@ -25,9 +25,9 @@ use Rattle.qpack_ends.specs.Receiving.{StreamView, Receives, ReceivesMore, AsksT
 use Rattle.qpack_ends.specs.Sections.{decompression_failed, TellsReading, ReadsInto}
 use Rattle.qpack_ends.specs.Sections as sections
 
--- a decoding end: its settings; the table; what waits of the encoder stream; how many insertions it has reported; the
--- streams that came to be blocked and were not decoded since; the bytes of the decoder stream that are not sent; and the
--- error that ended the connection
+-- a decoding end: its settings; the table; the bytes that wait from the encoder stream; how many insertions it has
+-- reported; the streams that became blocked and were not decoded since; the bytes of the decoder stream that are not
+-- sent; and the error that ended the connection
 pub record DecodingEnd : Type 0 where
   pub settings : DecoderSettings
   pub table : Table
@@ -51,7 +51,7 @@ pub record Begins (settings : DecoderSettings) (d : DecodingEnd) : Type 0 where
   pub unsent : d.unsent ≡ []
   pub failure : d.failure ≡ None
 
--- or a setting is out of range, the maximum capacity before the limit of blocked streams
+-- why settings are rejected: one is out of range, the maximum capacity before the limit of blocked streams
 abbrev pub FailsSettings : DecoderSettings → SettingsError → Type 0
 FailsSettings settings CapacityTooLarge = 2 ^ 30 ≤ settings.max_capacity
 FailsSettings settings BlockedTooLarge = (settings.max_capacity < 2 ^ 30) × (65535 ≤ settings.max_blocked)
@@ -71,7 +71,7 @@ abbrev pub stream_failure : EncoderStreamError → DecodingError
 stream_failure (stream.Refused place e) = EncoderStream place e
 stream_failure stream.Memory = Memory
 
--- how many streams are blocked: of those that came to be, the ones that wait for insertions yet (section 2.1.2)
+-- how many streams are blocked: of those that became blocked, the ones that still wait for insertions (section 2.1.2)
 abbrev pub blocked_streams : DecodingEnd → ℕ
 blocked_streams d = blocked_among (insert_count d.table) d.blocked
 
@@ -136,7 +136,7 @@ Acknowledges old new stream required (Err e) = StopsAcknowledging old new requir
 abbrev pub is_blocked_now : ℕ → DecodingEnd → Bool
 is_blocked_now stream d = is_blocked (insert_count d.table) stream d.blocked
 
--- a stream may come to be blocked: it is, or fewer are than may be (section 2.1.2)
+-- a stream may become blocked: it is already, or fewer are than may be (section 2.1.2)
 abbrev pub MayBlock : DecodingEnd → ℕ → Type 0
 MayBlock d stream = MayBlockAmong (insert_count d.table) d.settings.max_blocked stream d.blocked
 
@@ -149,7 +149,7 @@ abbrev pub blocked_behind : ℕ → ℕ → DecodingEnd → DecodingEnd
 blocked_behind stream required d =
     record d { blocked = with_blocked (record { stream = stream; required = required }) d.blocked }
 
--- why a stream was not counted as blocked: it would be one too many; or memory was refused, where it may be blocked
+-- why a stream was not counted as blocked: it would be one too many; or memory was refused, if it may be blocked
 abbrev pub StopsBlocking : DecodingEnd → DecodingEnd → BlockedStream → DecodingError → Type 0
 StopsBlocking old new b (TooManyBlocked s) =
     (s ≡ b.stream) × IsOneTooMany old b.stream × (new ≡ refused (TooManyBlocked b.stream) old)
@@ -165,7 +165,7 @@ BlocksStream old new stream required (Err e) =
 
 -- ---- a section
 
--- what a reading asks for was done; or why not
+-- the reading was acted on; or why not
 abbrev pub TakesReading : DecodingEnd → DecodingEnd → ℕ → Reading → Result ⊤ DecodingError → Type 0
 TakesReading old new stream (reading.Fields required) r = Acknowledges old new stream required r
 TakesReading old new stream (reading.Blocked required) r = BlocksStream old new stream required r
@@ -177,8 +177,8 @@ GivesReading old new stream read fields (reading.Fields required) =
 GivesReading old new stream read fields (reading.Blocked required) =
     (read ≡ Blocked required) × (fields ≡ []) × MayBlock old stream × (new ≡ blocked_behind stream required old)
 
--- memory was refused: for the section or a stream that comes to be blocked, and nothing changes; or for an
--- acknowledgment, in front of which the increments may have been written
+-- memory was refused: for the section or a stream that becomes blocked, and nothing changes; or for an acknowledgment,
+-- before which the increments may have been written
 abbrev pub StopsForMemory : DecodingEnd → DecodingEnd → StrictReading → Type 0
 StopsForMemory old new (Read fields (suc required)) = (new ≡ old) ⊎ (new ≡ with_report old)
 StopsForMemory old new read = new ≡ old
@@ -194,7 +194,7 @@ StopsDecoding old new stream read (TooManyBlocked s) =
 StopsDecoding old new stream read Memory = StopsForMemory old new read
 StopsDecoding old new stream read e = ⊥
 
--- a section that reads so was decoded; or why not
+-- a section that is read as this was decoded; or why not
 abbrev pub DecodesInto : DecodingEnd → DecodingEnd → ℕ → StrictReading → List FieldLine
     → Result Reading DecodingError → Type 0
 DecodesInto old new stream read fields (Ok r) = GivesReading old new stream read fields r

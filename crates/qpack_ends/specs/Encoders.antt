@@ -99,7 +99,7 @@ pub record IsSound (d : EncodingEnd) : Type 0 where
   pub stream : d.failure ≡ None → HasReceived d.stream
   pub failure : IfSome d.failure (λ e. IsSome (code_of e))
 
--- where the maximum is 0 the table is as it began: nothing was inserted, and no section waits for an acknowledgment
+-- if the maximum is 0 the table is as it began: nothing was inserted, and no section waits for an acknowledgment
 abbrev pub IsBareAtZero : EncoderSettings → Table → Type 0
 IsBareAtZero settings t = settings.max_capacity ≡ 0 → t ≡ empty_table 0 (Some 0) 4096
 
@@ -184,8 +184,8 @@ SetsIt old new capacity =
     (IsNoCapacity old capacity × (new ≡ old))
     ⊎ ((IsNoCapacity old capacity → ⊥) × TellsCapacity old new capacity (Ok tt))
 
--- a capacity was set; or the connection was ended, and nothing changes; or why it was not set, where something is to be
--- done for it, and nothing changes
+-- a capacity was set; or the connection was ended, and nothing changes; or why it was not set, if there is something to
+-- do for it, and nothing changes
 abbrev pub SetsCapacity : EncodingEnd → EncodingEnd → ℕ → Result ⊤ EncodingError → Type 0
 SetsCapacity old new capacity (Ok done) = (old.failure ≡ None) × SetsIt old new capacity
 SetsCapacity old new capacity (Err e) =
@@ -249,8 +249,8 @@ written_alone fields = written_marked_block fields (stateless_block_marked field
 abbrev pub with_section : Table → List ℕ → EncodingEnd → EncodingEnd
 with_section t unsent d = record d { table = t; unsent = unsent }
 
--- where sections may wait, the section was written under some choices, and so were its instructions; where none of its
--- stream may be blocked, it requires nothing that is not known to be received (sections 2.1 and 2.1.2)
+-- if sections may wait, the section was written under some choices, and so were its instructions; if none of its stream
+-- may be blocked, it requires nothing that is not known to be received (sections 2.1 and 2.1.2)
 pub record WritesSection (d new : EncodingEnd) (stream : ℕ) (fields : List FieldLine) (before after : List ℕ)
     (required : ℕ) : Type 0 where
   pub room : is_full d ≡ false

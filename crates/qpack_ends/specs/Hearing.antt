@@ -33,7 +33,7 @@ abbrev pub TellsRefusal : HearingError → Result Table HearingRefusal → Type 
 TellsRefusal e (Ok t) = ⊥
 TellsRefusal e (Err refusal) = refusal_of e ≡ Some refusal
 
--- the table is what the instruction makes of it, or as before where it is refused
+-- the table is what the instruction makes of it, or unchanged if it is refused
 abbrev pub Applies : Result ⊤ HearingError → Result Table HearingRefusal → Table → Table → Type 0
 Applies (Ok done) heard old new = heard ≡ Ok new
 Applies (Err e) heard old new = TellsRefusal e heard × (new ≡ old)

@@ -58,7 +58,7 @@ abbrev pub TellsFault : {A : Type 0} → LineError → Result A LineFault → Ty
 TellsFault e (Ok x) = ⊥
 TellsFault e (Err fault) = TellsLine e fault
 
--- or memory was refused
+-- the error reports the fault that was read, or out of memory
 abbrev pub FailsLine : {A : Type 0} → LineError → Result A LineFault → Type 0
 FailsLine Memory read = Unit {0}
 FailsLine e read = TellsFault e read

@@ -54,7 +54,7 @@ abbrev pub TakesNextStrictly : Table → Table → List ℕ → List ℕ → Res
 TakesNextStrictly old new rest left r =
     TakesNextOf encoder_instruction_form strict_apply StopsStrictly old new rest left r
 
--- the place is moved past an instruction that is taken, by its bytes; else it stays
+-- the place moves past an instruction that is applied, by its bytes; otherwise it does not move
 abbrev pub PassesOne : Place → Place → List ℕ → List ℕ → Result Bool DecoderError → Type 0
 PassesOne from at rest left (Ok true) = at ≡ passed from 1 (length rest - length left)
 PassesOne from at rest left r = at ≡ from
@@ -109,8 +109,8 @@ stream_code_of Memory = None
 abbrev pub IsShort : Table → List ℕ → Type 0
 IsShort t pending = length pending < 4 * t.capacity + 10
 
--- a stream that is received: the bytes that wait; how many of them there must be before they are read again, 0 where
--- they are read in any case; and the place of the first instruction that was not taken
+-- a stream that is received: the bytes that wait; how many of them there must be before they are read again, 0 if they
+-- are read in any case; and the place of the first instruction that was not taken
 pub record StreamView : Type 0 where
   pub pending : List ℕ
   pub wanted : ℕ
@@ -140,8 +140,8 @@ Receives start now bytes s = TakesUpTo start now bytes s.place (λ rest. (rest �
 abbrev pub HasRefused : Table → Table → List ℕ → Place → DecoderError → Type 0
 HasRefused start now bytes place e = TakesUpTo start now bytes place (λ rest. Refuses now rest e)
 
--- of the bytes a front was taken in, and these are left: the stream is received up to there, and no more waits than did
--- and was taken in
+-- a front of the bytes was consumed, and these are left: the stream is received up to there, and no more bytes wait
+-- than waited before and were consumed
 pub record TakesIn (start new : Table) (before bytes left : List ℕ) (s u : StreamView) : Type 0 where
   pub taken : List ℕ
   pub cut : bytes ≡ taken ++ left
@@ -173,7 +173,8 @@ FailsReceiving start new before bytes left s u Memory = WantsMemory start new be
 FailsReceiving start new before bytes left s u (Refused place e) =
     (e ≢ decoder.Memory) × RefusesFront start new before bytes place e
 
--- what a step makes of bytes that follow on others: it takes in a front of them, and what is whole then; or why not
+-- what a step makes of bytes that follow others: it consumes a front of them, and applies what is whole then; or why
+-- not
 abbrev pub ReceivesFront : Table → Table → List ℕ → List ℕ → List ℕ → StreamView → StreamView
     → Result ⊤ EncoderStreamError → Type 0
 ReceivesFront start new before bytes left s u (Ok done) =

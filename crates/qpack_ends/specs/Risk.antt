@@ -29,7 +29,7 @@ streams_at_risk t =
 abbrev pub with_limit : ℕ → Table → Table
 with_limit n t = record t { limit = n }
 
--- its limit while a section is written: as many as it keeps where the stream may be blocked, else none
+-- its limit while a section is written: as many as it keeps if the stream may be blocked, else none
 abbrev pub limit_for : Bool → ℕ
 limit_for may = if may then 4096 else 0
 
@@ -47,7 +47,7 @@ covers b rs = list_any (λ r. nat_eq r.stream b.stream && nat_le b.required r.re
 abbrev pub with_stream : BlockedStream → List BlockedStream → List BlockedStream
 with_stream b rs = if covers b rs then rs else without b.stream rs ++ b ∷ []
 
--- those of which a section is unacknowledged still that requires more than is known
+-- the streams with an unacknowledged section that requires more than is known to be received
 abbrev pub still_at_risk : Table → List BlockedStream → List BlockedStream
 still_at_risk t rs =
     filter (λ r. nat_lt t.known_received_count r.required && is_some (oldest_required r.stream t.unacknowledged)) rs

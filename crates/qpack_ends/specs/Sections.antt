@@ -62,7 +62,7 @@ abbrev pub TellsFault : {A : Type 0} → SectionError → Result A SectionFault 
 TellsFault e (Ok x) = ⊥
 TellsFault e (Err fault) = TellsSection e fault
 
--- or memory was refused
+-- the error reports the fault that was read, or out of memory
 abbrev pub FailsSection : {A : Type 0} → SectionError → Result A SectionFault → Type 0
 FailsSection Memory read = Unit {0}
 FailsSection e read = TellsFault e read
@@ -77,7 +77,7 @@ abbrev pub TellsReading : SectionError → StrictReading → Type 0
 TellsReading e (Refused fault) = TellsSection e fault
 TellsReading e read = ⊥
 
--- or memory was refused
+-- the error reports why a section is rejected, or out of memory
 abbrev pub FailsReading : SectionError → StrictReading → Type 0
 FailsReading Memory read = Unit {0}
 FailsReading e read = TellsReading e read

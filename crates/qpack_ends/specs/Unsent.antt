@@ -17,8 +17,8 @@ pub record KeepsRoom (many : ℕ) (old new : UnsentView) : Type 0 where
   pub still : HasRoom many old → new.capacity ≡ old.capacity
   pub capacity : old.capacity ≤ new.capacity
 
--- bytes are appended to those that are to be sent; or they are refused, where there is no room for them, and then no
--- byte changes
+-- bytes are appended to those that are to be sent; or memory is refused, if there is no room for them, and then no byte
+-- changes
 pub record Appends {E : Type 0} (bytes : List ℕ) (old new : UnsentView) (r : Result ⊤ E) : Type 0 where
   pub ok : OnOk r (new.bytes ≡ old.bytes ++ bytes)
   pub err : OnErr r (new.bytes ≡ old.bytes)

@@ -1,4 +1,4 @@
--- What the caller's word asks of an encoding end for each field (RFC 9204, sections 2.1, 2.1.2 and 7.1.3).
+-- What the caller's wish asks of an encoding end for each field (RFC 9204, sections 2.1, 2.1.2 and 7.1.3).
 use Rattle.std.specs.Prelude.{◌≡◌, ℕ, Bool, true, false, ◌&&◌, List, [], ◌∷◌, Option, None, Some, Result, Ok, Err}
 use Rattle.qpack_spec.specs.Chosen.{Inserts, Chosen, alone_chosen, chosen_field}
 use Rattle.qpack_spec.specs.Field.{Field, FieldLine, is_field}
@@ -16,7 +16,7 @@ use Rattle.qpack_ends.specs.declared.encoder.EncodingError.{EncodingError}
 use Rattle.qpack_ends.specs.Encoders.{EncodingEnd, begun, is_full, may_block}
 use Rattle.qpack_ends.specs.Risk.{with_limit, limit_for}
 
--- a field is inserted: its line references the new entry where one more section may be blocked and there is room; where no
+-- a field is inserted: its line references the new entry if one more section may be blocked and there is room; if no
 -- more may be blocked, it is inserted without a reference (sections 2.1.1 and 2.1.2)
 pub record InsertsField (t : Table) (f : Field) (c : Chosen) : Type 0 where
   pub referenced : (below_limit t && has_room t f) ≡ true → c.line ≡ Inserts
@@ -27,15 +27,15 @@ pub record InsertsNothing (c : Chosen) : Type 0 where
   pub line : c.line ≡ Inserts → ⊥
   pub unreferenced : c.unreferenced ≡ false
 
--- what the word asks of the choice of a chooser, where the newest equal entry is this
+-- what the wish asks of the choice of a chooser, if the newest equal entry is this
 abbrev pub KeepsWish : Table → Field → Wish → Option ℕ → choices.Choice → Type 0
 KeepsWish t f Insert None c =
     ((below_limit t && has_room t f) ≡ true → c ≡ Inserted) × (below_limit t ≡ false → inserts_after c ≡ true)
 KeepsWish t f Reuse newest c = (c ≡ Inserted → ⊥) × (inserts_after c ≡ false)
 KeepsWish t f w newest c = Unit {0}
 
--- what the word asks of a choice at a table, for a field that no static field equals: `Insert`, that it is inserted unless
--- an entry equals it; `Reuse`, that nothing is inserted
+-- what the wish asks of a choice at a table, for a field that no static field equals: `Insert`, that it is inserted
+-- unless an entry equals it; `Reuse`, that nothing is inserted
 abbrev pub SuitsWish : Table → FieldLine → Wish → Chosen → Type 0
 SuitsWish t l Insert c = l.never_indexed ≡ false → newest_index t (is_field l.field) ≡ None → InsertsField t l.field c
 SuitsWish t l Reuse c = l.never_indexed ≡ false → InsertsNothing c
@@ -60,15 +60,16 @@ SuitAlong base d (l ∷ ls) (w ∷ ws) (c ∷ cs) =
     SuitsField d.table l w c × SuitAlong base (chosen_field base d l c) ls ws cs
 SuitAlong base d ls ws cs = ⊥
 
--- where sections may wait, the section was written under choices that suit the caller's words; at capacity 0 there is nothing to choose
+-- if sections may wait, the section was written under choices that suit the caller's wishes; at capacity 0 there is
+-- nothing to choose
 pub record KeepsWishes (d new : EncodingEnd) (stream : ℕ) (fields : List FieldLine) (wishes : List Wish)
     (before after : List ℕ) (required : ℕ) : Type 0 where
   pub section : EncodesChosen stream fields d.table new.table before after d.unsent new.unsent required
   pub suit : (d.table.capacity ≡ 0 → ⊥)
       → SuitAlong (insert_count d.table) (empty_draft d.table) fields wishes section.choices
 
--- the end as a section of a stream meets it, and leaves it: the table lets one more be blocked if that stream may be
--- (section 2.1.2)
+-- the end as a section of a stream meets it, and leaves it: the table permits one more blocked block if that stream may
+-- be blocked (section 2.1.2)
 abbrev pub limited : Bool → EncodingEnd → EncodingEnd
 limited may d = record d { table = with_limit (limit_for may) d.table }
 

@@ -16,7 +16,7 @@ pub(crate) struct StreamsAtRisk {
 }
 
 impl StreamsAtRisk {
-    /// Returns none. Takes no memory.
+    /// Returns an empty list. Takes no memory.
     pub(crate) fn new(alloc: Global) -> StreamsAtRisk
         ensures { result.streams.items ≡ [] }
     {
@@ -39,7 +39,7 @@ impl StreamsAtRisk {
         self.streams.iter().any(|kept| kept.stream == stream)
     }
 
-    /// Makes room for one more, where a stream may be blocked. It asks for memory only there, and where there is no room.
+    /// Makes room for one more, if a stream may be blocked. It asks for memory only then, and only if there is no room.
     pub(crate) fn make_room(&mut self, may_block: bool) -> Result<(), NoMemory>
         ensures same { self.new.streams.items ≡ self.old.streams.items }
         ensures room { OnOk result (may_block ≡ true → vec_len self.new.streams < vec_capacity self.new.streams) }

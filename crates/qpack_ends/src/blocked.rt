@@ -48,7 +48,7 @@ impl Model for BlockedStreams {
 }
 
 impl BlockedStreams {
-    /// None. Takes no memory.
+    /// Returns an empty list. Takes no memory.
     pub(crate) fn new(alloc: Global) -> BlockedStreams
         ensures { result ≡ [] }
     {

@@ -182,7 +182,7 @@ impl Chooser {
         true
     }
 
-    /// Chooses a literal, with the name of an entry where no static field has it.
+    /// Chooses a literal, with the name of an entry if no static field has it.
     fn choose_literal(
         &mut self,
         block: &DynamicTableEncoder<'_>,

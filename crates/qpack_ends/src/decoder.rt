@@ -37,7 +37,7 @@ pub struct DecoderSettings {
     pub max_section_size: u64,
 }
 
-/// Why settings are refused.
+/// Why settings are rejected.
 #[derive(Clone, Copy, Debug, PartialEq, Eq, Drop, Error)]
 pub enum SettingsError {
     /// The maximum capacity is 2^30 bytes or more.
@@ -48,10 +48,10 @@ pub enum SettingsError {
     BlockedTooLarge,
 }
 
-/// Why a call of a decoding end did not do what it was asked for.
+/// Why a call of a decoding end failed.
 #[derive(Clone, Copy, Debug, PartialEq, Drop, Error)]
 pub enum DecodingError {
-    /// The encoder stream is refused at an instruction.
+    /// The encoder stream is rejected at an instruction.
     #[error("encoder stream: in instruction {} at offset {}: {error}", .place.number, .place.offset)]
     EncoderStream {
         /// Where the instruction is on the stream.
@@ -59,7 +59,7 @@ pub enum DecodingError {
         /// Why.
         error: DecoderError,
     },
-    /// A section is refused.
+    /// A section is rejected.
     #[error("field section of stream {stream}: {error}")]
     Section {
         /// The stream that it came on.
@@ -67,21 +67,21 @@ pub enum DecodingError {
         /// Why.
         error: SectionError,
     },
-    /// With this stream more would be blocked than may be (RFC 9204, section 2.1.2).
+    /// With this stream the limit of blocked streams would be exceeded (RFC 9204, section 2.1.2).
     #[error("stream {0} would be one blocked stream too many")]
     TooManyBlocked(u64),
-    /// No stream has this number, which is 2^62 or more; nothing was done.
+    /// The stream number is invalid: it is 2^62 or more. Nothing was done.
     #[error("no stream has the number {0}")]
     NoStream(u64),
-    /// No memory was left; the call can be made again.
+    /// Out of memory; you can call again.
     #[error("out of memory")]
     Memory,
 }
 
-/// The least number that no stream has (RFC 9000, section 2.1).
+/// The least invalid stream number (RFC 9000, section 2.1).
 pub(crate) const STREAMS: u64 = 1 << 62;
 
-/// The least limit of blocked streams that is refused.
+/// The least limit of blocked streams that is rejected.
 const BLOCKED_LIMITS: usize = 65_535;
 
 impl DecodingError {
@@ -249,11 +249,14 @@ impl ConnectionDecoder {
     ///
     /// It acknowledges the fields of a section that requires insertions, after increments for insertions not yet
     /// reported, and the stream is no longer blocked. It does not keep a blocked section. The stream counts as blocked
-    /// while insertions are missing; once `next_ready` returns the stream, pass the section again. It fails, checking
-    /// in this order, after an error that ended the connection, with that error; with `NoStream` if the stream number
-    /// is invalid; with `Section` if `read_section` fails; and with `TooManyBlocked` if one stream too many would be
-    /// blocked. After `Section` the stream is no longer blocked. Any other error without a code changes nothing, except
-    /// that increments may have been written before memory ran out.
+    /// while insertions are missing; once `next_ready` returns the stream, pass the section again.
+    ///
+    /// # Errors
+    ///
+    /// Fails, checking in this order, after an error that ended the connection, with that error; with `NoStream` if the
+    /// stream number is invalid; with `Section` if `read_section` fails; and with `TooManyBlocked` if one stream too
+    /// many would be blocked. After `Section` the stream is no longer blocked. Any other error without a code changes
+    /// nothing, except that increments may have been written before memory ran out.
     pub fn decode(
         &mut self,
         stream: u64,
@@ -262,11 +265,11 @@ impl ConnectionDecoder {
     ) -> Result<Reading, DecodingError>
         ensures decodes { Decodes self.old self.new stream
             (strict_reading (window self.old.table) self.old.settings.max_section_size section.now) fields.new.fields result }
-        // Memory is refused only where the section asks for it, where the stream may come to be blocked and is not counted
-        // with this count, or where an acknowledgment is written.
+        // Memory is refused only if the section asks for it, if the stream may become blocked and is not counted with
+        // this count, or if an acknowledgment is written.
         ensures memory { result ≡ Err Memory → AsksToDecode self.old stream section.now }
         ensures room { IsRoomWithin self.old.settings.max_section_size fields.old fields.new }
-        // Memory is given back only where a section is refused, and only what one within the limit can't use.
+        // Memory is given back only if a section is rejected, and only what one within the limit can't use.
         ensures kept { OnOk result (GrowsWithin self.old.settings.max_section_size fields.old fields.new) }
     {
         fields.clear();
@@ -278,9 +281,9 @@ impl ConnectionDecoder {
         reading
     }
 
-    /// Reading of a stream is given up, or it was reset: what is blocked of it is forgotten, and a cancellation is
-    /// written, unless the maximum capacity is 0 (RFC 9204, section 2.2.2.2). It may be called for any stream. Refused,
-    /// nothing changes.
+    /// Cancels a stream. Call this when a stream is reset or you stop reading it. The stream is no longer blocked, and
+    /// a cancellation is written, unless the maximum capacity is 0 (RFC 9204, section 2.2.2.2). You may call it for any
+    /// stream. On error nothing changes.
     pub fn cancel(&mut self, stream: u64) -> Result<(), DecodingError>
         ensures { Cancels self.old self.new stream result }
     {
@@ -296,6 +299,8 @@ impl ConnectionDecoder {
     /// sections 4.2 and 4.3), as `EncoderStream::receive` does. Returns how many insertions were ever made. It reports
     /// them by increments of 64 and one of the rest (section 4.4.3).
     ///
+    /// # Errors
+    ///
     /// A rejected instruction ends the connection (`EncoderStream`); the instructions before it stay applied. After
     /// `Memory`, call again with the bytes left at the cursor, even if there are none; that call reports the insertions
     /// that were made.
@@ -305,7 +310,8 @@ impl ConnectionDecoder {
             → ReceivesBytes start before self.old self.new buf.old.rest buf.new.rest result }
         ensures ended { IfSome self.old.failure
             (λ e. (result ≡ Err e) × (self.new ≡ self.old) × (buf.new.rest ≡ buf.old.rest)) }
-        // Memory is refused only where insertions are to be reported, for an instruction, or for bytes that are left.
+        // Memory is refused only for insertions that are to be reported, for an instruction, or for bytes that are
+        // left.
         ensures memory { result ≡ Err Memory → AsksForBytes self.new buf.new.rest }
         ensures total { buf.new.total ≡ buf.old.total }
     {
@@ -359,7 +365,7 @@ impl ConnectionDecoder {
         }
     }
 
-    /// Does what the reading of a section asks for.
+    /// Acts on the reading of a section.
     fn take_reading(&mut self, stream: u64, reading: Reading) -> Result<(), DecodingError>
         ensures { TakesReading self.old self.new stream reading result }
     {

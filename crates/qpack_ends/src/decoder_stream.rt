@@ -20,7 +20,7 @@ mod pending;
 /// QPACK_DECODER_STREAM_ERROR: the decoder stream can't be interpreted (RFC 9204, section 6).
 pub const DECODER_STREAM_ERROR: u64 = 0x202;
 
-/// Why a decoder instruction is refused.
+/// Why a decoder instruction is rejected.
 #[derive(Clone, Copy, Debug, PartialEq, Drop, Error)]
 pub enum HearingError {
     /// Its integer is too large (RFC 9204, section 4.1.1).
@@ -29,8 +29,8 @@ pub enum HearingError {
     /// It is an increment of 0 (RFC 9204, section 4.4.3).
     #[error("increment of 0")]
     ZeroIncrement,
-    /// It is an increment by so much, which raises the known received count above the insertions made (RFC 9204,
-    /// section 4.4.3).
+    /// It is an increment by this number, which would raise the known received count above the insertions made (RFC
+    /// 9204, section 4.4.3).
     #[error("increment of {0}, past the insertions")]
     IncrementPastInsertions(usize),
     /// It is an acknowledgment of this stream, which has no unacknowledged section (RFC 9204, section 4.4.1).
@@ -38,7 +38,7 @@ pub enum HearingError {
     UnknownStream(u64),
 }
 
-/// Why the decoder stream is refused, and where.
+/// Why the decoder stream is rejected, and where.
 #[derive(Clone, Copy, Debug, PartialEq, Drop, Error)]
 #[error("in instruction {} at offset {}: {error}", .place.number, .place.offset)]
 pub struct DecoderStreamError {
@@ -102,6 +102,8 @@ impl DecoderStream {
     /// unacknowledged section of its stream, and raises the known received count to what that section required; a
     /// cancellation releases every section of its stream; an increment raises the count (RFC 9204, sections 2.1.4 and
     /// 4.4). The bytes of an instruction that is not whole yet are kept.
+    ///
+    /// # Errors
     ///
     /// Fails if an integer is too large, if an increment is 0 or exceeds the insertions that were made, or if an
     /// acknowledged stream has no unacknowledged section. The table is then as it was before that instruction, no bytes

@@ -46,7 +46,7 @@ pub const DEFAULT_UNACKNOWLEDGED: usize = 100;
 /// How many sections the table counts that may be blocked, cancelled ones among them.
 const MOST_BLOCKED: usize = 4_096;
 
-/// The least maximum capacity that is refused, in bytes.
+/// The least maximum capacity that is rejected, in bytes.
 const CAPACITIES: usize = 1 << 30;
 
 /// The settings that the peer sent (RFC 9204, section 5), and this end's choices for its table.
@@ -115,20 +115,19 @@ impl EncoderSettings {
     }
 }
 
-/// Why a call of an encoding end did not do what it was asked for.
+/// Why a call of an encoding end failed.
 #[derive(Clone, Copy, Debug, PartialEq, Drop, Error)]
 pub enum EncodingError {
-    /// The decoder stream is refused at an instruction, which ends the connection (RFC 9204, section 4.4).
+    /// The decoder stream is rejected at an instruction, which ends the connection (RFC 9204, section 4.4).
     #[error("decoder stream: {0}")]
     DecoderStream(DecoderStreamError),
     /// The capacity is above the maximum capacity of the peer (RFC 9204, section 3.2.3); nothing was done.
     #[error("capacity above the maximum of the peer")]
     CapacityTooLarge,
-    /// For the capacity an entry would have to be evicted that is not evictable yet (RFC 9204, section 2.1.1); nothing
-    /// was done.
+    /// The capacity would evict an entry that is not evictable yet (RFC 9204, section 2.1.1); nothing was done.
     #[error("entries that are not evictable do not fit the capacity")]
     EntriesHeld,
-    /// No stream has this number, which is 2^62 or more; nothing was done.
+    /// The stream number is invalid: it is 2^62 or more. Nothing was done.
     #[error("no stream has the number {0}")]
     NoStream(u64),
     /// The peer's SETTINGS have another maximum capacity than the one that this end was made with, which is not 0. This
@@ -141,7 +140,7 @@ pub enum EncodingError {
     /// The peer's maximum capacity is 2^30 bytes or more; nothing was done.
     #[error("maximum capacity of the peer too large")]
     MaximumTooLarge,
-    /// No memory was left; the call can be made again.
+    /// Out of memory; you can call again.
     #[error("out of memory")]
     Memory,
 }
@@ -229,6 +228,8 @@ impl Model for ConnectionEncoder {
 impl ConnectionEncoder {
     /// Returns an encoding end for a peer that sent these settings. Its table has capacity 0 until the first section,
     /// before which it announces another (RFC 9204, section 3.2.3). Takes no memory.
+    ///
+    /// # Errors
     ///
     /// Fails with `CapacityTooLarge` if the maximum capacity is 2^30 bytes or more. A smaller one in its place would
     /// change how required insert counts are encoded, which depends on the maximum that the peer sent (section
@@ -318,10 +319,10 @@ impl ConnectionEncoder {
     ///
     /// # Errors
     ///
-    /// In this order: the error that ended the connection, if one did; `LimitLowered` for a limit of blocked streams
-    /// below the one that this end has; `MaximumChanged` for another maximum, where this end has one above 0. The last
-    /// two end the connection. `MaximumTooLarge` is of a new maximum of 2^30 bytes or more: nothing changes, and the
-    /// encoder goes on without a table.
+    /// Fails, checking in this order, after an error that ended the connection, with that error; with `LimitLowered` if
+    /// the limit of blocked streams is below the one that this end has; and with `MaximumChanged` if the maximum
+    /// differs and this end has one above 0. The last two end the connection. Fails with `MaximumTooLarge` if a new
+    /// maximum is 2^30 bytes or more: nothing changes, and the encoder goes on without a table.
     pub fn set_peer_settings(
         &mut self,
         max_capacity: usize,
@@ -351,6 +352,8 @@ impl ConnectionEncoder {
     /// no longer fit, the oldest first (section 3.2.2). If the maximum is 0, the only capacity is 0, and nothing is
     /// written (section 3.2.3).
     ///
+    /// # Errors
+    ///
     /// Fails, checking in this order, after an error that ended the connection, with that error; with
     /// `CapacityTooLarge` if the capacity is above the maximum; with `EntriesHeld` if it would evict an entry that is
     /// not evictable; and with `Memory` if memory runs out. On error nothing changes.
@@ -373,8 +376,8 @@ impl ConnectionEncoder {
     /// A field that the static table has is one byte or two. Of the others, the table keeps those that come again: a
     /// new field is inserted while a quarter of the capacity is free, when it comes a second time, or for a name that
     /// no table has. The oldest entries that are still used are inserted again, so that the others can be evicted
-    /// (section 2.1.1.1). Where no more sections may be blocked, a field is inserted without a reference (section
-    /// 2.1.2). `AsField::wish` has the caller's word, which goes first: insert this field, or insert nothing for it.
+    /// (section 2.1.1.1). If no more sections may be blocked, a field is inserted without a reference (section 2.1.2).
+    /// The caller's `AsField::wish` comes first: insert this field, or insert nothing for it.
     ///
     /// A field that is never to be indexed becomes a literal with that mark, by the name of a static field or of an
     /// entry. It is neither inserted nor compared with the values of entries (section 7.1.3). Only inserted fields are
@@ -383,6 +386,8 @@ impl ConnectionEncoder {
     /// The first call announces the capacity of the settings, if none was announced. Once the limit of sections that
     /// wait for acknowledgments is reached, a section is written without references, as `encode_section_stateless`
     /// does, and does not wait.
+    ///
+    /// # Errors
     ///
     /// Fails, checking in this order, after an error that ended the connection, with that error; with `NoStream` if the
     /// stream number is invalid; and with `Memory` if memory runs out. On error the vector is unchanged. After
@@ -439,10 +444,12 @@ impl ConnectionEncoder {
         Ok(required)
     }
 
-    /// Receives the bytes of the decoder stream that the cursor has left, which follow on those of the calls before,
+    /// Receives the bytes of the decoder stream left at the cursor, which continue those of earlier calls and may be
     /// cut anywhere (RFC 9204, sections 4.2 and 4.4), as `DecoderStream::receive` does: acknowledgments and
     /// cancellations release sections, acknowledgments and increments raise the known received count (section 2.1.4).
     /// It takes no memory.
+    ///
+    /// # Errors
     ///
     /// A rejected instruction ends the connection (`DecoderStream`); the instructions before it stay applied. The
     /// cursor moves to its end, except after an error that ended the connection: then it does not move.
@@ -572,8 +579,9 @@ fn encode_alone<A: Allocator, H: AsField>(
     }
 }
 
-/// Appends a section of a stream, which may be blocked or not, and its instructions. Where it may not be, the table lets
-/// none be while the section is written, so that it requires nothing that is not known to be received.
+/// Appends a section of a stream, which may be blocked or not, and its instructions. If it may not be, the table
+/// permits no blocked block while the section is written, so that the section requires nothing that is not known to be
+/// received.
 fn write_section<A: Allocator, H: AsField>(
     table: &mut EncoderTable,
     stream: u64,

@@ -24,7 +24,7 @@ use thiserror::Error;
 /// Why the encoder stream was not received.
 #[derive(Clone, Copy, Debug, PartialEq, Drop, Error)]
 pub enum EncoderStreamError {
-    /// The instruction at this place is refused.
+    /// The instruction at this place is rejected.
     #[error("in instruction {} at offset {}: {error}", .place.number, .place.offset)]
     Refused {
         /// Where the instruction is on the stream.
@@ -69,7 +69,7 @@ impl EncoderStreamError {
 pub struct EncoderStream {
     /// The bytes that were received and not applied: of an instruction that is not whole, or for which memory ran out.
     pending: Vec<u8>,
-    /// How many bytes there must be before they are read again; 0 where they are read in any case.
+    /// How many bytes there must be before they are read again; 0 if they are read in any case.
     wanted: usize,
     /// The place of the first instruction that was not taken.
     place: Place,
@@ -106,6 +106,8 @@ impl EncoderStream {
     /// Receives the bytes left at the cursor, which continue the stream, and applies each instruction that is now
     /// whole. It reads them in place. It keeps only the bytes of an instruction that is not whole: fewer than four
     /// bytes for each byte of the capacity, plus ten.
+    ///
+    /// # Errors
     ///
     /// Rejects an instruction with malformed bytes (`InvalidInteger`, `InvalidString`), one with an index that has no
     /// entry (`InvalidStaticIndex`, `DynamicTable`), and one that the table rejects (`DynamicTable`). At capacity 0 it
@@ -182,7 +184,7 @@ impl EncoderStream {
         Ok(())
     }
 
-    /// Receives the bytes where none wait: each instruction is read from them, and a rest that is not whole is kept.
+    /// Receives the bytes if none wait: each instruction is read from them, and a rest that is not whole is kept.
     fn receive_rest<I: EntryIndex>(
         &mut self,
         table: &mut DynamicTable<I>,

@@ -147,7 +147,7 @@ impl FieldSection {
         shrink_within(&mut self.spans, limit as usize / ESTIMATED_OVERHEAD_BYTES);
     }
 
-    /// Reads the lines of a section to the end of the cursor, where there is no field.
+    /// Reads the lines of a section to the end of the cursor, into a field section without fields.
     pub(crate) fn read_lines<I: EntryIndex>(
         &mut self,
         lines: &Lines<I>,

@@ -24,7 +24,7 @@ mod lines;
 
 pub(crate) use crate::section::lines::{Lines, read_lines};
 
-/// What a section gives.
+/// The result of reading a section.
 #[derive(Clone, Copy, Debug, PartialEq, Eq)]
 pub enum Reading {
     /// The fields, which are in the field section.
@@ -42,7 +42,7 @@ pub enum Reading {
 /// Why a line gives no field.
 #[derive(Clone, Copy, Debug, PartialEq, Drop, Error)]
 pub enum LineError {
-    /// Its bytes mean nothing, or it references no entry or static field.
+    /// Its bytes are malformed, or it references no entry or static field.
     #[error("{0}")]
     Meaningless(DecoderError),
     /// It references an entry past the required insert count of its section (RFC 9204, section 2.2.3): the one of this
@@ -148,11 +148,13 @@ pub fn longest_section(size: u64) -> u64
 /// section 3.2.1). It first empties the field section, which stays empty unless `Reading::Fields` is returned. It
 /// appends nothing that exceeds the limit: under a limit of n bytes the field section grows to at most 2n bytes.
 ///
-/// Refused are, in this order: a section longer than any within the limit, unread (`TooLong`); bytes that are no prefix
-/// (`Prefix`); a count where the maximum capacity is 0 (`CountAtZero`); a prefix that is out of range, or a base below
-/// 0 (`Prefix`); and line by line (`Line`) its bytes, a reference past the required insert count, what it references,
-/// and the sum of sizes. A section whose required insert count exceeds the insertions that were received is `Blocked`
-/// and not a refusal; its lines are not looked at.
+/// # Errors
+///
+/// Rejects, checking in this order, a section longer than any within the limit, unread (`TooLong`); bytes that are no
+/// prefix (`Prefix`); a count if the maximum capacity is 0 (`CountAtZero`); a prefix that is out of range, or a base
+/// below 0 (`Prefix`); and line by line (`Line`) its bytes, a reference past the required insert count, what it
+/// references, and the sum of sizes. If the required insert count exceeds the insertions that were received, it returns
+/// `Reading::Blocked` and does not read the lines.
 pub fn read_section<I: EntryIndex>(
     table: &DynamicTable<I>,
     section: &[u8],
@@ -163,7 +165,7 @@ pub fn read_section<I: EntryIndex>(
     // Memory is refused only if a prefix is followed by a whole line, or by a string whose payload is not empty.
     ensures memory { result ≡ Err Memory → AsksSectionForMemory section.now }
     ensures room { IsRoomWithin limit fields.old fields.new }
-    // Memory is given back only where a section is refused, and only what one within the limit can't use.
+    // Memory is given back only if a section is rejected, and only what one within the limit can't use.
     ensures kept { OnOk result (GrowsWithin limit fields.old fields.new) }
 {
     fields.clear();
@@ -228,7 +230,7 @@ fn read_behind<I: EntryIndex>(
     Ok(Reading::Fields { required })
 }
 
-/// Returns whether a prefix has a count where the maximum capacity is 0 (RFC 9204, section 4.5.1.1).
+/// Returns whether a prefix has a count if the maximum capacity is 0 (RFC 9204, section 4.5.1.1).
 fn counts_at_zero(prefix: &HeaderPrefix, maximum: usize) -> bool
     ensures { result ≡ (nat_eq maximum 0 && nat_lt 0 (prefix_of prefix.now).count) }
 {

@@ -92,15 +92,15 @@ impl Unsent {
         }
     }
 
-    /// Appends the acknowledgment of a section of this stream. On error the bytes are as before. It asks for memory only
-    /// where there is no room for it.
+    /// Appends the acknowledgment of a section of this stream. On error the bytes are unchanged. It asks for memory
+    /// only if there is no room for it.
     pub(crate) fn write_acknowledgment(&mut self, stream: u64) -> Result<(), NoMemory>
         ensures { Appends (written_decoder_instruction (Acknowledgment stream)) self.old self.new result }
     {
         ack_header(stream, &mut self.bytes)
     }
 
-    /// Appends the cancellation of this stream. On error the bytes are as before. It asks for memory only where there is
+    /// Appends the cancellation of this stream. On error the bytes are unchanged. It asks for memory only if there is
     /// no room for it.
     pub(crate) fn write_cancellation(&mut self, stream: u64) -> Result<(), NoMemory>
         ensures { Appends (written_decoder_instruction (Cancellation stream)) self.old self.new result }
@@ -108,8 +108,8 @@ impl Unsent {
         stream_canceled(stream, &mut self.bytes)
     }
 
-    /// Appends increments that report this many insertions. On error the bytes are as before. It asks for memory only
-    /// where there is no room for them.
+    /// Appends increments that report this many insertions. On error the bytes are unchanged. It asks for memory only
+    /// if there is no room for them.
     pub(crate) fn write_increments(&mut self, insertions: usize) -> Result<(), NoMemory>
         ensures appends { Appends (written_report insertions) self.old self.new result }
         ensures memory { OnErr result (0 < insertions) }

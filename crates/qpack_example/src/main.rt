@@ -60,7 +60,7 @@ fn decode(
     Ok(())
 }
 
-/// A request goes from one end to the other, and what is answered goes back.
+/// A request goes from one end to the other, and its response goes back.
 fn connect(
     rt: &HostRuntime,
     encoder: &mut ConnectionEncoder,

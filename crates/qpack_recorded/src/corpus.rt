@@ -5,7 +5,7 @@ use h3_qpack::HeaderField;
 use std::alloc::Global;
 use std::mem;
 
-/// Why a line of a file means nothing.
+/// Why a file of the corpus is malformed.
 pub(crate) const UNREADABLE: &str = "a file of the corpus can't be read";
 
 /// Bytes of an encoder stream, or the field section of a list.

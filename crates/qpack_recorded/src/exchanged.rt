@@ -149,7 +149,7 @@ impl Ends {
         Ok(())
     }
 
-    /// Hands the same bytes to the decoding end. Fails where it has other fields, or writes other bytes.
+    /// Passes the same bytes to the decoding end. Fails if it has other fields, or writes other bytes.
     fn hold_end(&mut self, stream: u64, list: &[HeaderField], written: &Written) -> Result<()> {
         self.end.receive(&mut Cursor::new(&written.encoder_stream))?;
         self.fields.clear();

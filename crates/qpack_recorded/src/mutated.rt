@@ -1,5 +1,5 @@
-//! Recordings with bits flipped, cut and spliced, from a fixed seed. Each answer is a refusal with a name or fields. A
-//! strict reading refuses a section or has the same fields, and the table is what the bytes make that were taken.
+//! Recordings with bits flipped, cut and spliced, from a fixed seed. Each result is an error with a name or fields. A
+//! strict reading rejects a section or has the same fields, and the table is what the consumed bytes make.
 
 use crate::corpus::Line;
 use crate::receiver::{Receiver, Strict, read_strictly};
@@ -12,7 +12,7 @@ use std::alloc::Global;
 /// How often a recording is given, mutated otherwise each time.
 const ROUNDS: usize = 200;
 
-/// How many lines were answered, and how many of the answers were refusals.
+/// How many lines have a result, and how many of these are errors.
 #[derive(Clone, Copy)]
 pub(crate) struct Answers {
     pub(crate) given: usize,
@@ -20,7 +20,7 @@ pub(crate) struct Answers {
 }
 
 impl Answers {
-    /// Counts an answer. Fails where it is that there is no memory.
+    /// Counts a result. Fails if it is out of memory.
     fn count(&mut self, refused: Option<DecoderError>) -> Result<()> {
         self.given = self.given.saturating_add(1);
         match refused {

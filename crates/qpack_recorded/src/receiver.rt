@@ -32,7 +32,7 @@ impl Receiver {
         })
     }
 
-    /// Delivers bytes of the encoder stream, a piece at a time, up to a refusal, which it answers.
+    /// Delivers bytes of the encoder stream, a piece at a time, up to an error, which it returns.
     pub(crate) fn deliver(&mut self, bytes: &[u8], piece: usize) -> Result<Option<DecoderError>> {
         for part in bytes.chunks(piece.max(1)) {
             self.encoder_stream.extend_from_slice(part)?;

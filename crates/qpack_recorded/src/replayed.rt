@@ -6,7 +6,7 @@ use anyhow::{Context, Result, ensure};
 use h3_qpack::HeaderField;
 use std::alloc::Global;
 
-/// Replays a recording in pieces of three sizes, and answers how many sections it has.
+/// Replays a recording in pieces of three sizes, and returns how many sections it has.
 pub(crate) fn hold(
     alloc: Global,
     lists: &[Vec<HeaderField>],

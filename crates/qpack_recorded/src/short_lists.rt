@@ -1,4 +1,4 @@
-//! Every list of at most two bytes, given to each call that reads bytes of a peer, at five capacities: each answer is
+//! Every list of at most two bytes, passed to each call that reads bytes of a peer, at five capacities: each result is
 //! that of a plain reading of RFC 9204.
 
 mod plain;
@@ -15,10 +15,10 @@ use std::alloc::Global;
 /// The capacities of the tables in bytes.
 const CAPACITIES: [usize; 5] = [0, 1, 31, 32, 4096];
 
-/// Means that a string's code ends within a code, or with more than seven bits of padding. No call answers this error.
+/// A string's code ends within a code, or with more than seven bits of padding. No call returns this error.
 pub(crate) const BITS_ARE_MISSING: DecoderError = DecoderError::UnexpectedEnd;
 
-/// What a call answers, how many bytes it leaves, the capacity and the insertions of the table then, and how many bytes
+/// What a call returns, how many bytes it leaves, the capacity and the insertions of the table then, and how many bytes
 /// it wrote.
 #[derive(Debug, Clone, Copy, PartialEq)]
 pub(crate) struct Outcome {
@@ -46,7 +46,7 @@ fn without_place(error: DecoderError) -> DecoderError {
     }
 }
 
-/// Whether `on_encoder_recv` takes a list. Fails where it does otherwise than the plain reading.
+/// Returns whether `on_encoder_recv` takes a list. Fails if it differs from the plain reading.
 fn receives(alloc: Global, capacity: usize, bytes: &[u8]) -> Result<bool> {
     let mut decoder = Decoder::from(table(alloc, capacity)?);
     let mut cursor = Cursor::new(bytes);
@@ -67,8 +67,7 @@ fn receives(alloc: Global, capacity: usize, bytes: &[u8]) -> Result<bool> {
     Ok(outcome.answer.is_ok())
 }
 
-/// Whether `on_decoder_recv` takes a list, which leaves the table. Fails where it does otherwise than the plain
-/// reading.
+/// Returns whether `on_decoder_recv` takes a list, which leaves the table. Fails if it differs from the plain reading.
 fn hears(alloc: Global, capacity: usize, bytes: &[u8]) -> Result<bool> {
     let mut encoder = Encoder::from(table(alloc, capacity)?);
     let mut cursor = Cursor::new(bytes);
@@ -90,8 +89,8 @@ fn hears(alloc: Global, capacity: usize, bytes: &[u8]) -> Result<bool> {
     Ok(answer.is_ok())
 }
 
-/// Whether a section is decoded, and has no field then and needs no entry. Fails where it is answered otherwise than by
-/// the plain reading.
+/// Returns whether a section is decoded, and has no field then and needs no entry. Fails if the result differs from the
+/// plain reading.
 fn is_decoded(
     call: &str,
     bytes: &[u8],
@@ -160,7 +159,7 @@ fn try_capacity(alloc: Global, capacity: usize) -> Result<(usize, usize)> {
     try_all(alloc, &decoder, capacity)
 }
 
-/// Gives all lists to the calls at each capacity, and tells how many calls took one.
+/// Passes all lists to the calls at each capacity, and returns how many calls took one.
 pub(crate) fn hold(rt: &HostRuntime) -> Result<()> {
     for capacity in CAPACITIES {
         let (lists, taken) = try_capacity(rt.alloc(), capacity)?;

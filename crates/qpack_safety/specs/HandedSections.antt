@@ -26,8 +26,8 @@ abbrev pub handed_on : ℕ → List EndStep → List (List FieldLine)
 handed_on s [] = []
 handed_on s (e ∷ es) = handed_by s e ++ handed_on s es
 
--- a block of these fields: it is to mean them, a marked one has a literal (section 7.1.3), and what it spells are bytes
--- where they are
+-- a block of these fields: it is to mean them, a marked one has a literal (section 7.1.3), and it spells bytes if they
+-- are bytes
 pub record IsBlockOf (fields : List FieldLine) (b : AbstractBlock) : Type 0 where
   pub fields_are : b.fields ≡ fields_of_lines fields
   pub literals : AreLiteralsWhereMarked fields b.block.lines

@@ -92,7 +92,7 @@ is_cancelled s (p ∷ ps) = cancels s p.0 p.1 || is_cancelled s ps
 
 -- ---- each outcome
 
--- an event on a stream is skipped, where that is so for its reason
+-- an event on a stream is skipped for its reason
 pub data IsSkippedRightly (before : List (Event × Outcome)) (s : ℕ) (o : Outcome) : Type 0 where
   great_number : 2 ^ 62 ≤ s → o ≡ Skipped 1 → IsSkippedRightly before s o
   stream_cancelled : is_cancelled s before ≡ true → o ≡ Skipped 3 → IsSkippedRightly before s o

@@ -13,7 +13,7 @@ use Rattle.qpack_spec.specs.History.{History, whole_window}
 use Rattle.qpack_spec.specs.Reading.{Fault, BadForm, BadPrefix, line_field, fields_of, Block, Reading, Missing, Faulty}
 use Rattle.qpack_spec.specs.Reading.{reading_of_fields}
 
--- why the next line gives no field: its bytes, or what it names
+-- why the next line gives no field: its bytes, or what it references
 pub data StopsAt (w : Window) (base : ℕ) (rest : List ℕ) (e : Fault) : Type 0 where
   in_bytes : (fault : FormFault) → form_at line_form rest ≡ Err fault → e ≡ BadForm fault → StopsAt w base rest e
   in_line : (encoding more : List ℕ) (l : Line) → rest ≡ encoding ++ more → SpellsLine encoding l → line_field w base l
@@ -43,7 +43,7 @@ abbrev pub ReadsTo : Window → ℕ → List ℕ → Result (List Field) Fault �
 ReadsTo w base bytes (Ok fs) = ReadsAll w base bytes fs
 ReadsTo w base bytes (Err e) = ReadsSome w base bytes e
 
--- ---- the same, as reading from left to right
+-- ---- reading from left to right
 
 -- a form's fault as a section's
 abbrev pub or_bad_form : {A : Type 0} → Result A FormFault → Result A Fault
@@ -85,7 +85,7 @@ or_bad_prefix (Ok x) = Ok x
 or_bad_prefix (Err e) = Err (BadPrefix e)
 
 -- what the lines of a section mean over all insertions ever made, its required insert count being known: absolute index
--- i is the i-th of them. Capacity, eviction and delivery have no part in it
+-- i is the i-th of them, whatever the capacity, the evictions and the deliveries
 unfoldable pub meaning_over_all : History → List ℕ → ℕ → Result (List Field) Fault
 meaning_over_all all bytes required =
     or_bad_form (prefix_at bytes) >>= λ p. or_bad_prefix (base_behind p.0 required)

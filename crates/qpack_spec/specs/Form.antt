@@ -70,7 +70,7 @@ RefusesForm (IndexAndValue n make) encoding e =
 RefusesForm (NameAndValue n make) encoding e =
     RefusesText n encoding e ⊎ InTurn (λ t. (name : List ℕ) × HoldsText n name t) (λ t. RefusesText 8 t e) encoding
 
--- the bytes spell something in the form that their first byte names
+-- the bytes spell something in the form that their first byte determines
 pub record Spells (L : Type 0) (form_of : ℕ → Option (Form L)) (encoding : List ℕ) (l : L) : Type 0 where
   pub first : ℕ
   pub more : List ℕ
@@ -79,7 +79,7 @@ pub record Spells (L : Type 0) (form_of : ℕ → Option (Form L)) (encoding : L
   pub names : form_of first ≡ Some form
   pub spells : SpellsForm form encoding l
 
--- the bytes are refused in the form that their first byte names
+-- the bytes are refused in the form that their first byte determines
 pub record Refuses (L : Type 0) (form_of : ℕ → Option (Form L)) (encoding : List ℕ) (fault : FormFault) : Type 0 where
   pub first : ℕ
   pub more : List ℕ
@@ -94,7 +94,7 @@ Truncates {L} form_of bytes =
     (encoding rest : List ℕ) → bytes ≡ encoding ++ rest
     → ((l : L) → Spells L form_of encoding l → ⊥) × ((fault : FormFault) → Refuses L form_of encoding fault → ⊥)
 
--- ---- the same, as reading from left to right
+-- ---- reading from left to right
 
 -- an integer's fault as a form's
 abbrev pub or_bad_integer : {A : Type 0} → Result A IntegerFault → Result A FormFault

@@ -31,7 +31,7 @@ ReadingFindsFormRefusals {L} form_of =
     (bytes : List ℕ) (fault : FormFault) → is_cut fault ≡ false
     → (form_at form_of bytes ≡ Err fault) ↔ Begins (λ encoding. Refuses L form_of encoding fault) bytes
 
--- and an end exactly where no front is one or the other
+-- an early end is found exactly if no front is a spelling or a refusal
 abbrev pub ReadingFindsFormTruncation : {L : Type 0} → (ℕ → Option (Form L)) → Type 0
 ReadingFindsFormTruncation form_of =
     (bytes : List ℕ) → ((fault : FormFault) × (is_cut fault ≡ true) × (form_at form_of bytes ≡ Err fault)) ↔ Truncates

@@ -72,7 +72,7 @@ pub record Insertable : Type 0 where
 abbrev pub found_instead : Found → Insertable
 found_instead found = record { insertion = NotInserted found.lookup; table = found.table }
 
--- to insert a field: done where one more block may be blocked and there is room
+-- to insert a field: done if one more block may be blocked and there is room
 unfoldable pub insert_field : Table → ℕ → Field → Insertable
 insert_field t base f =
     if below_limit t && has_room t f

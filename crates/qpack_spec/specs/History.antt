@@ -43,7 +43,7 @@ history_after h (Resizes n) = record h {
 abbrev pub empty_history : ℕ → Option ℕ → History
 empty_history capacity agreed_max = record { capacity = capacity; agreed_max = agreed_max; dropped = 0; inserted = [] }
 
--- an empty table of this capacity, where this maximum capacity was agreed (section 3.2.3)
+-- an empty table of this capacity, with this agreed maximum capacity (section 3.2.3)
 abbrev pub initial_history : ℕ → ℕ → History
 initial_history capacity maximum = empty_history capacity (Some maximum)
 

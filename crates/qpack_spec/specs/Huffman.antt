@@ -182,6 +182,6 @@ unfoldable pub text_at : ℕ → List ℕ → Result (List ℕ) HuffmanFault
 text_at zero bits = Ok []
 text_at (suc k) bits = text_after (item_at bits).0 (text_at k (item_at bits).1)
 
--- the text that bits mean, or why they mean nothing
+-- the text that bits mean, or why they are malformed
 unfoldable pub text_of_bits : List ℕ → Result (List ℕ) HuffmanFault
 text_of_bits bits = text_at (suc (length bits)) bits

@@ -22,7 +22,7 @@ TextsHaveOnePayload =
     (text payload other : List ℕ) → AreBytes payload → AreBytes other → PayloadMeans payload text
     → PayloadMeans other text → payload ≡ other
 
--- it is the written one
+-- the written payload of a text means it
 abbrev pub WrittenPayloadsMeanTheirText : Type 0
 WrittenPayloadsMeanTheirText =
     (text : List ℕ) → AreBytes text → AreBytes (payload_of text) × PayloadMeans (payload_of text) text
@@ -33,7 +33,7 @@ PayloadsMeanOrDont =
     (payload : List ℕ) → ((text : List ℕ) × PayloadMeans payload text)
     ⊎ ((fault : HuffmanFault) × PayloadMeansNothing payload fault)
 
--- and not both
+-- no payload means both a text and nothing
 abbrev pub PayloadsDontMeanBoth : Type 0
 PayloadsDontMeanBoth = (payload text : List ℕ) (fault : HuffmanFault) → PayloadMeans payload text
     → PayloadMeansNothing payload fault → ⊥

@@ -57,7 +57,7 @@ TruncatesInteger n bytes =
     (encoding rest : List ℕ) → bytes ≡ encoding ++ rest → ((flags value : ℕ) → SpellsInteger n encoding flags value → ⊥)
     × (OverflowsInteger n encoding → ⊥)
 
--- ---- the same, as reading from left to right
+-- ---- reading from left to right
 
 -- at most k groups of seven bits, and the bytes after them
 unfoldable pub groups_at : ℕ → List ℕ → Result (ℕ × List ℕ) IntegerFault

@@ -78,9 +78,9 @@ MoreSectionsChangeNothing =
     (received told : ℕ) (sections later : List UnacknowledgedBlock) (more : List DecoderInstruction)
     → MayWrite received told sections more → MayWrite received told (sections ++ later) more
 
--- where nothing is under way, and fewer sections are blocked than may be, the first field of a section is inserted if
--- it is one to be inserted, and referenced, so that the section requires it; so no decoder brings insertions to an end
--- but by its own limits, up to 2^62 of them
+-- if nothing is under way, and fewer sections are blocked than may be, the first field of a section is inserted if it
+-- is one to be inserted, and referenced, so that the section requires it; so only a decoder's own limits end
+-- insertions, up to 2^62 of them
 abbrev pub InsertionsGoOn : Type 0
 InsertionsGoOn =
     (t : Table) (l : FieldLine) (more : List FieldLine) → IsQuiet t → IsToBeInserted t l

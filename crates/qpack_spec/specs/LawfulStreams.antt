@@ -51,7 +51,8 @@ LawfulStreamsAreNeverRefused =
     → (k : TakesAllOf encoder_instruction_form strict_apply first now piece (λ front rest. Unit {0}))
     → GoesOn now last k.lines sent k.rest behind
 
--- and it can take all whole instructions of the piece, so that only a truncated one whose field may fit waits
+-- a strict decoder can apply all whole instructions of the piece, so that only a truncated one whose field may fit
+-- waits
 abbrev pub LawfulStreamsAreTaken : Type 0
 LawfulStreamsAreTaken =
     (first last : Table) (piece behind : List ℕ) (sent : List EncoderInstruction)

@@ -11,8 +11,8 @@ use Rattle.qpack_spec.specs.Stateless.{stateless_literal, stateless_line, statel
 use Rattle.qpack_spec.specs.StaticTable.{static_name_index}
 use Rattle.qpack_spec.specs.Table.{Table, insert_count}
 
--- one field: a marked one is a literal, by the name of a static field or of an entry where the rule has one, and it is
--- neither inserted nor looked for
+-- one field: a marked one is a literal, by the name of a static field or of an entry if the rule has one, and it is
+-- neither inserted nor looked up
 abbrev pub marked_field : ℕ → Draft → FieldLine → Draft
 marked_field base d l =
     if l.never_indexed then literal base d l.field (static_name_index l.field.name) else rule_field base d l.field
@@ -26,7 +26,7 @@ marked_fields base d (l ∷ ls) = marked_fields base (marked_field base d l) ls
 unfoldable pub marked_rule : Table → List FieldLine → Draft
 marked_rule t ls = marked_fields (insert_count t) (empty_draft t) ls
 
--- the written lines, one for each field, with N where it is marked
+-- the written lines, one for each field, with N if it is marked
 unfoldable pub written_marked_lines : List FieldLine → List Line → List ℕ
 written_marked_lines (f ∷ fs) (l ∷ ls) = written_marked_line f.never_indexed l ++ written_marked_lines fs ls
 written_marked_lines fs ls = written_lines ls

@@ -21,7 +21,7 @@ is_literal (NamedPostBase post_base value) = true
 is_literal (Literal name value) = true
 is_literal l = false
 
--- where a field is marked its line is a literal
+-- the line of a marked field is a literal
 abbrev pub AreLiteralsWhereMarked : List FieldLine → List Line → Type 0
 AreLiteralsWhereMarked (f ∷ fs) (l ∷ ls) =
     (f.never_indexed ≡ true → is_literal l ≡ true) × AreLiteralsWhereMarked fs ls
@@ -37,8 +37,8 @@ MarkedLinesAreSpellings =
     (never : Bool) (l : Line) → IsWritableLine l → (never ≡ true → is_literal l ≡ true)
     → SpellsLine (written_marked_line never l) l
 
--- a section is read as its fields with their marks where it is written so, requires no more than was received,
--- references nothing past its required insert count, and its fields are within the limit
+-- a section is read as its fields with their marks if it is written so, requires no more than was received, references
+-- nothing past its required insert count, and its fields are within the limit
 abbrev pub MarkedSectionsAreRead : Type 0
 MarkedSectionsAreRead =
     (w : Window) (limit required base : ℕ) (b : Block) (fields : List FieldLine)

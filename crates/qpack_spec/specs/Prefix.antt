@@ -37,7 +37,7 @@ pub record IsRequired (total entries count required : ℕ) : Type 0 where
   pub above : total < required + entries
   pub most : required ≤ total + entries
 
--- ---- the same, computed
+-- ---- computed
 
 -- the greatest number of the residue count - 1 modulo 2 entries that is at most top; 0 if none is above 0
 unfoldable pub required_at : ℕ → ℕ → ℕ → ℕ
@@ -47,7 +47,7 @@ required_at top entries count = top - (top + 2 * entries - (count - 1)) % (2 * e
 abbrev pub required_in_range : ℕ → Result ℕ PrefixFault
 required_in_range required = if nat_eq required 0 || nat_le (2 ^ 64) required then Err OutOfRange else Ok required
 
--- the required insert count of a prefix where this many insertions were received; 0 at capacity 0 and for the count 0
+-- the required insert count of a prefix after this many insertions; 0 at capacity 0 and for the count 0
 unfoldable pub read_required : ℕ → ℕ → ℕ → Result ℕ PrefixFault
 read_required total maximum count =
     if nat_eq maximum 0 || nat_eq count 0 then Ok 0
@@ -79,7 +79,7 @@ with_base base_of (Ok required) = and_base required (base_of required)
     and_base required (Err e) = Err e
     and_base required (Ok base) = Ok (required, base)
 
--- the required insert count and the base of a prefix where this many insertions were received
+-- the required insert count and the base of a prefix after this many insertions
 unfoldable pub read_prefix : ℕ → ℕ → Prefix → Result (ℕ × ℕ) PrefixFault
 read_prefix total maximum p = with_base (λ required. base_behind p required) (read_required total maximum p.count)
 

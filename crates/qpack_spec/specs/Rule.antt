@@ -44,7 +44,7 @@ abbrev pub by_equal : Field → List Field → Option ℕ → EncoderInstruction
 by_equal f stay (Some i) = Duplicate (length stay - 1 - i)
 by_equal f stay None = by_static_name f stay (static_name_index f.name)
 
--- the instruction that inserts a field where these entries stay (section 4.3)
+-- the instruction that inserts a field if these entries stay (section 4.3)
 unfoldable pub instruction_for : Field → List Field → EncoderInstruction
 instruction_for f stay = by_equal f stay (last_position (is_field f) stay)
 
@@ -78,7 +78,7 @@ abbrev pub literal : ℕ → Draft → Field → Option ℕ → Draft
 literal base d f (Some i) = with_line d (NamedStatic i f.value)
 literal base d f None = literal_by_entry base d f (newest_index d.table (has_name f.name))
 
--- an insertion where a block more may be blocked and there is room, else a literal
+-- an insertion if one more block may be blocked and there is room, else a literal
 abbrev pub insertion_or_literal : ℕ → Draft → Field → Draft
 insertion_or_literal base d f =
     if below_limit d.table

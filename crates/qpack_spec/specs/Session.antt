@@ -208,7 +208,7 @@ skip_reason v (ChangeCapacity n) = None
 
 -- ---- what happens
 
--- the session with a block more
+-- the session with one more block
 abbrev pub with_block : Session → ℕ → List Field → Session
 with_block v s fs =
     let d = rule v.encoder fs in
@@ -357,7 +357,7 @@ pub record DeliversToEncoder (v : Session) (n : ℕ) (o : Outcome) (v' : Session
       (drop v.decoder_stream_taken (take (v.decoder_stream_delivered + n) v.decoder_stream))
       (λ front rest. EndsAtEncoder v n table front rest o v')
 
--- an event refused for memory, where it leaves everything as it was
+-- an event refused for memory, if it leaves everything as it was
 abbrev pub LeavesAll : Session → Outcome → Session → Type 0
 LeavesAll v o v' = (o ≡ NoMemory) × (v' ≡ v)
 

@@ -12,8 +12,8 @@ EventsHaveAnswers = (v : Session) (e : Event) → (o : Outcome) × (v' : Session
 
 -- ---- what is skipped
 
--- why an event on a stream is skipped, in this order: no stream has so great a number (RFC 9000, section 2.1); the
--- stream is cancelled; what the event asks for is not there
+-- why an event on a stream is skipped, in this order: the stream number is invalid (RFC 9000, section 2.1); the stream
+-- is cancelled; what the event asks for is not there
 pub data IsOutsideOn (v : Session) (s : ℕ) (IsThere : Type 0) (missing reason : ℕ) : Type 0 where
   number_too_great : 2 ^ 62 ≤ s → reason ≡ 1 → IsOutsideOn v s IsThere missing reason
   was_cancelled : s < 2 ^ 62 → (stream_at v.streams s).cancelled ≡ true → reason ≡ 3
@@ -41,7 +41,7 @@ IsOutside v (Acknowledge s) reason = IsOutsideOn v s (HasUnacknowledged (stream_
 IsOutside v (Cancel s) reason = IsOutsideOn v s (Unit {0}) 0 reason
 IsOutside v (ChangeCapacity n) reason = ⊥
 
--- an event is skipped exactly where it is outside a lawful session, for that reason
+-- an event is skipped exactly if it is outside a lawful session, for that reason
 abbrev pub EventsAreSkippedExactly : Type 0
 EventsAreSkippedExactly =
     (v : Session) (e : Event) (reason : ℕ) → (skip_reason v e ≡ Some reason) ↔ IsOutside v e reason

@@ -42,7 +42,7 @@ pub data StatelessFault : Type 0 where
   NamesEntry : StatelessFault
   TooLong : (sum : ℕ) → StatelessFault
 
--- a sum of sizes, held at the greatest number of 64 bits
+-- a sum of sizes, saturating at the greatest number of 64 bits
 abbrev pub saturated_size : ℕ → ℕ
 saturated_size n = min n (2 ^ 64 - 1)
 
@@ -63,7 +63,7 @@ abbrev pub or_bad_bytes : {A : Type 0} → Result A FormFault → Result A State
 or_bad_bytes (Ok x) = Ok x
 or_bad_bytes (Err e) = Err (BadSection (BadForm e))
 
--- the next field, where the sizes so far have this sum: refused if the limit is passed
+-- the next field, if the sizes so far have this sum: refused if the limit is passed
 abbrev pub within_limit : ℕ → ℕ → Field → Result Field StatelessFault
 within_limit limit sum f =
     if nat_lt limit (saturated_size (sum + field_size f)) then Err

@@ -57,18 +57,18 @@ pub data StopsStateless (limit : ℕ) (bytes : List ℕ) (e : StatelessFault) : 
   in_lines : (head lines : List ℕ) (prefix : Prefix) → bytes ≡ head ++ lines → SpellsPrefix head prefix
       → StopsBehind limit 0 lines e → StopsStateless limit bytes e
 
--- what a section gives: its fields, or the first fault
+-- the result for a section: its fields, or the first fault
 abbrev pub GivesStateless : ℕ → List ℕ → Result (List Field) StatelessFault → Type 0
 GivesStateless limit bytes (Ok fs) = MeansStateless limit bytes fs
 GivesStateless limit bytes (Err e) = StopsStateless limit bytes e
 
--- reading from left to right gives exactly that
+-- reading from left to right gives exactly this result
 abbrev pub StatelessReadingIsMeaning : Type 0
 StatelessReadingIsMeaning =
     (limit : ℕ) (bytes : List ℕ) (r : Result (List Field) StatelessFault)
     → (stateless_reading limit bytes ≡ r) ↔ GivesStateless limit bytes r
 
--- ---- the same under an empty table
+-- ---- under an empty table
 
 -- the window of an empty table of capacity 0
 abbrev pub no_table : Option ℕ → Window
@@ -96,8 +96,8 @@ AgreesWithoutTable bytes (Err (BadSection e)) r = r ≡ Faulty e
 AgreesWithoutTable bytes (Err NamesEntry) r = (e : Fault) × (r ≡ Faulty e) × NamesNoEntry bytes e
 AgreesWithoutTable bytes (Err (TooLong sum)) r = (required : ℕ) → r ≡ Missing required → ⊥
 
--- reading alone is reading under an empty table of capacity 0, up to the limit; and where that reads fields, they are
--- read alone, up to the limit. Neither refuses a prefix for what it says
+-- reading alone is reading under an empty table of capacity 0, up to the limit; and if that reads fields, they are read
+-- alone, up to the limit. Neither refuses a prefix for what it says
 abbrev pub StatelessIsWithoutTable : Type 0
 StatelessIsWithoutTable =
     (agreed_max : Option ℕ) → maximum_capacity agreed_max 0 ≡ 0 → (limit : ℕ) (bytes : List ℕ)

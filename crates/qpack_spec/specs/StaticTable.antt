@@ -122,7 +122,7 @@ pub record IsLeastStatic (P : Field → Type 0) (index : ℕ) : Type 0 where
 abbrev pub NoStatic : (Field → Type 0) → Type 0
 NoStatic P = (k : ℕ) (f : Field) → IsStaticAt k f → P f → ⊥
 
--- ---- the same, as looking from the front
+-- ---- searching from the front
 
 -- the index of the equal field
 unfoldable pub static_index : Field → Option ℕ

@@ -19,7 +19,7 @@ PiecesHoldFronts {L} form_of =
     → Holds L (λ t l. Spells L form_of t l) piece ls rest
     → (others : List L) × (all ≡ ls ++ others) × SpellsAll (λ t l. Spells L form_of t l) (rest ++ behind) others
 
--- and what it leaves begins with no refusal
+-- the rest that a piece leaves begins with no refusal
 abbrev pub PiecesAreNeverRefused : {L : Type 0} → (ℕ → Option (Form L)) → Type 0
 PiecesAreNeverRefused {L} form_of =
     (piece behind : List ℕ) (all ls : List L) (rest encoding more : List ℕ) (fault : FormFault)

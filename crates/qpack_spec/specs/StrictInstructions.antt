@@ -43,7 +43,7 @@ or_unknown stream (Err refusal) = Err (UnknownStream stream)
 abbrev pub required_by : UnacknowledgedBlock → ℕ
 required_by b = greatest_of b.entries
 
--- that of the oldest one of a stream
+-- the required insert count of the oldest unacknowledged block of a stream
 abbrev pub oldest_required : ℕ → List UnacknowledgedBlock → Option ℕ
 oldest_required stream bs = option_map required_by (find (λ b. nat_eq b.stream stream) bs)
 

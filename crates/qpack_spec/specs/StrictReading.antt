@@ -38,7 +38,7 @@ pub data LineFault : Type 0 where
   PastRequired : (index : ℕ) → LineFault
   TooLarge : (sum : ℕ) → LineFault
 
--- why a section is refused: it is longer than any within the limit; its prefix; a count where the maximum capacity is 0
+-- why a section is refused: it is longer than any within the limit; its prefix; a count if the maximum capacity is 0
 -- (section 4.5.1.1); or the line of this number, the first one being 1, at this offset of the section
 pub data SectionFault : Type 0 where
   TooLong : SectionFault
@@ -143,8 +143,8 @@ SaysReading r (Refused fault) = Unit {0}
 abbrev pub IsBelowZero : ℕ → ℕ → Prefix → Type 0
 IsBelowZero total maximum p = (read_required total maximum p.count ≡ Ok 0) × (p.sign ≡ true)
 
--- the two readings of a prefix agree, except where it requires nothing and has the sign bit: there a strict decoder
--- refuses the base, held at the least number of 64 bits, and the other reading is 0 and 0
+-- the two readings of a prefix agree, except if it requires nothing and has the sign bit: then a strict decoder refuses
+-- the base, which saturates at the least number of 64 bits, and the other reading is 0 and 0
 abbrev pub StrictPrefixesAgree : Type 0
 StrictPrefixesAgree =
     (total maximum : ℕ) (p : Prefix)
@@ -178,8 +178,8 @@ StrictReadingsAreWithin =
 abbrev pub indexable : List Field → List FieldLine
 indexable fs = map (λ f. record { field = f; never_indexed = false }) fs
 
--- a section is read as what it means where it is written so, requires no more than was received, references nothing
--- past its required insert count, and its fields are within the limit
+-- a section is read as what it means if it is written so, requires no more than was received, references nothing past
+-- its required insert count, and its fields are within the limit
 abbrev pub StrictSectionsAreRead : Type 0
 StrictSectionsAreRead =
     (w : Window) (limit required base : ℕ) (b : Block) (fields : List Field)

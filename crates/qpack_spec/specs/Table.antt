@@ -25,7 +25,7 @@ pub record UnacknowledgedBlock : Type 0 where
   pub entries : List ℕ
 
 -- the table: what both ends share, the live entries with their marks, the known received count, what the block in
--- progress names, the unacknowledged blocks in order, the required insert counts above the known received count of
+-- progress references, the unacknowledged blocks in order, the required insert counts above the known received count of
 -- committed blocks, and the limit of blocked ones
 pub record Table : Type 0 where
   pub capacity : ℕ
@@ -57,7 +57,7 @@ empty_table capacity agreed_max limit =
 abbrev pub sent_entry : Field → Entry
 sent_entry f = record { field = f; sent = true }
 
--- an entry that was put, as a decoder does
+-- an entry that a decoder inserted
 abbrev pub put_entry : Field → Entry
 put_entry f = record { field = f; sent = false }
 
@@ -69,7 +69,7 @@ fields_in es = map (λ e. e.field) es
 unfoldable pub window : Table → Window
 window t = record { capacity = t.capacity; agreed_max = t.agreed_max; dropped = t.dropped; live = fields_in t.live }
 
--- the table of a decoder at a window: every entry was put, and nothing is referenced
+-- the table of a decoder at a window: it inserted every entry, and nothing is referenced
 unfoldable pub table_of : Window → Table
 table_of w =
     record {
@@ -125,8 +125,8 @@ can_evict t evicted = all_evictable t (suc t.dropped) (take evicted t.live)
 abbrev pub eviction_count_for : Table → Field → ℕ
 eviction_count_for t f = eviction_count t.capacity (fields_in t.live ++ f ∷ [])
 
--- there is room for a field: it fits, and nothing that has to be evicted is unevictable (section 2.1.1); insertions end
--- at 2^62
+-- there is room for a field: it fits, and each entry that has to be evicted is evictable (section 2.1.1); insertions
+-- end at 2^62
 unfoldable pub has_room : Table → Field → Bool
 has_room t f = nat_le (field_size f) t.capacity
     && (nat_lt (insert_count t) (2 ^ 62) && can_evict t (eviction_count_for t f))
@@ -139,7 +139,7 @@ below_limit t = nat_lt (length t.blocked) t.limit
 unfoldable pub may_reference : Table → ℕ → Bool
 may_reference t a = below_limit t || nat_le a t.known_received_count
 
--- the table with one entry more, what has to go being evicted (section 3.2.2)
+-- the table with one more entry; the entries that no longer fit are evicted (section 3.2.2)
 unfoldable pub with_entry : Table → Entry → Table
 with_entry t e =
     record t {
@@ -173,8 +173,8 @@ put t f =
     && can_evict t (eviction_count_for t f) then Ok (with_entry t (put_entry f)) else Ok t)
     else Err DoesNotFit
 
--- another capacity (section 3.2.3): refused above the greatest one, or where an entry that is not evictable would have
--- to be evicted
+-- another capacity (section 3.2.3): refused if it is above the greatest one, or if it would evict an entry that is not
+-- evictable
 unfoldable pub with_capacity : Table → ℕ → Result Table TableRefusal
 with_capacity t n =
     let evicted = eviction_count n (fields_in t.live) in
@@ -223,8 +223,8 @@ without_oldest s (b ∷ bs) = if nat_eq b.stream s then Some bs else option_map 
 unfoldable pub without_stream : ℕ → List UnacknowledgedBlock → List UnacknowledgedBlock
 without_stream s bs = filter (λ b. not (nat_eq b.stream s)) bs
 
--- the known received count grows, held at the greatest number of 64 bits, and blocks that required less are blocked no
--- more (section 4.4.3)
+-- the known received count grows, saturating at the greatest number of 64 bits, and blocks that required less are
+-- blocked no more (section 4.4.3)
 unfoldable pub with_increment : Table → ℕ → Table
 with_increment t n =
     let known_received_count =

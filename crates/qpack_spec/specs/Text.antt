@@ -13,8 +13,8 @@ pub data StringFault : Type 0 where
   LengthOverflows : StringFault
   BadHuffman : (fault : HuffmanFault) → StringFault
 
--- The length of the payload, with a prefix one bit shorter, whose lowest flag is `huffman` (1 where the payload
--- is coded) and whose other flags are `flags`; and then the payload.
+-- The length of the payload, with a prefix one bit shorter, whose lowest flag is `huffman` (1 if the payload is coded)
+-- and whose other flags are `flags`; and then the payload.
 pub record IsLiteral (n : ℕ) (encoding : List ℕ) (flags huffman : ℕ) (payload : List ℕ) : Type 0 where
   pub head : List ℕ
   pub parts : encoding ≡ head ++ payload
@@ -49,7 +49,7 @@ TruncatesString n bytes =
     → ((flags : ℕ) (value : List ℕ) → SpellsString n encoding flags value → ⊥)
     × ((fault : StringFault) → RefusesString n encoding fault → ⊥)
 
--- ---- the same, as reading from left to right
+-- ---- reading from left to right
 
 -- the value of a payload before a rest
 abbrev pub value_before : ℕ → List ℕ → Result (List ℕ) HuffmanFault → Result (ℕ × List ℕ × List ℕ) StringFault

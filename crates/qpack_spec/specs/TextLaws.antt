@@ -59,6 +59,6 @@ ReadingFindsRefusals =
     × ((fault : HuffmanFault) → (string_at n bytes ≡ Err (BadHuffman fault)) ↔ Begins
     (λ encoding. RefusesString n encoding (BadHuffman fault)) bytes)
 
--- and the end exactly where no front is one or the other
+-- an early end is found exactly if no front is a literal or a refusal
 abbrev pub ReadingFindsTruncation : Type 0
 ReadingFindsTruncation = (n : ℕ) (bytes : List ℕ) → (string_at n bytes ≡ Err EndsEarly) ↔ TruncatesString n bytes

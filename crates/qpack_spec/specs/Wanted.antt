@@ -44,8 +44,8 @@ wanted (b ∷ bytes) = wanted_in (encoder_instruction_form b) (b ∷ bytes)
 
 -- ---- how large a field
 
--- the fewest bytes of a text whose payload is so long: no code has more than 31 bits, and fewer than eight follow them
--- (RFC 7541, section 5.2)
+-- the fewest bytes of a text whose payload has this length: no code has more than 31 bits, and fewer than eight follow
+-- them (RFC 7541, section 5.2)
 abbrev pub least_text : ℕ → ℕ → ℕ
 least_text flags len = if flags % 2 == 0 then len else (len + 3) / 4
 

@@ -18,7 +18,7 @@ pub record Window : Type 0 where
   pub dropped : ℕ
   pub live : List Field
 
--- the maximum table capacity of section 3.2.3: what was agreed, and the present capacity until something is
+-- the maximum table capacity of section 3.2.3: what was agreed, and the present capacity until then
 abbrev pub maximum_capacity : Option ℕ → ℕ → ℕ
 maximum_capacity None capacity = capacity
 maximum_capacity (Some most) capacity = most
@@ -56,7 +56,7 @@ pub data TableRefusal : Type 0 where
   AboveMaximum : TableRefusal
   UnknownStream : (stream : ℕ) → TableRefusal
 
--- what an encoder instruction does once what it names is found
+-- what an encoder instruction does once what it references is found
 pub data Effect : Type 0 where
   Inserts : (field : Field) → Effect
   Ignored : Effect
@@ -89,7 +89,7 @@ effect w (InsertLiteralName name value) = insertion w (record { name = name; val
 effect w (Duplicate relative) = or_refusal (relative_entry w relative) (NoEntry relative) >>= λ f. insertion w f
 effect w (SetCapacity n) = if nat_le n (greatest_capacity w.agreed_max) then Ok (Resizes n) else Err AboveMaximum
 
--- the window after an effect: what has to go goes from the oldest on (section 3.2.2)
+-- the window after an effect: entries that no longer fit are evicted, the oldest first (section 3.2.2)
 unfoldable pub window_after : Window → Effect → Window
 window_after w (Inserts f) =
     let all = w.live ++ f ∷ [] in

@@ -15,7 +15,7 @@ LiveEntriesAreFew =
     → Leads (empty_history capacity agreed_max) is h
     → 32 * length (window_of h).live ≤ h.capacity
 
--- what has to go is the least number of oldest entries whose removal lets the rest fit (section 3.2.2)
+-- the entries that are evicted are the least number of oldest entries whose removal lets the rest fit (section 3.2.2)
 abbrev pub EvictionCountIsLeast : Type 0
 EvictionCountIsLeast =
     (capacity : ℕ) (fs : List Field)
@@ -29,7 +29,7 @@ pub record FrontLeads (from : History) (is : List EncoderInstruction) (m : Histo
   pub cut : front ++ rest ≡ is
   pub leads : Leads from front m
 
--- how many were dropped after a list of instructions is the greatest, over its fronts, of how many have to go at the
+-- how many were dropped after a list of instructions is the greatest, over its fronts, of how many are evicted at the
 -- capacity of that front's end: at least that of each, and that of one
 abbrev pub DroppedIsGreatest : Type 0
 DroppedIsGreatest =

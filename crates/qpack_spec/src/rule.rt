@@ -20,16 +20,16 @@ pub fn blocks_require_what_they_reference()
     ensures { BlocksRequireReferences }
 {}
 
-/// What the rule writes is nothing that a strict decoder refuses: no line references an entry past the required insert
-/// count, no count is encoded where the maximum capacity is 0, and no base is below 0 where nothing is required; and at
-/// capacity 0 nothing is inserted.
+/// A strict decoder refuses nothing that the rule writes: no line references an entry past the required insert count,
+/// no count is encoded if the maximum capacity is 0, and no base is below 0 if nothing is required. At capacity 0
+/// nothing is inserted.
 pub fn written_sections_are_strict()
     ensures sections { WrittenSectionsAreStrict }
     ensures insertions { NothingIsInsertedAtZero }
 {}
 
-/// With fields that are marked as never to be indexed, asking the table field by field is the rule too, each field
-/// has a line, a marked one a literal, and where none is marked it is the rule for unmarked fields, written as ever (RFC
+/// With fields that are marked as never to be indexed, asking the table field by field is the rule too, each field has
+/// a line, a marked one a literal, and if none is marked it is the rule for unmarked fields, written as before (RFC
 /// 9204, section 7.1.3).
 pub fn marked_fields_are_literals()
     ensures literals { MarkedFieldsAreLiterals }

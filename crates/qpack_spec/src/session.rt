@@ -8,8 +8,8 @@ pub fn every_event_has_an_answer()
     ensures { EventsHaveAnswers }
 {}
 
-/// An event is skipped exactly where its stream number is 2^62 or more, its stream is cancelled, or nothing is there to
-/// be decoded or acknowledged, each with its number; a delivery and a capacity never.
+/// An event is skipped exactly if its stream number is 2^62 or more, its stream is cancelled, or there is nothing to
+/// decode or acknowledge, each with its number. A delivery and a capacity are never skipped.
 pub fn events_are_skipped_exactly()
     ensures { EventsAreSkippedExactly }
 {}

@@ -1,4 +1,4 @@
--- The blocks that may be blocked, as the code holds them.
+-- The blocks that may be blocked, as the code keeps them.
 use Rattle.std.specs.Prelude.{◌≡◌, ℕ, ◌+◌, Bool, true, false, ⊤, List, map}
 use Rattle.std.specs.Set.{remove_key}
 use Rattle.std.specs.BTreeMap.{is_at}
@@ -18,7 +18,7 @@ numbered ks = map (λ k. (k, tt)) ks
 abbrev pub counts_of : BlockedKeys → List ℕ
 counts_of b = map (λ e. e.0.number) (in_order b.kept (numbered b.keys))
 
--- the key of the next block, which requires so much
+-- the key of the next block, which requires this many insertions
 abbrev pub next_key : ℕ → BlockedKeys → CommitKey
 next_key required b = record { number = required; order = b.kept }
 

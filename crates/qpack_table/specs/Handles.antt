@@ -53,7 +53,7 @@ AreHashesIn f sought = IfSome sought.hashes (λ hashes. AreHashesOf hashes f)
 abbrev pub IsFoundIn : table.Table → Field → FoundField → Type 0
 IsFoundIn t f found = IsSoughtIn t f found.sought
 
--- where a field was found that is sought for more than that
+-- where a field was found that is looked up for more than that
 abbrev pub lookup_in : Result FoundField Error → Result DynamicLookupResult Error
 lookup_in (Ok found) = Ok found.lookup
 lookup_in (Err e) = Err e
@@ -107,8 +107,8 @@ abbrev pub unreferenced_insertion : table.Table → ℕ → Field → Insertable
 unreferenced_insertion t base f =
     record { insertion = insertion_at t base f; table = with_entry t (sent_entry f) }
 
--- a field is inserted as the definition inserts it where it can be, and nothing happens where it cannot; memory is
--- refused only where it can be, and then nothing changes
+-- a field is inserted as the definition inserts it if it can be, and nothing happens otherwise; memory is refused only
+-- if it can be, and then nothing changes
 abbrev pub InsertsIf : Bool → Result (Option DynamicInsertionResult) Error → Insertable → table.Table → table.Table
     → Type 0
 InsertsIf can (Ok (Some insertion)) inserted old new =
@@ -121,8 +121,8 @@ InsertsIf can (Err e) inserted old new = (can ≡ true) × (e ≡ Memory) × (ne
 abbrev pub OpensOrBlocks : table.Table → ℕ → Type 0
 OpensOrBlocks t required = t.referenced ≡ [] → t.known_received_count < required
 
--- the block in progress ends as the definition ends it; memory is refused only where it is opened or blocked, and then
--- what it references is given back
+-- the block in progress ends as the definition ends it; memory is refused only if it is opened or blocked, and then its
+-- references are given back
 abbrev pub Commits : Result ⊤ Error → ℕ → ℕ → table.Table → table.Table → Type 0
 Commits (Ok done) stream required old new = new ≡ table.commit old stream required
 Commits (Err e) stream required old new =

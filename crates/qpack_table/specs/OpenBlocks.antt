@@ -1,4 +1,4 @@
--- The blocks that are to be acknowledged, as the code holds them.
+-- The blocks that are to be acknowledged, as the code keeps them.
 use Rattle.std.specs.Prelude.{ℕ, List, map}
 use Rattle.std.specs.Global.{Vec}
 use Rattle.qpack_spec.specs.Table as table

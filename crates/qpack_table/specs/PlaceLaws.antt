@@ -14,7 +14,7 @@ EntriesStandAtPositions =
     × ((position : ℕ) → IsPositionOf (positions_of w) absolute position → absolute_entry w absolute
     ≡ slice_get w.live position)
 
--- the entry of an instruction's relative index is that of the absolute index which it names (section 3.2.5)
+-- the entry of an instruction's relative index is that of the absolute index which it means (section 3.2.5)
 abbrev pub RecentEntriesAreNamed : Type 0
 RecentEntriesAreNamed = (w : Window) (relative : ℕ) → relative_entry w relative
     ≡ absolute_entry w (newest_relative_index (positions_of w) relative)
@@ -29,7 +29,7 @@ RelativeFieldsAreNamed =
     → relative_field w base relative ≡ or_fault (slice_get w.live position) (AboveWindow position))
     × (¬ IsNotEvicted (positions_of w) base relative → relative_field w base relative ≡ Err (BelowWindow relative))
 
--- the field of a line's post-base index is the entry of the absolute index which it names (section 3.2.6)
+-- the field of a line's post-base index is the entry of the absolute index which it means (section 3.2.6)
 abbrev pub PostBaseFieldsAreNamed : Type 0
 PostBaseFieldsAreNamed =
     (w : Window) (base post_base : ℕ)

@@ -1,4 +1,5 @@
--- The indexes that name the entries of a dynamic table, and the positions of the live ones (RFC 9204, section 3.2).
+-- The indexes that reference the entries of a dynamic table, and the positions of the live ones (RFC 9204, section
+-- 3.2).
 use Rattle.std.specs.Prelude.{◌≡◌, ℕ, ◌+◌, ◌-◌, ◌<◌, ◌≤◌}
 use Rattle.qpack_spec.specs.Window.{Window, window_insert_count}
 
@@ -31,23 +32,22 @@ WasEvicted p absolute = (0 < absolute) × (absolute ≤ p.dropped)
 abbrev pub IsPositionOf : Positions → ℕ → ℕ → Type 0
 IsPositionOf p absolute position = absolute ≡ p.dropped + position + 1
 
--- the absolute index that an instruction's relative index names, 0 the newest; 0, which is no entry's, past the start
+-- the absolute index that an instruction's relative index means, 0 the newest; 0, which is no entry's, past the start
 -- (section 3.2.5)
 abbrev pub newest_relative_index : Positions → ℕ → ℕ
 newest_relative_index p relative = p.total - relative
 
--- the absolute index that a line's relative index names under a base; 0, which is no entry's, past the start
--- (section 3.2.5)
+-- the absolute index that a line's relative index means under a base; 0, which is no entry's, past the start (section
+-- 3.2.5)
 abbrev pub relative_index : ℕ → ℕ → ℕ
 relative_index base relative = base - relative
 
--- the absolute index that a post-base index names (section 3.2.6)
+-- the absolute index that a post-base index means (section 3.2.6)
 abbrev pub post_base_index : ℕ → ℕ → ℕ
 post_base_index base post_base = base + post_base + 1
 
--- what is tested of a relative index under a base: something is live, the index is at most the base, and the entry
--- that it
--- names is not dropped. That the base is at most the total is not tested, so under a greater one it may name none
--- (section 3.2.5)
+-- what is checked of a relative index under a base: something is live, the index is at most the base, and the entry
+-- that it references is not dropped. It is not checked that the base is at most the total, so under a greater one it
+-- may reference none (section 3.2.5)
 abbrev pub IsNotEvicted : Positions → ℕ → ℕ → Type 0
 IsNotEvicted p base relative = (p.dropped < p.total) × (relative ≤ base) × (p.dropped < relative_index base relative)

@@ -1,4 +1,4 @@
--- The dynamic table as the code holds it.
+-- The dynamic table as the code keeps it.
 use Rattle.std.specs.Prelude.{◌≡◌, ℕ, ◌+◌, ◌≤◌, ◌<◌, ◌^◌, ⊤, Bool, IsTrue, nat_eq, if◌then◌else◌}
 use Rattle.std.specs.Prelude.{List, [], ◌∷◌, ◌++◌, map, length}
 use Rattle.std.specs.Prelude.{Option, Some, None, IfSome, slice_get, Result, Ok, Err}
@@ -47,7 +47,7 @@ references_in (b ∷ bs) = b.entries ++ references_in bs
 abbrev pub NoneTwice : List ℕ → Type 0
 NoneTwice xs = (a : ℕ) → times a xs ≤ 1
 
--- each live entry is counted by how often these references name it
+-- each live entry is counted by how often these references have it
 abbrev pub AreUsed : ℕ → List Entry → List ℕ → Type 0
 AreUsed dropped live references =
     (position : ℕ) (e : Entry) → slice_get live position ≡ Some e → e.uses ≡ times (dropped + position + 1) references
@@ -113,7 +113,7 @@ pub record IsTaken (stream : ℕ) (block : table.UnacknowledgedBlock) (old new :
 abbrev pub required_by : table.UnacknowledgedBlock → ℕ
 required_by b = greatest_of b.entries
 
--- that of the oldest unacknowledged block of a stream
+-- the required insert count of the oldest unacknowledged block of a stream
 abbrev pub oldest_required : ℕ → List table.UnacknowledgedBlock → Option ℕ
 oldest_required stream bs = option_map required_by (find (λ b. nat_eq b.stream stream) bs)
 
@@ -143,7 +143,7 @@ abbrev pub LooksUp : Result (Bor HeaderField) Error → Result Field Fault → T
 LooksUp (Ok field) read = read ≡ Ok (field_of field.now)
 LooksUp (Err e) read = IsRefusedFor read (lookup_fault_of e)
 
--- the table is what the definition makes of it, or as before where that is refused
+-- the table is what the definition makes of it, or unchanged if that is refused
 abbrev pub Changes : Result ⊤ Error → Result table.Table TableRefusal → table.Table → table.Table → Type 0
 Changes (Ok done) read old new = read ≡ Ok new
 Changes (Err e) read old new = IsRefusedFor read (refusal_of e) × (new ≡ old)

@@ -35,11 +35,11 @@ pub use crate::dynamic::sought::{FoundField, SoughtField};
 pub use crate::dynamic::steps::Steps;
 pub use crate::dynamic::table::{DynamicTable, DynamicTableDecoder, ReceivedTable};
 
-/// Why the dynamic table did not do what it was asked for.
+/// Why a call of the dynamic table failed.
 #[derive(Clone, Copy, Debug, PartialEq, Drop, ThisError)]
 pub enum Error {
-    /// No live entry has this relative index: the one that it names is dropped, or before the first one, or nothing
-    /// is live (RFC 9204, section 3.2.5).
+    /// No live entry has this relative index: the one that it references is dropped, or before the first one, or
+    /// nothing is live (RFC 9204, section 3.2.5).
     #[error("no entry at relative index {0}")]
     BadRelativeIndex(usize),
     /// No live entry has this post-base index (RFC 9204, section 3.2.6).

@@ -1,4 +1,4 @@
-//! Laws of the indexes: they name the entries of the window that both ends share (RFC 9204, section 3.2).
+//! Laws of the indexes: they reference the entries of the window that both ends share (RFC 9204, section 3.2).
 
 ghost use Rattle.qpack_table.specs.PlaceLaws.{EntriesStandAtPositions, RecentEntriesAreNamed, RelativeFieldsAreNamed};
 ghost use Rattle.qpack_table.specs.PlaceLaws.{PostBaseFieldsAreNamed};

@@ -67,7 +67,7 @@ impl Default for VirtualAddressSpace {
 
     ghost is_default = { λ a. a ≡ no_positions };
 
-    /// Nothing was inserted.
+    /// Returns a space in which nothing was inserted.
     fn default() -> VirtualAddressSpace {
         VirtualAddressSpace {
             inserted: 0,

@@ -4,7 +4,7 @@ use qpack_table::vas::{Error, VirtualAddressSpace};
 use qpack_testing::same;
 use std::test::Fail;
 
-/// A space with so many insertions, the first of them dropped.
+/// Returns a space with this many insertions, the first of them dropped.
 fn space(inserted: u8, dropped: u8) -> VirtualAddressSpace {
     let mut space = VirtualAddressSpace::default();
     for _ in 0..inserted {
@@ -53,7 +53,7 @@ fn the_greatest_numbers_name_nothing(_rt: HostRuntime) -> Result<(), Fail> {
         Err(Error::RelativeIndex(most)),
     )?;
     same(space.post_base(most, 1), Err(Error::PostbaseIndex(1)))?;
-    // The base is not held against the total.
+    // The base is not compared with the total.
     same(space.relative_base(most, 0), Ok(most - 1))
 }
 

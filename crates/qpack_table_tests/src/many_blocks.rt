@@ -1,5 +1,5 @@
-//! Thousands of blocks of many streams, which are acknowledged, cancelled and received in any order; each answer is
-//! held against lists that are scanned (RFC 9204, sections 2.1 and 4.4).
+//! Thousands of blocks of many streams, which are acknowledged, cancelled and received in any order; each result is
+//! compared with lists that are scanned (RFC 9204, sections 2.1 and 4.4).
 
 use crate::model::with_room;
 use crate::tables::{find, put, table};
@@ -57,7 +57,7 @@ impl Lists {
         Ok(())
     }
 
-    /// Where a stream's oldest block stands.
+    /// Returns where a stream's oldest block is.
     fn oldest(&self, stream_id: u64) -> Option<usize> {
         self.waiting
             .iter()

@@ -40,7 +40,7 @@ struct Waiting {
     stream_id: u64,
 }
 
-/// The table. All that was ever inserted is kept, and `dropped` of it is gone.
+/// The table. It keeps all that was ever inserted, of which the first `dropped` are evicted.
 #[derive(Drop)]
 pub struct Model {
     pub capacity: usize,
@@ -100,7 +100,7 @@ impl Model {
         self.inserted.len()
     }
 
-    /// The size of what is left once so many are gone.
+    /// Returns the size of what is left once this many are evicted.
     fn size_behind(&self, gone: usize) -> usize {
         let mut size = 0_usize;
         for stored in self.inserted.iter().skip(gone) {
@@ -109,7 +109,7 @@ impl Model {
         size
     }
 
-    /// How many are gone once the rest fits so many bytes.
+    /// Returns how many are evicted once the rest fits this many bytes.
     fn gone_for(&self, room: usize) -> usize {
         let mut size = self.size_behind(self.dropped);
         let mut gone = self.dropped;
@@ -209,7 +209,7 @@ impl Model {
         self.hand_out(base, newest)
     }
 
-    /// How many are gone where a field is inserted, if it can be.
+    /// Returns how many are evicted for a field, if it can be inserted.
     fn room_for(&self, pair: Pair) -> Option<usize> {
         let room = self.capacity.checked_sub(pair.size())?;
         let gone = self.gone_for(room);
@@ -242,7 +242,7 @@ impl Model {
         Ok(DynamicInsertionResult::NotInserted(found))
     }
 
-    /// The answer of an insertion that is about to be made.
+    /// Returns the result of an insertion that is about to be made.
     fn inserted_as(
         &self,
         base: usize,

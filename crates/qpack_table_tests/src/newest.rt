@@ -66,7 +66,7 @@ fn finds(alloc: Global, table: &DynamicTable, name: &[u8], value: &[u8]) -> Resu
     finds_name(table, name)
 }
 
-/// The same of this field.
+/// The newest entry with this field is that of a scan, and no more entries were compared than their number has digits.
 fn finds_field(table: &DynamicTable, sought: &HeaderField) -> Result<(), Fail> {
     let mut steps = Steps::new();
     let found = table.newest_equal(sought, &mut steps);
@@ -75,7 +75,7 @@ fn finds_field(table: &DynamicTable, sought: &HeaderField) -> Result<(), Fail> {
     same(steps.count() <= u64::from(digits), true)
 }
 
-/// The same of a name.
+/// The newest entry with this name is that of a scan, and no more entries were compared than their number has digits.
 fn finds_name(table: &DynamicTable, name: &[u8]) -> Result<(), Fail> {
     let mut steps = Steps::new();
     let found = table.newest_named(name, &mut steps);
@@ -112,7 +112,7 @@ fn a_field_whose_hash_is_another_s_is_not_looked_at(rt: HostRuntime) -> Result<(
     none_is_looked_at(rt.alloc(), &mut table)
 }
 
-/// A name that no entry has is compared with none, where no hash is the same.
+/// A name that no entry has is compared with none, if no hash is the same.
 fn none_is_looked_at(alloc: Global, table: &mut DynamicTable) -> Result<(), Fail> {
     for value in 1..=100_u8 {
         put(alloc, table, b"n", &[value])?;
@@ -157,7 +157,7 @@ fn small_tables_find_what_a_scan_finds(rt: HostRuntime) -> Result<(), Fail> {
     finds_at_capacities(rt.alloc(), &mut table, &mut numbers)
 }
 
-/// Puts fields and changes the capacity, and finds a field behind each.
+/// Puts fields and changes the capacity, and finds a field after each.
 fn finds_at_capacities(
     alloc: Global,
     table: &mut DynamicTable,
@@ -205,7 +205,7 @@ fn a_large_table_finds_what_a_scan_finds(rt: HostRuntime) -> Result<(), Fail> {
     finds_among_many(rt.alloc(), &mut table, &mut numbers)
 }
 
-/// Puts many fields, and finds one behind each.
+/// Puts many fields, and finds one after each.
 fn finds_among_many(
     alloc: Global,
     table: &mut DynamicTable,
@@ -234,8 +234,7 @@ fn a_row_of_equal_hashes_finds_what_a_scan_finds(rt: HostRuntime) -> Result<(), 
     finds_among_alike(rt.alloc(), &mut table, &mut numbers)
 }
 
-/// Puts so many fields of equal hashes that they stand in pieces of several groups, lets nearly all of them go, and
-/// begins again.
+/// Puts enough fields of equal hashes to need pieces of several groups, evicts nearly all of them, and begins again.
 fn finds_among_alike(
     alloc: Global,
     table: &mut DynamicTable,
@@ -250,7 +249,7 @@ fn finds_among_alike(
     same(live_count(table) > CASES * 12, true)
 }
 
-/// Puts fields of equal hashes, some of them equal, and finds one behind some of them.
+/// Puts fields of equal hashes, some of them equal, and finds one after some of them.
 fn finds_behind_alike(
     alloc: Global,
     table: &mut DynamicTable,

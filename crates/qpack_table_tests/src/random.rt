@@ -1,4 +1,4 @@
-//! Random calls of the handle, each answer held against a plain second body.
+//! Random calls of the handle, each result compared with that of a plain second body.
 
 use crate::model::{Model, NAMES, Pair, VALUES};
 use crate::tables::{answer_to_put, find, insert, table};
@@ -148,7 +148,7 @@ fn run(alloc: Global, capacity: usize, limit: usize, seed: u64) -> Result<(), Fa
     call_often(alloc, &mut table, &mut model, &mut numbers)
 }
 
-/// Many calls, each answered alike.
+/// Makes many calls, each with the same result in both.
 fn call_often(
     alloc: Global,
     table: &mut DynamicTable,

@@ -32,7 +32,8 @@ pub fn put<I: EntryIndex>(
     Ok(answer_to_put(alloc, table, name, value)??)
 }
 
-/// What putting a field answers; again after a refusal for memory, which must leave the table as it was.
+/// Returns what putting a field returns. Puts it again after a refusal for memory, which must leave the table as it
+/// was.
 pub fn answer_to_put<I: EntryIndex>(
     alloc: Global,
     table: &mut DynamicTable<I>,

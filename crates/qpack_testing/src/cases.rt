@@ -1,5 +1,5 @@
-//! Cases that are files of text, which one small program reads: each line is a call and its answer. The first call
-//! that answers anything else ends the program with an error, which names the file, the case and the line.
+//! Cases that are files of text, which one small program reads: each line is a call and its answer. The first call that
+//! gives any other answer ends the program with an error, which names the file, the case and the line.
 //!
 //! A file has these lines, and empty ones:
 //!

@@ -10,7 +10,7 @@ use std::alloc::Global;
 use std::fmt::{self, Display, Formatter, Write};
 use std::test::Fail;
 
-/// A table of this capacity, in which so many of the fields `foo1: bar`, `foo2: bar` and so on were put.
+/// Returns a table of this capacity, in which this many of the fields `foo1: bar`, `foo2: bar` and so on were put.
 type Put = (usize, usize);
 
 /// The field `fooN: bar`.
@@ -86,14 +86,14 @@ fn is_hex(alloc: Global, written: &[u8], expected: &[u8]) -> Result<(), Fail> {
     same(written, expected.as_slice())
 }
 
-/// What a decoder is given, in hexadecimal, and what it answers.
+/// What a decoder gets, in hexadecimal, and what it returns.
 #[derive(Drop)]
 enum Step {
     /// A section, and what it is decoded to.
     Decodes(&'static [u8], &'static str),
-    /// Bytes of an encoder stream, what they are answered, the position where the cursor is left, and what is written.
+    /// Bytes of an encoder stream, the result, the position where the cursor is left, and what is written.
     Receives(&'static [u8], Result<usize, DecoderError>, usize, &'static [u8]),
-    /// An insertion and 129 duplicates in two pieces, the first of so many bytes.
+    /// An insertion and 129 duplicates in two pieces, the first of this many bytes.
     ReceivesCut(usize),
     /// An insertion and a duplicate, in two calls where the first is refused memory.
     ReceivesInTwoCalls,
@@ -101,7 +101,7 @@ enum Step {
     HasCapacity(usize),
 }
 
-/// A decoder takes this step so. What it writes stands in the vector, alone or behind what stood there.
+/// A decoder takes this step so. What it writes is in the vector, alone or after the earlier bytes.
 fn takes(
     alloc: Global,
     decoder: &mut Decoder,
@@ -216,7 +216,7 @@ fn a_base_past_the_insertions_points_behind_the_newest(rt: HostRuntime) -> Resul
     take_all(rt.alloc(), (4096, 2), STEPS)
 }
 
-/// Bytes in hexadecimal are answered so, and the cursor is left at this position.
+/// Bytes in hexadecimal have this result, and the cursor is left at this position.
 fn receives<I: EntryIndex>(
     alloc: Global,
     decoder: &mut Decoder<I>,
@@ -230,7 +230,7 @@ fn receives<I: EntryIndex>(
     same((&answer, buf.position()), to)
 }
 
-/// What bytes are answered; they are offered again where memory was refused, and then nothing was written.
+/// Returns the result of bytes; they are passed again if memory was refused, and then nothing was written.
 fn receive<I: EntryIndex>(
     decoder: &mut Decoder<I>,
     buf: &mut Cursor,
@@ -286,7 +286,7 @@ fn sum_of_increments(written: &[u8]) -> Result<u64, Fail> {
     Ok(sum)
 }
 
-/// Receives bytes, offered again where memory was refused: the answer, and how many are taken.
+/// Receives bytes, again if memory was refused, and returns the result, and how many are consumed.
 fn receive_whole(
     decoder: &mut Decoder,
     offered: &[u8],
@@ -297,7 +297,7 @@ fn receive_whole(
     Ok((answer?, buf.position()))
 }
 
-/// The bytes in two pieces, the first of so many, insert and report what they do in one.
+/// The bytes in two pieces, the first of this many, insert and report what they do in one.
 fn receives_cut(
     decoder: &mut Decoder,
     offered: &[u8],
@@ -321,7 +321,7 @@ fn receives_cut(
 #[test]
 fn insertions_cut_anywhere_are_the_same(rt: HostRuntime) -> Result<(), Fail> {
     for cut in 0..=HUNDRED_AND_THIRTY.len() / 2 {
-        // The newest entry and the oldest of the 107 that fit are there, and none behind it.
+        // The newest entry and the oldest of the 107 that fit are there, and none after it.
         let steps = [
             Step::ReceivesCut(cut),
             Step::Decodes(b"830080bf2b", "\"foo\": \"bar\", \"foo\": \"bar\", 76 true"),
@@ -344,8 +344,8 @@ fn a_truncated_instruction_waits(rt: HostRuntime) -> Result<(), Fail> {
     take_all(rt.alloc(), (4096, 0), STEPS)
 }
 
-/// Receives an insertion and a duplicate of it, and once more where memory was refused: then nothing was written, and
-/// the cursor stood behind as many instructions as were applied.
+/// Receives an insertion and a duplicate of it, and once more if memory was refused: then nothing was written, and the
+/// cursor was after as many instructions as were applied.
 fn receives_in_two_calls(decoder: &mut Decoder, written: &mut Vec<u8>) -> Result<(), Fail> {
     let mut buf = Cursor::new(b"\x62\x94\xe7\x83\x8c\x76\x7f\x00");
     let mut answer = decoder.on_encoder_recv(&mut buf, written);

@@ -58,11 +58,11 @@ fn encoder_of_a_block(alloc: Global) -> Result<Encoder, dynamic::Error> {
     Ok(Encoder::from(table))
 }
 
-/// What an encoder is given, and what it answers.
+/// What an encoder gets, and what it returns.
 enum Step {
-    /// Bytes of a decoder stream, what they are answered, and how many of them are passed.
+    /// Bytes of a decoder stream, the result, and how many of them are consumed.
     Hears(&'static [u8], Result<(), EncoderError>, usize),
-    /// A capacity, what it is answered, and then the capacity that stands and all that is written.
+    /// A capacity, the result, and then the capacity of the table and all that is written.
     Sets(usize, Result<(), EncoderError>, usize, &'static [u8]),
 }
 
@@ -136,7 +136,7 @@ fn an_acknowledgment_behind_a_cancellation_is_refused(rt: HostRuntime) -> Result
     take_all(rt.alloc(), ACKNOWLEDGED)
 }
 
-/// Encodes a field alone on stream 4, behind the blocks before: its required insert count.
+/// Encodes a field alone on stream 4, after the blocks before, and returns its required insert count.
 fn encode_alone(
     encoder: &mut Encoder,
     field: &HeaderField,
@@ -196,8 +196,8 @@ fn encoder_of_sixty_six(alloc: Global) -> Result<Encoder, dynamic::Error> {
     Ok(Encoder::from(table))
 }
 
-/// What such an encoder writes of `n: 65`, then behind an increment of 65 of it again and of `n: 66`: the required insert
-/// counts, and the blocks.
+/// What such an encoder writes of `n: 65`, then after an increment of 65 of it again and of `n: 66`: the required
+/// insert counts, and the blocks.
 fn write_around_an_increment(alloc: Global) -> Result<([usize; 3], Vec<u8>), EncoderError> {
     let mut encoder = encoder_of_sixty_six(alloc)?;
     let last = numbered(alloc, 65)?;
@@ -272,7 +272,7 @@ fn a_capacity_is_written(rt: HostRuntime) -> Result<(), Fail> {
     is_set_and_written(&mut DynamicTable::new(rt.alloc()), &mut written)
 }
 
-/// A capacity is set and written, or it is neither; answers whether it is.
+/// Sets and writes a capacity, or does neither; returns whether it did.
 fn is_set_where_written(
     encoder: &mut Encoder,
     written: &mut Vec<u8, &LocalHeap>,
@@ -291,7 +291,7 @@ fn is_set_where_written(
 }
 
 /// Capacities are set in turn, and written to a vector over a heap that is too small for them: one that is not written
-/// is not set, and one that is too large is told there too.
+/// is not set, and one that is too large is reported there too.
 fn sets_what_is_written(
     encoder: &mut Encoder,
     written: &mut Vec<u8, &LocalHeap>,

@@ -29,14 +29,14 @@ fn set(table: &mut DynamicTable, (capacity, limit): (usize, usize)) -> Result<()
     table.set_max_blocked(limit)
 }
 
-/// An encoder of this capacity, and so many blocks that may be blocked.
+/// Returns an encoder of this capacity, with this limit of blocked blocks.
 fn encoder(alloc: Global, bounds: (usize, usize)) -> Result<Encoder, Error> {
     let mut table = DynamicTable::new(alloc);
     set(&mut table, bounds)?;
     Ok(Encoder::from(table))
 }
 
-/// The block of a section, and the instructions that it is sent behind.
+/// The block of a section, and the instructions that are sent before it.
 #[derive(Drop)]
 struct Sent {
     block: Vec<u8>,
@@ -57,7 +57,7 @@ impl Sent {
     }
 }
 
-/// Forgets what was sent, and encodes a section; answers its required insert count.
+/// Forgets what was sent, and encodes a section; returns its required insert count.
 fn encode(
     alloc: Global,
     encoder: &mut Encoder,
@@ -75,7 +75,7 @@ fn encode(
     )
 }
 
-/// A section is sent so; or memory was refused, and then this answers false.
+/// A section is sent so. Returns false if memory was refused.
 fn is_sent(
     alloc: Global,
     answer: Result<usize, EncoderError>,
@@ -90,7 +90,7 @@ fn is_sent(
     Ok(true)
 }
 
-/// An encoder hears what is said, and writes its section so; or it is refused memory, and then this answers false.
+/// An encoder hears what is said, and writes its section so. Returns false if memory was refused.
 fn writes_one(
     alloc: Global,
     encoder: &mut Encoder,
@@ -103,7 +103,7 @@ fn writes_one(
     is_sent(alloc, answer, sent, to)
 }
 
-/// An encoder writes these sections so; or it is refused memory, and then this answers false.
+/// An encoder writes these sections so. Returns false if memory was refused.
 fn writes_each(
     alloc: Global,
     encoder: &mut Encoder,
@@ -118,7 +118,7 @@ fn writes_each(
     Ok(true)
 }
 
-/// The same, of an encoder of this capacity and limit.
+/// An encoder of this capacity and limit writes these sections so. Returns false if memory was refused.
 fn writes_once(alloc: Global, bounds: (usize, usize), sections: &[Section]) -> Result<bool, Fail> {
     let mut encoder = encoder(alloc, bounds)?;
     writes_each(alloc, &mut encoder, &mut Sent::new(alloc), sections)
@@ -209,7 +209,7 @@ fn an_entry_is_held_until_it_is_received(rt: HostRuntime) -> Result<(), Fail> {
     writes(rt.alloc(), (64, 4), SECTIONS)
 }
 
-/// A field, given so many times.
+/// A field, given this many times.
 #[derive(Drop)]
 struct Repeated<'a> {
     field: &'a HeaderField,
@@ -256,7 +256,7 @@ fn sent_twice(alloc: Global, sent: &mut Sent, is_chain: bool) -> Result<usize, E
     encode_twice(&mut encoder, sent, &field, is_chain)
 }
 
-/// A field twice is written as it is by a slice of two; or memory is refused, and then this answers false.
+/// A field twice is written as it is by a slice of two. Returns false if memory was refused.
 fn writes_twice(alloc: Global, is_chain: bool) -> Result<bool, Fail> {
     let mut sent = Sent::new(alloc);
     let answer = sent_twice(alloc, &mut sent, is_chain);
@@ -286,7 +286,7 @@ fn encode_in_two_calls(
     Ok((first.is_err(), required))
 }
 
-/// The same, of a new encoder.
+/// Encodes in two calls, with a new encoder.
 fn sent_in_two_calls(
     alloc: Global,
     sent: &mut Sent,
@@ -297,7 +297,7 @@ fn sent_in_two_calls(
     encode_in_two_calls(&mut encoder, sent, small, &fields)
 }
 
-/// The same, over a heap of so many bytes.
+/// Encodes in two calls, over a heap of this many bytes.
 fn sent_over_heap(
     alloc: Global,
     sent: &mut Sent,
@@ -376,7 +376,7 @@ fn encode_each_line(alloc: Global, sent: &mut Sent) -> Result<usize, EncoderErro
     answer
 }
 
-/// The section is written so; or memory is refused, and then this answers false.
+/// The section is written so. Returns false if memory was refused.
 fn writes_each_line(alloc: Global) -> Result<bool, Fail> {
     let mut sent = Sent::new(alloc);
     let answer = encode_each_line(alloc, &mut sent);

@@ -73,7 +73,7 @@ fn instructions_of_a_declared_length_are_waited_for(rt: HostRuntime) -> Result<(
 /// The instruction that sets the greatest capacity, 2^30 - 1 bytes.
 const GREATEST: &[u8] = b"\x3F\xE0\xFF\xFF\xFF\x03";
 
-/// A decoder answers that instruction so, and has this capacity then.
+/// A decoder has this result for that instruction, and this capacity then.
 fn answers_greatest(
     alloc: Global,
     decoder: &mut Decoder,
@@ -126,7 +126,7 @@ fn takes(session: &mut Session, event: Event) -> bool {
 }
 
 /// Encodes a block for each stream, of which the first has its insertion reported before the others; then decodes all,
-/// and acknowledges them from the newest on. Answers whether each event was taken.
+/// and acknowledges them from the newest on. Returns whether each event was taken.
 fn takes_all(alloc: Global) -> Result<bool, Fail> {
     let mut session = Session::new(alloc, 4096, 100)?;
     let mut is_taken = true;

@@ -1,9 +1,9 @@
-//! Memory that is asked for again where it was refused.
+//! Asking for memory again after a refusal.
 
 use linked_list_allocator::LocalHeap;
 use std::alloc::{AllocError, Global};
 
-/// A heap of so many bytes.
+/// A heap of this many bytes.
 pub(crate) fn heap(alloc: Global, size: usize) -> Result<LocalHeap, AllocError> {
     match LocalHeap::new(alloc, size) {
         Ok(heap) => Ok(heap),
@@ -11,7 +11,7 @@ pub(crate) fn heap(alloc: Global, size: usize) -> Result<LocalHeap, AllocError> 
     }
 }
 
-/// No bytes, and room for so many.
+/// Returns no bytes, with room for this many.
 pub(crate) fn room(alloc: Global, size: usize) -> Result<Vec<u8>, AllocError> {
     match Vec::with_capacity(alloc, size) {
         Ok(bytes) => Ok(bytes),

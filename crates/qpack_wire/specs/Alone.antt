@@ -17,7 +17,7 @@ pub data KindFault : Type 0 where
   Unreadable : (fault : FormFault) → KindFault
   Foreign : (bits : ℕ) → KindFault
 
--- the form that a first byte names
+-- the form that a first byte determines
 abbrev pub form_for : {L : Type 0} → Kind L → ℕ → Option (Form L)
 form_for (ByFlags n named) first = named (first / 2 ^ n)
 form_for (ByFirstByte named) first = named first
@@ -47,14 +47,14 @@ abbrev pub is_cut_kind : KindFault → Bool
 is_cut_kind (Unreadable fault) = is_cut fault
 is_cut_kind (Foreign bits) = false
 
--- ---- the same, as reading from left to right
+-- ---- reading from left to right
 
 -- a form's fault as that of its reader
 abbrev pub or_unreadable : {A : Type 0} → Result A FormFault → Result A KindFault
 or_unreadable (Ok x) = Ok x
 or_unreadable (Err fault) = Err (Unreadable fault)
 
--- what the named form makes of the bytes
+-- what the form that was determined makes of the bytes
 abbrev pub made_or_foreign : {L : Type 0} → ℕ → Option (Form L) → List ℕ → Result (L × List ℕ) KindFault
 made_or_foreign bits None bytes = Err (Foreign bits)
 made_or_foreign bits (Some form) bytes = or_unreadable (made_at form bytes)

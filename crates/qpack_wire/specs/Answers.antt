@@ -69,7 +69,7 @@ TellsRefusal refuses old r =
     → (is_cut_kind fault ≡ false → Fails r fault → Begins (λ encoding. refuses encoding fault) old.rest)
     × (Begins (λ encoding. refuses encoding fault) old.rest → Fails r fault ⊎ (r ≡ Err Memory))
 
--- an early end exactly where the bytes are truncated, unless memory is refused
+-- an early end exactly if the bytes are truncated, unless memory is refused
 abbrev pub TellsEnd : {V L : Type 0} → (List ℕ → L → Type 0) → (List ℕ → KindFault → Type 0) → CursorView
     → Result V ParseError → Type 0
 TellsEnd spells refuses old r =
@@ -84,7 +84,7 @@ pub record Decodes {V L : Type 0} (view : V → L) (spells : List ℕ → L → 
   pub refused : TellsRefusal refuses old r
   pub truncated : TellsEnd spells refuses old r
 
--- ---- the same, as reading from left to right
+-- ---- reading from left to right
 
 -- what was read is this fault
 abbrev pub ReadAs : {A F : Type 0} → Result A F → Option F → Type 0

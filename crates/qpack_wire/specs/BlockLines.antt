@@ -15,7 +15,7 @@ use Rattle.qpack_wire.specs.declared.block.line.LineParts.TheVariants as parts
 use Rattle.qpack_wire.specs.declared.block.line.Reference.{Reference}
 use Rattle.qpack_wire.specs.declared.block.line.Reference.TheVariants.{Static, Relative, PostBase}
 
--- the form that a first byte names: 0000N, 0001, 001NH, 01NT and 1T
+-- the form that a first byte determines: 0000N, 0001, 001NH, 01NT and 1T
 abbrev pub field_of_first : ℕ → HeaderBlockField
 field_of_first first =
     if nat_lt first 16 then field.LiteralWithPostBaseNameRef

@@ -57,7 +57,7 @@ abbrev pub GivesBlockFault : Result (HeaderPrefix × Vec BlockLine) ParseError �
 GivesBlockFault (Ok r) fault = ⊥
 GivesBlockFault (Err e) fault = FailsForm {A = Block} e (Err fault)
 
--- ---- the same, as reading from left to right
+-- ---- reading from left to right
 
 -- the lines in turn, in at most this many steps
 unfoldable pub lines_at : ℕ → List ℕ → Result (List Line) KindFault

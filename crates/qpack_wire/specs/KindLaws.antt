@@ -6,7 +6,7 @@ use Rattle.qpack_wire.specs.Alone.{SpellsKind}
 use Rattle.qpack_wire.specs.Instructions.{insert_with_name_ref, insert_without_name_ref, duplicate}
 use Rattle.qpack_wire.specs.Instructions.{dynamic_table_size_update, insert_count_increment, header_ack, stream_cancel}
 
--- a spelling of an encoder instruction is one of one of the four kinds
+-- a spelling of an encoder instruction is a spelling of one of the four kinds
 abbrev pub EncodersHaveFourKinds : Type 0
 EncodersHaveFourKinds =
     (encoding : List ℕ) (i : EncoderInstruction)
@@ -15,7 +15,7 @@ EncodersHaveFourKinds =
     ⊎ (SpellsKind dynamic_table_size_update encoding i
     ⊎ (SpellsKind insert_without_name_ref encoding i ⊎ SpellsKind insert_with_name_ref encoding i)))
 
--- a spelling of a decoder instruction is one of one of the three kinds
+-- a spelling of a decoder instruction is a spelling of one of the three kinds
 abbrev pub DecodersHaveThreeKinds : Type 0
 DecodersHaveThreeKinds =
     (encoding : List ℕ) (r : DecoderInstruction)

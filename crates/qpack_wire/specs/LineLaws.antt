@@ -5,7 +5,7 @@ use Rattle.qpack_wire.specs.Alone.{SpellsKind}
 use Rattle.qpack_wire.specs.Lines.{indexed_line, indexed_line_with_post_base, literal_with_name_ref}
 use Rattle.qpack_wire.specs.Lines.{literal_with_post_base_name_ref, literal}
 
--- a spelling of a line is one in one of the five forms
+-- a spelling of a line is a spelling in one of the five forms
 abbrev pub LinesHaveFiveForms : Type 0
 LinesHaveFiveForms =
     (encoding : List ℕ) (l : Line)

@@ -15,7 +15,7 @@ AsksForm (IndexAndValue n make) encoding = InTurn (λ t. (index : ℕ) × HoldsI
 AsksForm (NameAndValue n make) encoding =
     HoldsPayload n encoding ⊎ InTurn (λ t. (name : List ℕ) × HoldsText n name t) (HoldsPayload 8) encoding
 
--- the bytes are such a front of the form that their first byte names
+-- the bytes are such a front of the form that their first byte determines
 pub record Asks (L : Type 0) (form_of : ℕ → Option (Form L)) (encoding : List ℕ) : Type 0 where
   pub first : ℕ
   pub more : List ℕ
@@ -46,7 +46,7 @@ AsksLine encoding = HoldsLine encoding ⊎ Asks Line line_form encoding
 abbrev pub AsksSectionForMemory : List ℕ → Type 0
 AsksSectionForMemory bytes = Begins (InTurn HoldsPrefix AsksLine) bytes
 
--- ---- the same of a form, as reading from left to right
+-- ---- a form, read from left to right
 
 -- the form at the front of the bytes has such a string
 abbrev pub AsksFormAt : {L : Type 0} → Option (Form L) → List ℕ → Type 0

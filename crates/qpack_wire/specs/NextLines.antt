@@ -24,7 +24,7 @@ ReadsInTurn {V} {L} view spells refuses old (l ∷ lines) new =
     (v : V) × (next : CursorView) × (view v ≡ l) × DecodesInstruction view spells refuses old next (Ok (Some v))
     × ReadsInTurn view spells refuses next lines new
 
--- the lines are those that the bytes hold, and where the cursor is left the rest begins
+-- the lines are those that the bytes hold, and the cursor is left at the rest
 abbrev pub NextLinesAreTheReading : {V L : Type 0} → (V → L) → (List ℕ → L → Type 0) → (List ℕ → KindFault → Type 0)
     → Type 0
 NextLinesAreTheReading {V} {L} view spells refuses =

@@ -29,7 +29,7 @@ ReadsInstruction {V} {L} view spells old new r =
     (encoding rest : List ℕ) (l : L) → spells encoding l → old.rest ≡ encoding ++ rest
     → GivesInstruction view r l (MovesPast encoding old new) ⊎ (r ≡ Err Memory)
 
--- none exactly where the bytes are truncated, unless memory is refused; an early end is no refusal
+-- none exactly if the bytes are truncated, unless memory is refused; an early end is no refusal
 abbrev pub TellsNone : {V L : Type 0} → (List ℕ → L → Type 0) → (List ℕ → KindFault → Type 0) → CursorView
     → Result (Option V) ParseError → Type 0
 TellsNone spells refuses old r =
@@ -51,7 +51,7 @@ StaysUnlessRead old new (Ok None) = new ≡ old
 StaysUnlessRead old new (Ok (Some v)) = Unit {0}
 StaysUnlessRead old new (Err e) = new ≡ old
 
--- ---- the same, as reading from left to right
+-- ---- reading from left to right
 
 -- the reading ends early
 abbrev pub EndsEarly : {A : Type 0} → Result A KindFault → Type 0

@@ -21,7 +21,7 @@ use Rattle.qpack_wire.specs.declared.stream.decoder_stream.DecoderInstruction.Th
 use Rattle.qpack_wire.specs.declared.stream.decoder_stream.DecoderLine.{DecoderLine}
 use Rattle.qpack_wire.specs.declared.stream.decoder_stream.DecoderLine.TheVariants as decoder_instruction
 
--- the encoder instruction that a first byte names: 000, 001, 01H and 1T
+-- the encoder instruction that a first byte determines: 000, 001, 01H and 1T
 abbrev pub encoder_instruction_of_first : ℕ → EncoderKind
 encoder_instruction_of_first first =
     if nat_lt first 32 then encoder.Duplicate
@@ -29,7 +29,7 @@ encoder_instruction_of_first first =
     else if nat_lt first 128 then encoder.InsertWithoutNameRef
     else encoder.InsertWithNameRef
 
--- the decoder instruction that a first byte names: 00, 01 and 1
+-- the decoder instruction that a first byte determines: 00, 01 and 1
 abbrev pub decoder_instruction_of_first : ℕ → DecoderKind
 decoder_instruction_of_first first =
     if nat_lt first 64 then decoder.InsertCountIncrement

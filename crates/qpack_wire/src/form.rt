@@ -37,8 +37,7 @@ pub const VALUE_SIZE: u8 = 8;
 
 const VALUE_FLAGS: u8 = 0;
 
-/// Appends an index, with a prefix of `size` bits under the flags, and a value. On error the vector is
-/// as before.
+/// Appends an index, with a prefix of `size` bits under the flags, and a value. On error the vector is unchanged.
 #[inline(always)]
 pub(crate) fn put_index_and_value<A: Allocator>(
     size: u8,
@@ -61,8 +60,7 @@ pub(crate) fn put_index_and_value<A: Allocator>(
     answer
 }
 
-/// Appends a name, with a prefix of `size` bits under the flags, and a value. On error the vector is
-/// as before.
+/// Appends a name, with a prefix of `size` bits under the flags, and a value. On error the vector is unchanged.
 #[inline(always)]
 pub(crate) fn put_name_and_value<A: Allocator>(
     size: u8,

@@ -20,8 +20,8 @@ pub fn instructions_have_their_kinds()
     ensures decoder { DecodersHaveThreeKinds }
 {}
 
-/// The lines that are read of a stream do not depend on how it was cut into pieces, the unread rest
-/// being offered again each time.
+/// The lines that are read of a stream do not depend on how it was cut into pieces, if the unread rest is passed again
+/// each time.
 pub fn cutting_changes_nothing()
     ensures instructions { CuttingChangesNothing SpellsEncoderInstruction }
     ensures decoder_instructions { CuttingChangesNothing SpellsDecoderInstruction }

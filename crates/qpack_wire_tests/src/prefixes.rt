@@ -7,13 +7,13 @@ use qpack_testing::same;
 use qpack_wire::block::HeaderPrefix;
 use std::test::Fail;
 
-/// The required insert count and the base that the bytes stand for.
+/// Returns the required insert count and the base that the bytes mean.
 fn got(bytes: &[u8], total: usize, capacity: usize) -> Result<(usize, usize), ParseError> {
     let prefix = HeaderPrefix::decode(&mut Cursor::new(bytes))?;
     prefix.get(total, capacity)
 }
 
-/// The same, read strictly.
+/// Returns the required insert count and the base, read strictly.
 fn got_strictly(bytes: &[u8], total: usize, capacity: usize) -> Result<(usize, usize), ParseError> {
     let prefix = HeaderPrefix::decode(&mut Cursor::new(bytes))?;
     prefix.get_strict(total, capacity)
@@ -34,7 +34,7 @@ fn prefixes_are_written(rt: HostRuntime) -> Result<(), Fail> {
     )
 }
 
-/// A prefix, the insert count and the maximum capacity under which it is read, and what it stands for.
+/// A prefix, the insert count and the maximum capacity under which it is read, and what it means.
 static ROWS: [(&[u8], (usize, usize), (usize, usize)); 7] = [
     (b"\x0b\x84", (13, 3332), (10, 5)),
     (b"\xff\x01\x00", (200, 4096), (255, 255)),

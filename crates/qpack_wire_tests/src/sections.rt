@@ -9,7 +9,7 @@ use qpack_wire::block::{
 use std::alloc::Global;
 use std::test::Fail;
 
-/// A line behind the base, and another with its name and the value `quxx`; required 2, base 0.
+/// A line after the base, and another with its name and the value `quxx`; required 2, base 0.
 const BLOCK: &[u8] = b"\x03\x81\x10\x01\x84\xed\x6f\x9f\x3f";
 
 /// Reads a block, and again where memory was refused.

@@ -12,7 +12,7 @@ use std::test::Fail;
 /// How many cuts are tried, spread over the stream: as many as it has bytes, so that it is cut anywhere.
 const CASES: usize = 2_699;
 
-/// Reads the whole instructions of the bytes behind those that were read, and tells how many bytes they took.
+/// Reads the whole instructions of the bytes after those that were read, and returns how many bytes they took.
 fn read_all(
     alloc: Global,
     bytes: &[u8],
@@ -31,7 +31,7 @@ fn read_all(
     Ok(cursor.position())
 }
 
-/// The stream in two pieces, the first of so many bytes, has the instructions of the whole.
+/// The stream in two pieces, the first of this many bytes, has the instructions of the whole.
 fn is_same_when_cut(alloc: Global, cut: usize, whole: &Vec<EncoderLine>) -> Result<(), Fail> {
     let mut lines = Vec::new(alloc);
     let first = ENCODER_STREAM.get(..cut).unwrap_or(b"");

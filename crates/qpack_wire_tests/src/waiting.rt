@@ -7,7 +7,7 @@ use qpack_wire::stream::{EncoderLine, least_field_size, wanted};
 use std::alloc::Global;
 use std::test::Fail;
 
-/// The bytes end within an instruction, of which so many bytes are wanted, and whose field is at least so large.
+/// The bytes end within an instruction that needs this many bytes, and whose field has at least this size.
 fn waits_for(alloc: Global, bytes: &[u8], many: usize, size: usize) -> Result<(), Fail> {
     let read = next::<EncoderLine>(alloc, &mut Cursor::new(bytes));
     same(read, Ok(None))?;
@@ -22,7 +22,7 @@ fn all_wait(alloc: Global, rows: &[(&[u8], usize, usize)]) -> Result<(), Fail> {
     Ok(())
 }
 
-/// Updates, of which one byte more is wanted each time, and which insert no text.
+/// Updates, which need one more byte each time, and insert no text.
 static UPDATES: [(&[u8], usize, usize); 5] = [
     (b"", 1, 0),
     (b"\x1f", 2, 0),
@@ -60,7 +60,7 @@ fn insertions_under_a_name_wait_for_their_value(rt: HostRuntime) -> Result<(), F
     all_wait(rt.alloc(), &NAMED)
 }
 
-/// A name and a value: within the name, which is plain or coded; behind it; within the value.
+/// A name and a value: within the name, which is plain or coded; after it; within the value.
 static LITERALS: [(&[u8], usize, usize); 12] = [
     (b"\x5f", 2, 32),
     (b"\x40", 2, 32),

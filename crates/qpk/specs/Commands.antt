@@ -20,8 +20,8 @@ use Rattle.qpk.specs.declared.refusal.Wanted.{Wanted}
 use Rattle.qpk.specs.declared.refusal.Wanted.TheVariants as wanted
 use Rattle.qpk.specs.declared.text.Fault.TheVariants.{Memory}
 
--- why words ask for nothing: they are none of the usage's; or they begin with an addition to it, and then a word is
--- missing, or one is not what it should be
+-- why words give no command: they give none of the usage's four; or they begin a command beyond these, and a word of it
+-- is missing or is not what it should be
 pub data WordsFault : Type 0 where
   OtherWords : WordsFault
   MissingWord : (topic : Topic) (wanted : Wanted) → WordsFault
@@ -48,7 +48,7 @@ only_numbers (first ∷ second ∷ []) =
     or_other_words (number_of first) >>= λ m. or_other_words (number_of second) >>= λ n. Ok (m, n)
 only_numbers (first ∷ second ∷ more ∷ words) = Err OtherWords
 
--- ---- words of additions to it
+-- ---- words of commands beyond the usage's four
 
 -- a word begins as an option does
 abbrev pub is_option : List ℕ → Bool
@@ -174,7 +174,7 @@ run_of (word ∷ words) =
 
 -- ---- words of `show` and `check`
 
--- what they say where there are none
+-- what they say if there are none
 abbrev pub connection_words : Bool → ConnectionWords
 connection_words is_check =
     record {
@@ -190,7 +190,7 @@ connection_words is_check =
 abbrev pub topic_for : Bool → Topic
 topic_for is_check = if is_check then topic.Check else topic.Show
 
--- an option more
+-- one more option
 abbrev pub with_connection_option : ConnectionWords → List ℕ → Result ConnectionWords WordsFault
 with_connection_option w word =
     if bytes_eq word (codes "-") then Ok w
@@ -201,7 +201,7 @@ with_connection_option w word =
     else if bytes_eq word (codes "--table") && not w.is_check then Ok (record w { table = true })
     else Err (BadWord (topic_for w.is_check) wanted.Option word)
 
--- a word more, which is a number where one is expected
+-- one more word, which is a number if one is expected
 abbrev pub with_expected : Expected → ConnectionWords → List ℕ → Result ConnectionWords WordsFault
 with_expected expected.MaxCapacity w word =
     read_number (topic_for w.is_check) word >>= λ n. Ok (record w { max_capacity = n; expected = expected.None })
@@ -217,7 +217,7 @@ abbrev pub with_connection_words : ConnectionWords → List (List ℕ) → Resul
 with_connection_words w [] = Ok w
 with_connection_words w (word ∷ words) = with_connection_word w word >>= λ v. with_connection_words v words
 
--- the command, where no number is missing
+-- the command, if no number is missing
 abbrev pub finished_with : Expected → ConnectionWords → Result Command WordsFault
 finished_with expected.MaxCapacity w = Err (MissingWord (topic_for w.is_check) wanted.MaxCapacity)
 finished_with expected.MaxBlocked w = Err (MissingWord (topic_for w.is_check) wanted.MaxBlocked)
@@ -251,12 +251,12 @@ connection_of is_check (word ∷ words) =
 
 -- ---- words of `explain`
 
--- what they say where there are none
+-- what they say if there are none
 abbrev pub explain_words : ExplainWords
 explain_words =
     record { kind = kind.Section; max_capacity = 4096; expects_capacity = false; has_bytes = false }
 
--- a word more
+-- one more word
 abbrev pub with_explain_word : ExplainWords → List ℕ → Result ExplainWords WordsFault
 with_explain_word w word =
     if w.expects_capacity
@@ -273,7 +273,7 @@ abbrev pub with_explain_words : ExplainWords → List (List ℕ) → Result Expl
 with_explain_words w [] = Ok w
 with_explain_words w (word ∷ words) = with_explain_word w word >>= λ v. with_explain_words v words
 
--- the command, where no number is missing
+-- the command, if no number is missing
 abbrev pub finished_explain : ExplainWords → Result Command WordsFault
 finished_explain w =
     if w.expects_capacity then Err (MissingWord topic.Explain wanted.MaxCapacity)

@@ -85,7 +85,7 @@ address_name (address.RelativeIndex index) = codes "RelativeIndex(" ++ decimal i
 address_name (address.PostbaseIndex index) = codes "PostbaseIndex(" ++ decimal index ++ codes ")"
 address_name (address.Index position) = codes "Index(" ++ decimal position ++ codes ")"
 
--- why a block was not decoded, or an instruction of the encoder not taken
+-- why a block was not decoded, or an instruction of the encoder not applied
 abbrev pub decoder_words : DecoderError → List ℕ
 decoder_words (decoder.InvalidInteger e) = codes "invalid integer: " ++ integer_words e
 decoder_words (decoder.InvalidString e) = codes "invalid string: " ++ string_name e
@@ -100,7 +100,7 @@ decoder_words (decoder.HeaderTooLong size) = codes "header too long"
 decoder_words decoder.BufSize = codes "number in buffer wrong size"
 decoder_words decoder.Memory = memory_words
 
--- why fields were not encoded, a capacity not set, or an instruction of the decoder not taken
+-- why fields were not encoded, a capacity not set, or an instruction of the decoder not applied
 abbrev pub encoder_words : EncoderError → List ℕ
 encoder_words (encoder.Insertion e) = codes "dynamic table insertion: " ++ table_name e
 encoder_words (encoder.InvalidString e) = codes "could not parse string: " ++ string_words e

@@ -1,4 +1,4 @@
--- Text of header fields: a field a line, its name and its value parted by the first TAB.
+-- Text of header fields: a field a line, its name and its value separated by the first TAB.
 use Rattle.std.specs.Prelude.{ℕ, List, [], ◌∷◌, ◌++◌, Result}
 use Rattle.std.specs.List.{flat_map}
 use Rattle.qpack_spec.specs.Field.{Field}

@@ -68,7 +68,7 @@ abbrev pub hexadecimal : List ℕ → List ℕ
 hexadecimal [] = codes "-"
 hexadecimal (b ∷ bytes) = encode_lower (b ∷ bytes)
 
--- a field, its name and its value parted by a TAB; and fields, a line each
+-- a field, its name and its value separated by a TAB; and fields, a line each
 abbrev pub hexadecimal_field : Field → List ℕ
 hexadecimal_field f = hexadecimal f.name ++ codes "\t" ++ hexadecimal f.value ++ codes "\n"
 

@@ -60,7 +60,7 @@ pub record RefusesWhole (old new : Table) (encoding : List ℕ) (e : DecoderErro
   pub same : new ≡ old
   pub room : e ≢ decoder.Memory
 
--- or memory is refused
+-- the instruction that the bytes spell is refused, or memory is
 abbrev pub FailsWhole : Table → Table → List ℕ → Fault → Type 0
 FailsWhole old new encoding (Refused e) = RefusesWhole old new encoding e
 FailsWhole old new encoding Memory = Unit {0}

@@ -8,7 +8,7 @@ use Rattle.serde_json.specs.Written.{compact_text}
 use Rattle.qpack_spec.specs.Field.{Field, total_size}
 use Rattle.qpack_spec.specs.Stateless.{saturated_size}
 
--- bytes: text where they are UTF-8, and else an object that has them in lower-case hexadecimal
+-- bytes: text if they are UTF-8, otherwise an object that has them in lower-case hexadecimal
 abbrev pub bytes_data : List ℕ → Data
 bytes_data bytes =
     if is_utf8 bytes then string bytes

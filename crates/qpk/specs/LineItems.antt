@@ -15,7 +15,7 @@ abbrev pub items_from : {A : Type 0} → (List ℕ → Option A) → ℕ → Lis
 items_from of_line n [] = Ok []
 items_from of_line n (line ∷ lines) = with_item n (of_line line) (items_from of_line (n + 1) lines)
 
--- ---- what reading them returns, where an item of the code represents this value
+-- ---- what reading them returns, if an item of the code represents this value
 
 -- the item of a line, if it has one
 abbrev pub IsItem : {A B : Type 0} → (A → B) → Option A → Option B → Type 0

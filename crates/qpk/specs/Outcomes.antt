@@ -37,7 +37,7 @@ undecoded_text (MissingRefs required) = index_text (codes "missing") required
 undecoded_text e = refused_text (decoder_words e)
 
 -- what is printed of an event, by its outcome, the bytes of the block that it made, if it made one, and the bytes that
--- it added to a stream; where it is refused, the words of its error
+-- it added to a stream; if it is refused, the words of its error
 abbrev pub printed_outcome : Outcome → List ℕ → List ℕ → List ℕ
 printed_outcome (Encoded (Ok required)) block added = encoded_text required block added
 printed_outcome (Encoded (Err e)) block added = refused_text (encoder_words e)

@@ -80,7 +80,7 @@ MayWantMemory (refusal.Fault fault) = Unit {0}
 abbrev pub AppendsPart : Option (List ℕ) → Option (List ℕ) → List ℕ → Type 0
 AppendsPart old new bytes = (n : ℕ) × (n < length bytes) × Appends old new (take n bytes)
 
--- a writer gained a line, or a part of it, where a write failed
+-- a writer gained a line, or a part of it if a write failed
 abbrev pub AppendsFront : Option (List ℕ) → Option (List ℕ) → List ℕ → Type 0
 AppendsFront old new line = Appends old new line ⊎ AppendsPart old new line
 

@@ -1,4 +1,4 @@
--- What a script says: an event a line, its parts parted by TABs.
+-- What a script says: an event a line, its parts separated by TABs.
 use Rattle.std.specs.Prelude.{◌≡◌, ℕ, ◌^◌, List, [], ◌∷◌, codes, map, Option, None, Some, Result, Ok, Err}
 use Rattle.std.specs.Prelude.{if◌then◌else◌, nat_eq, nat_lt}
 use Rattle.std.specs.Borrow.{Bor}
@@ -17,7 +17,7 @@ use Rattle.qpk.specs.LineItems.{items_from}
 use Rattle.qpk.specs.declared.text.Fault.{Fault}
 use Rattle.qpk.specs.declared.text.Fault.TheVariants.{Memory}
 
--- the parts of a line, parted by TABs: one more than it has TABs
+-- the parts of a line, separated by TABs: one more than it has TABs
 abbrev pub parts_of : List ℕ → List (List ℕ)
 parts_of [] = [] ∷ []
 parts_of (b ∷ bytes) = if nat_eq b 9 then [] ∷ parts_of bytes else with_byte b (parts_of bytes)
@@ -34,7 +34,7 @@ number_of_digits (d ∷ digits) =
 abbrev pub number_of : List ℕ → Option ℕ
 number_of part = number_of_digits (without_leading_plus part)
 
--- a field more at the front
+-- one more field at the front
 abbrev pub with_pair : List ℕ → List ℕ → Option (List Field) → Option (List Field)
 with_pair name value None = None
 with_pair name value (Some fs) = Some (record { name = name; value = value } ∷ fs)

@@ -98,7 +98,7 @@ abbrev pub Stops : Command → List ℕ → List ℕ → DecoderError → Type 0
 Stops (Inspect capacity) input out e = PrintsInspection capacity input out (Some e)
 Stops command input out e = ⊥
 
--- which only an inspection does
+-- only the output of an inspection ends so
 abbrev pub IsInspection : Command → Type 0
 IsInspection (Inspect capacity) = Unit {0}
 IsInspection command = ⊥
@@ -133,7 +133,7 @@ MayFind (ExplainWords options) found = Unit {0}
 MayFind (ExplainInput options) found = Unit {0}
 MayFind command found = found ≡ false
 
--- the status where something was refused or found
+-- the status if something was refused or found
 abbrev pub TellsFound : Command → ℕ → Type 0
 TellsFound (Show options) status = status ≡ 2
 TellsFound (Check options) status = status ≡ 1

@@ -3,7 +3,7 @@ use Rattle.std.specs.Prelude.{ℕ, List, ◌++◌, codes}
 use Rattle.qpk.specs.declared.usage.Topic.{Topic}
 use Rattle.qpk.specs.declared.usage.Topic.TheVariants as topic
 
--- the line for words that are none of its four commands, and nothing that is added to them
+-- the line for words that give none of its four commands, and none beyond these
 abbrev pub usage_line : List ℕ
 usage_line =
     codes "usage: qpk encode | qpk decode LIMIT | qpk run CAPACITY LIMIT | qpk inspect CAPACITY\n"

@@ -187,7 +187,7 @@ fn read_version(alloc: Global, rest: &[String]) -> Result<Command, Refusal>
     Ok(Command::Version)
 }
 
-/// Refuses words.
+/// Rejects words.
 fn no_more(alloc: Global, topic: Topic, words: &[String]) -> Result<(), Refusal>
     ensures { ReadsWords result (no_more topic (map string_bytes words.now)) }
 {
@@ -329,7 +329,7 @@ struct ConnectionWords {
     expected: Expected,
 }
 
-/// Returns what `show` or `check` says where it has no words.
+/// Returns what `show` or `check` says without words.
 fn connection_words(is_check: bool) -> ConnectionWords
     ensures { result ≡ connection_words is_check }
 {
@@ -440,7 +440,7 @@ fn with_connection_word(
     }
 }
 
-/// Returns what words of `show` or `check` say with an option more.
+/// Returns what words of `show` or `check` say with one more option.
 fn with_connection_option(
     alloc: Global,
     words: ConnectionWords,
@@ -492,7 +492,7 @@ struct ExplainWords {
     has_bytes: bool,
 }
 
-/// Returns what `explain` says where it has no words.
+/// Returns what `explain` says without words.
 fn explain_words() -> ExplainWords
     ensures { result ≡ explain_words }
 {
@@ -600,7 +600,7 @@ pub fn is_option(word: &str) -> bool
     word.as_bytes().starts_with(b"--")
 }
 
-/// Refuses words of which the first begins as an option does.
+/// Rejects words of which the first begins as an option does.
 fn no_option(alloc: Global, topic: Topic, words: &[String]) -> Result<(), Refusal>
     ensures { ReadsWords result (no_option topic (map string_bytes words.now)) }
 {

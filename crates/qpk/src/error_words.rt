@@ -14,7 +14,7 @@ use std::fmt;
 /// No memory was left.
 pub const MEMORY: &str = "out of memory";
 
-/// Why a block was not decoded, or an instruction of the encoder not taken.
+/// Why a block was not decoded, or an instruction of the encoder not applied.
 #[derive(Clone, Copy)]
 pub struct DecoderWords<'a>(pub &'a DecoderError);
 
@@ -88,7 +88,7 @@ impl fmt::Display for RecordingWords<'_> {
     }
 }
 
-/// Why fields were not encoded, a capacity not set, or an instruction of the decoder not taken.
+/// Why fields were not encoded, a capacity not set, or an instruction of the decoder not applied.
 #[derive(Clone, Copy)]
 pub struct EncoderWords<'a>(pub &'a EncoderError);
 

@@ -53,7 +53,7 @@ fn field_value(alloc: Global, field: &HeaderField) -> Result<Value, AllocError>
     json!(in alloc; {"name": name, "value": value})
 }
 
-/// Bytes: text where they are UTF-8, and else an object that has them in hexadecimal.
+/// Bytes: text if they are UTF-8, otherwise an object that has them in hexadecimal.
 fn bytes_value(alloc: Global, bytes: &[u8]) -> Result<Value, AllocError>
     ensures { IfOk result (λ v. view v ≡ bytes_data bytes.now) }
 {

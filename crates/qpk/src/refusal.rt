@@ -14,7 +14,7 @@ use std::borrow::CowStr;
 /// Why there is no output.
 #[derive(Debug, Drop)]
 pub enum Refusal {
-    /// The words are none of the usage's, and no addition to them.
+    /// The words give none of the usage's four commands, and none beyond these.
     Usage,
     /// This word of a command is missing.
     Missing(Topic, Wanted),

@@ -56,7 +56,7 @@ fn begin(alloc: Global, capacity: usize, limit: usize) -> Result<Session, Fault>
     }
 }
 
-/// Gives a session the events in turn, and appends what they print.
+/// Passes a session the events in turn, and appends what they print.
 fn run_events(session: &mut Session, events: &[Event], text: &mut String) -> Result<(), Fault>
     ensures { RunsEvents session.old session.new (events_in events.now) (string_bytes text.old) (string_bytes text.new)
         result }
@@ -67,7 +67,7 @@ fn run_events(session: &mut Session, events: &[Event], text: &mut String) -> Res
     Ok(())
 }
 
-/// Gives a session an event, and appends what it prints.
+/// Passes a session an event, and appends what it prints.
 fn run_event(session: &mut Session, event: &Event, text: &mut String) -> Result<(), AllocError>
     ensures { OnOk result ((out : List ℕ) × PrintsOne session.old session.new (event_of event.now) out
         × (string_bytes text.new ≡ string_bytes text.old ++ out)) }

@@ -98,7 +98,7 @@ fn say_note<E: Write>(note: Option<String>, faults: &mut E)
     }
 }
 
-/// Writes a line to the faults. A write that fails is passed over.
+/// Writes a line to the faults. A write that fails is ignored.
 fn say<E: Write>(line: &str, faults: &mut E)
     ensures { AppendsFront (E.contents faults.old) (E.contents faults.new) line.now }
 {
@@ -279,7 +279,7 @@ fn help(alloc: Global, topic: Topic) -> Result<String, AllocError>
     Ok(text)
 }
 
-/// Returns an output that may have something refused or found.
+/// Returns an output in which something may be rejected or found.
 fn viewed(view: View) -> Output
     ensures { result.refused ≡ None }
 {

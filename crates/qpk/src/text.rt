@@ -130,7 +130,7 @@ pub fn encode_text(alloc: Global, text: &[u8]) -> Result<String, Fault>
     let fields = read_field_lines(alloc, text)?;
     let mut block = Vec::new(alloc);
     let Ok(_size) = encode_stateless(&mut block, fields.iter()) else {
-        // It is refused for memory alone.
+        // It fails for memory only.
         return Err(Fault::Memory);
     };
     Ok(hex::encode(alloc, block.as_slice())?)

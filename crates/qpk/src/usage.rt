@@ -35,8 +35,7 @@ pub enum Topic {
 /// The version of the program.
 pub const VERSION: &str = "qpk 0.1.0\n";
 
-/// Returns the line for words that are none of the four commands of which other programs know, and nothing that is added
-/// to them.
+/// Returns the line for words that give none of the four commands that other programs know, and none beyond these.
 pub fn usage() -> &'static str
     ensures { result.now ≡ usage_line }
 {

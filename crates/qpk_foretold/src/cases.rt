@@ -50,7 +50,7 @@ fn words_of(alloc: Global, line: &str) -> Result<Vec<String>> {
     Ok(words)
 }
 
-/// What `qpk` writes to its output for the words of a line and an input, where it tells no fault.
+/// Returns what `qpk` writes to its output for the words of a line and an input, if it reports no fault.
 pub(crate) fn output_of(alloc: Global, line: &str, input: &[u8]) -> Result<Vec<u8>> {
     let words = words_of(alloc, line)?;
     let answer = answer_of(alloc, &words, input);
@@ -118,7 +118,7 @@ impl Case {
     }
 }
 
-/// Appends what a line of a case stands for.
+/// Appends the text of a line of a case.
 fn push_line(alloc: Global, part: &mut Vec<u8>, line: &str) -> Result<()> {
     if let Some(digits) = line.strip_prefix("0x") {
         return push_hexadecimal(alloc, part, digits);

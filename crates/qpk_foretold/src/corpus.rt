@@ -66,7 +66,7 @@ fn hold_round(
     Ok(())
 }
 
-/// Holds a recording of nghttp3 against the lists that were sent.
+/// Compares a recording of nghttp3 with the lists that were sent.
 fn hold_foreign(rt: &HostRuntime, foreign: Foreign, lists: &[u8]) -> Result<()> {
     let text = fs::read_to_string(rt, foreign.file)?;
     let recording = recording_of(rt.alloc(), text.as_str())?;
@@ -96,7 +96,7 @@ fn push_line(alloc: Global, line: &str, recording: &mut Vec<u8>) -> Result<()> {
     push_record(alloc, stream.saturating_add(1), digits, recording)
 }
 
-/// Appends a record of the bytes that hexadecimal digits stand for.
+/// Appends a record of the bytes that hexadecimal digits give.
 fn push_record(alloc: Global, stream: u64, digits: &str, recording: &mut Vec<u8>) -> Result<()> {
     let bytes = hex::decode(alloc, digits)?;
     let len: u32 = bytes.len().try_into()?;

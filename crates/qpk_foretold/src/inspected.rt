@@ -36,7 +36,7 @@ const RECORDINGS: [Recording; 5] = [
     },
 ];
 
-/// Holds all recordings against the lists that were sent.
+/// Compares all recordings with the lists that were sent.
 pub(crate) fn hold_inspections(rt: &HostRuntime) -> Result<()> {
     let lists = fs::read_to_string(rt, "corpus.qif")?;
     let wanted = wanted_lines(rt.alloc(), lists.as_str())?;
@@ -90,7 +90,7 @@ fn wanted_lines(alloc: Global, lists: &str) -> Result<Vec<String>> {
     Ok(wanted)
 }
 
-/// Fails if the lines of sections are not those that are wanted.
+/// Fails if the lines of sections are not the expected ones.
 fn hold_lines(output: &str, wanted: &[String]) -> Result<()> {
     let mut printed = output.lines().filter(|line| line.starts_with("fields "));
     for line in wanted {

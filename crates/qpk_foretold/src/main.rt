@@ -1,8 +1,9 @@
 //! Scripts and inspections whose printed lines were foretold by a program that was written from the definitions alone.
-//! Each is run as `qpk` runs it; the first that prints anything else ends this program with an error. Then header lists
-//! and recordings of the offline interop format are held so, and what is refused of them. At last recordings of
-//! connections are shown and inspected, and the lists of a corpus encoded to recordings, and held against the lists that
-//! were sent. What `show`, `check` and `explain` print of a few lines was written and read by people.
+//! Each is run as `qpk` runs it; the first that prints anything else ends this program with an error. Then it does the
+//! same with header lists and recordings of the offline interop format, and with what is rejected of them. At last
+//! recordings of connections are shown and inspected, and the lists of a corpus encoded to recordings, and compared
+//! with the lists that were sent. What `show`, `check` and `explain` print of a few lines was written and read by
+//! people.
 #![tactic(auto)]
 
 mod cases;

@@ -23,7 +23,7 @@ const RECORDINGS: [Recording; 2] = [
     },
 ];
 
-/// Holds all recordings against the lists that were sent, and answers how many there are.
+/// Compares all recordings with the lists that were sent, and returns how many there are.
 pub(crate) fn hold_recordings(rt: &HostRuntime) -> Result<usize> {
     let lists = fs::read_to_string(rt, "corpus.qif")?;
     let wanted = wanted_lines(rt.alloc(), lists.as_str())?;
@@ -35,7 +35,7 @@ pub(crate) fn hold_recordings(rt: &HostRuntime) -> Result<usize> {
     Ok(RECORDINGS.len())
 }
 
-/// How the line of each section begins, and behind it how those of its fields end: list i was sent on stream 4 i.
+/// How the line of each section begins, and after it how those of its fields end: list i was sent on stream 4 i.
 fn wanted_lines(alloc: Global, lists: &str) -> Result<Vec<String>> {
     let mut wanted = Vec::new(alloc);
     let mut stream = 0u64;
@@ -58,7 +58,7 @@ fn wanted_lines(alloc: Global, lists: &str) -> Result<Vec<String>> {
     Ok(wanted)
 }
 
-/// Fails where the lines of sections and fields are not those that are wanted.
+/// Fails if the lines of sections and fields are not the expected ones.
 fn hold_lines(output: &str, wanted: &[String]) -> Result<()> {
     let mut left = wanted.iter();
     for line in output.lines() {

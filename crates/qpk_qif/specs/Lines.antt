@@ -1,4 +1,4 @@
--- Text of lines, and the field of a line: its name and its value parted by the first TAB.
+-- Text of lines, and the field of a line: its name and its value separated by the first TAB.
 use Rattle.std.specs.Prelude.{ℕ, List, [], ◌∷◌, Option, Some, None, nat_eq, if◌then◌else◌}
 use Rattle.qpack_spec.specs.Field.{Field}
 

@@ -14,7 +14,7 @@ pub data LineMeaning : Type 0 where
   Holds : Field → LineMeaning
   NoTab : LineMeaning
 
--- a field, where there is one
+-- a field, if there is one
 abbrev pub held : Option Field → LineMeaning
 held None = NoTab
 held (Some f) = Holds f

@@ -168,8 +168,8 @@ fn push_field(out: &mut Vec<u8>, field: &HeaderField) -> Result<(), AllocError>
     Ok(out.push(b'\n')?)
 }
 
-/// What is read of the text of lists is exactly these lists, where the name of each field has no TAB, no line feed and
-/// no `#` at its front, and its value no line feed. A name, a value and a list may be empty.
+/// What is read of the text of lists is exactly these lists, if the name of each field has no TAB, no line feed and no
+/// `#` at its front, and its value no line feed. A name, a value and a list may be empty.
 pub fn written_lists_are_read()
     ensures { WrittenListsAreRead }
 {}

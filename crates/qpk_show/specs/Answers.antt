@@ -141,7 +141,7 @@ FindsToInsert t i (Ok field) =
 FindsToInsert t i (Err decoder.Memory) = Unit {0}
 FindsToInsert t i (Err e) = IsRefusedFor (apply_encoder_instruction t i) (refusal_of e)
 
--- the change is refused, and the table is as before; or memory is refused
+-- the change is refused, and the table is unchanged; or memory is refused
 abbrev pub FailsToApply : DecoderError → Result Table TableRefusal → Table → Table → Type 0
 FailsToApply decoder.Memory read old new = Unit {0}
 FailsToApply e read old new = IsRefusedFor read (refusal_of e) × (new ≡ old)

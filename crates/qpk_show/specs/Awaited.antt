@@ -17,7 +17,7 @@ pub record Awaited : Type 0 where
 abbrev pub nothing_awaited : Awaited
 nothing_awaited = record { known = 0; sent = [] }
 
--- a section more
+-- one more section
 abbrev pub with_sent : Awaited → ℕ → ℕ → Awaited
 with_sent w stream required = record w { sent = w.sent ++ record { stream = stream; required = required } ∷ [] }
 
@@ -54,7 +54,7 @@ incremented inserted w by =
     else if nat_lt inserted (w.known + by) then Err (PastInsertions by)
     else Ok (record w { known = w.known + by })
 
--- what a decoder instruction makes of what is awaited, where that many insertions were made
+-- what a decoder instruction makes of what is awaited, after that many insertions
 unfoldable pub hear : ℕ → Awaited → DecoderInstruction → Result Awaited HearingRefusal
 hear inserted w (Acknowledgment stream) = acknowledged w stream
 hear inserted w (Cancellation stream) = Ok (cancelled w stream)
@@ -66,7 +66,7 @@ refusal_of fault.ZeroIncrement = ZeroIncrement
 refusal_of (fault.PastInsertions by) = PastInsertions by
 refusal_of (fault.UnknownStream stream) = UnknownStream stream
 
--- what is awaited is what the instruction makes of it, or as before where it is refused
+-- what is awaited is what the instruction makes of it, or unchanged if it is refused
 abbrev pub Hears : Result ⊤ HearingFault → Result Awaited HearingRefusal → Awaited → Awaited → Type 0
 Hears (Ok done) heard old new = heard ≡ Ok new
 Hears (Err e) heard old new = (heard ≡ Err (refusal_of e)) × (new ≡ old)

@@ -34,7 +34,7 @@ pub record Stop : Type 0 where
   pub offset : ℕ
   pub fault : LineFault
 
--- why a section has no lines: its bytes are no prefix; the prefix is out of range; or it has a count where the maximum
+-- why a section has no lines: its bytes are no prefix; the prefix is out of range; or it has a count if the maximum
 -- capacity is 0 (section 4.5.1.1)
 pub data PrefixRefusal : Type 0 where
   NoPrefix : (fault : KindFault) → PrefixRefusal

@@ -183,6 +183,6 @@ abbrev pub next_by : Observed → Option ℕ → Option (Shown × Observed)
 next_by o None = next_taken o
 next_by o (Some index) = section_at o index (slice_get o.arrived index)
 
--- what is shown next, and what is left then; none where more has to come
+-- what is shown next, and what is left then; none if more has to come
 unfoldable pub next_shown : Observed → Option (Shown × Observed)
 next_shown o = next_by o (position (λ a. is_due (insert_count o.table) a) o.arrived)

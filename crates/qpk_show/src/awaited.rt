@@ -18,7 +18,7 @@ struct Sent {
     required: usize,
 }
 
-/// Why a decoder instruction is refused.
+/// Why a decoder instruction is rejected.
 #[derive(Clone, Copy, Debug, PartialEq, Drop)]
 pub enum HearingFault {
     /// It is an increment of 0 (RFC 9204, section 4.4.3).
@@ -46,7 +46,7 @@ impl Model for Awaited {
 }
 
 impl Awaited {
-    /// Returns what is awaited where nothing was sent.
+    /// Returns what is awaited if nothing was sent.
     pub(crate) fn new(alloc: Global) -> Awaited
         ensures { result ≡ nothing_awaited }
     {
@@ -64,7 +64,7 @@ impl Awaited {
         Ok(())
     }
 
-    /// Takes a decoder instruction, where this many insertions were made. On error nothing changes.
+    /// Takes a decoder instruction, after this many insertions. On error nothing changes.
     #[tactic(auto, unfolding(crate::specs::Awaited::hear))]
     pub(crate) fn hear(&mut self, inserted: usize, line: &DecoderLine) -> Result<(), HearingFault>
         ensures { Hears result (hear inserted self.old (decoder_instruction_of line.now)) self.old self.new }

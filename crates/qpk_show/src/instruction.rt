@@ -18,8 +18,8 @@ use qpack_wire::stream::{
     Duplicate, DynamicTableSizeUpdate, EncoderLine, InsertWithNameRef, InsertWithoutNameRef,
 };
 
-/// Applies an instruction to the table, and gives the field that it inserts, if it inserts one. At capacity 0 no
-/// insertion is lawful (RFC 9204, section 3.2.2). On error the table is as before; for memory, it is unspecified.
+/// Applies an instruction to the table, and returns the field that it inserts, if it inserts one. At capacity 0 no
+/// insertion is lawful (RFC 9204, section 3.2.2). On error the table is unchanged; for memory, it is unspecified.
 #[tactic(auto, unfolding(qpack_spec::specs::StrictInstructions::strict_apply))]
 pub fn apply_instruction(
     table: &mut ReceivedTable,
@@ -99,7 +99,7 @@ fn duplicated(table: &ReceivedTable, index: usize) -> Result<HeaderField, Decode
     Ok(table.get_relative(index)?.clone()?)
 }
 
-/// Puts a field, and gives it. On error nothing changes.
+/// Puts a field, and returns it. On error nothing changes.
 fn insert(
     table: &mut ReceivedTable,
     field: HeaderField,

@@ -145,7 +145,7 @@ impl Observer {
         self.decoder_stream.cut()
     }
 
-    /// Takes bytes of the encoder stream. On error, which is for memory alone, nothing changes.
+    /// Takes bytes of the encoder stream. On error, which is for memory only, nothing changes.
     pub fn receive_encoder(&mut self, bytes: &[u8]) -> Result<(), AllocError>
         ensures ok { OnOk result (self.new ≡ record self.old {
           encoder_stream = record self.old.encoder_stream {
@@ -157,7 +157,7 @@ impl Observer {
         self.encoder_stream.receive(bytes)
     }
 
-    /// Takes bytes of the decoder stream. On error, which is for memory alone, nothing changes.
+    /// Takes bytes of the decoder stream. On error, which is for memory only, nothing changes.
     pub fn receive_decoder(&mut self, bytes: &[u8]) -> Result<(), AllocError>
         ensures ok { OnOk result (self.new ≡ record self.old {
           decoder_stream = record self.old.decoder_stream {
@@ -237,7 +237,7 @@ impl Observer {
         self.show_read(index, arrived, reading)
     }
 
-    /// Notes that a section with a required insert count is to be acknowledged, where it was not tried before.
+    /// Notes that a section with a required insert count is to be acknowledged, if it was not tried before.
     fn note(&mut self, arrived: &Arrived, reading: &Reading) -> Result<(), AllocError>
         ensures { (r : ReadingOf) → IsReading reading.now r
             → OnOk result (self.new ≡ noted self.old arrived.now (required_of r)) }
@@ -400,7 +400,7 @@ fn drop_stream(arrived: &mut Vec<Arrived>, stream: u64)
     arrived.retain(|a| a.stream != stream);
 }
 
-/// Bytes that are no encoder instruction, unless memory was refused.
+/// Returns bytes that are no encoder instruction, or out of memory.
 fn no_encoder_instruction(offset: usize, error: ParseError) -> Result<Option<Shown>, NoMemory>
     ensures { result ≡ no_encoder_instruction offset error }
 {
@@ -410,7 +410,7 @@ fn no_encoder_instruction(offset: usize, error: ParseError) -> Result<Option<Sho
     }
 }
 
-/// Bytes that are no decoder instruction, unless memory was refused.
+/// Returns bytes that are no decoder instruction, or out of memory.
 fn no_decoder_instruction(offset: usize, error: ParseError) -> Result<Option<Shown>, NoMemory>
     ensures { result ≡ no_decoder_instruction offset error }
 {

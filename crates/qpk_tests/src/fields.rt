@@ -103,7 +103,7 @@ fn blocks_are_decoded(rt: HostRuntime) -> Result<(), Fail> {
     hold(&rt, rt.alloc(), &DECODED)
 }
 
-// What two lines of text can't tell apart: a line feed and a TAB in a value, bytes that are no UTF-8, and none.
+// What two lines of text can't distinguish: a line feed and a TAB in a value, bytes that are no UTF-8, and none.
 const DECODED_TO_HEXADECIMAL: [Case; 4] = [
     Case {
         words: "decode --hex 42",
@@ -149,7 +149,7 @@ fn blocks_are_decoded_to_hexadecimal(rt: HostRuntime) -> Result<(), Fail> {
     )
 }
 
-// A line feed, a TAB and a quote are escaped, and what is not UTF-8 is told in hexadecimal, as no text is.
+// A line feed, a TAB and a quote are escaped, and what is not UTF-8 is printed in hexadecimal, as no text is.
 const DECODED_TO_JSON: [Case; 4] = [
     Case {
         words: "decode --json 42",

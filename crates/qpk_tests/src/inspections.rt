@@ -33,7 +33,7 @@ fn a_recorded_connection_is_printed(rt: HostRuntime) -> Result<(), Fail> {
     hold(&rt, rt.alloc(), &[case])
 }
 
-/// The recorded connection, with its first line cut into two behind so many digits.
+/// The recorded connection, with its first line cut into two after this many digits.
 fn cut_at(alloc: Global, digits: usize) -> Result<Vec<u8>, AllocError> {
     let (before, behind) = RECORDED
         .as_bytes()
@@ -45,7 +45,7 @@ fn cut_at(alloc: Global, digits: usize) -> Result<Vec<u8>, AllocError> {
     Ok(input)
 }
 
-/// The lines of a text that tell no total of insertions.
+/// Returns the lines of a text without a total of insertions.
 fn without_totals(alloc: Global, text: &[u8]) -> Result<Vec<u8>, AllocError> {
     let mut kept = Vec::new(alloc);
     for line in text.split(|b| *b == b'\n') {
@@ -70,8 +70,8 @@ fn a_stream_cut_anywhere_prints_the_same_instructions(rt: HostRuntime) -> Result
     Ok(())
 }
 
-// A block tells the fault of its prefix before what is missing, and that before its lines. A refused instruction
-// prints no line, and ends the program; one that is passed over at capacity 0 prints one.
+// A block reports the fault of its prefix before what is missing, and that before its lines. A refused instruction
+// prints no line, and ends the program; one without effect at capacity 0 prints one.
 const ORDERS: [Case; 6] = [
     Case {
         words: "inspect 100",
@@ -118,8 +118,8 @@ fn refusals_are_told_in_their_order(rt: HostRuntime) -> Result<(), Fail> {
     hold(&rt, rt.alloc(), &ORDERS)
 }
 
-// Where nothing is required, and at capacity 0, the prefix stands for 0 and 0, whatever it says: a count, a delta, the
-// sign bit.
+// If nothing is required, and at capacity 0, the prefix means 0 and 0, whatever it says: a count, a delta, the sign
+// bit.
 const NOTHING_REQUIRED: [Case; 2] = [
     Case {
         words: "inspect 4096",
@@ -144,7 +144,7 @@ fn where_nothing_is_required_a_prefix_may_say_anything(rt: HostRuntime) -> Resul
     hold(&rt, rt.alloc(), &NOTHING_REQUIRED)
 }
 
-// A bad line is told before a capacity that is refused; then nothing is printed.
+// A bad line is reported before a capacity that is refused; then nothing is printed.
 const FAULTS: [Case; 7] = [
     Case {
         words: "inspect 4096",

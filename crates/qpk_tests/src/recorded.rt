@@ -35,7 +35,7 @@ fn lists_come_back(rt: HostRuntime) -> Result<(), Fail> {
     Ok(())
 }
 
-/// Stream 1, a length of 3, and the block of `:method: GET` and nothing else.
+/// Stream 1, a length of 3, and the block of `:method: GET`, nothing more.
 const GET: &[u8] = &[0, 0, 0, 0, 0, 0, 0, 1, 0, 0, 0, 3, 0, 0, 0xd1];
 
 #[test]

@@ -56,12 +56,13 @@ fn words_of(alloc: Global, line: &str) -> Result<Vec<String>, AllocError> {
     Ok(words)
 }
 
-/// The same, again where one allocation is refused.
+/// Returns the words of a line, asked for again if one allocation is refused.
 pub fn words(alloc: Global, line: &str) -> Result<Vec<String>, AllocError> {
     again(|| words_of(alloc, line))
 }
 
-/// Whether a run may have been refused for memory: it told so, or a vector had no room for the answer, or for the line.
+/// Returns whether a run may have been refused memory: it said so, or a vector had no room for the output, or for the
+/// line.
 pub fn wants_memory(told: &[u8]) -> bool {
     told.is_empty() || told == REFUSED_MEMORY.as_bytes() || told == REFUSED_OUTPUT.as_bytes()
 }
@@ -84,8 +85,8 @@ fn run_once(alloc: Global, words: &[String], input: &[u8]) -> Answer {
     }
 }
 
-/// Whether memory was refused to a run or to one of its events. A run must leave the output as it was, or with what
-/// stands before the refusal that ends an inspection, if its line had no memory.
+/// Returns whether memory was refused to a run or to one of its events. A run must leave the output as it was, or with
+/// what comes before the refusal that ends an inspection, if its line had no memory.
 fn was_refused(rt: &impl Abort, answer: &Answer, before: &str) -> bool {
     if answer.status != 0 && wants_memory(&answer.faults) {
         let output = answer.output.as_slice();
@@ -98,7 +99,7 @@ fn was_refused(rt: &impl Abort, answer: &Answer, before: &str) -> bool {
     }
 }
 
-/// Runs the program, and again where memory was refused, which may leave what stands before a refusal.
+/// Runs the program, and again if memory was refused, which may leave what comes before a refusal.
 pub fn run(
     rt: &impl Abort,
     alloc: Global,

@@ -71,7 +71,7 @@ const SESSIONS: [Case; 8] = [
             received 1 01\nheard\nencoded 2 038010 638c7eff838c767f\n",
         fault: "",
     },
-    // A capacity is set, and its instruction is told.
+    // A capacity is set, and its instruction is printed.
     Case {
         words: "run 64 4",
         input: "\

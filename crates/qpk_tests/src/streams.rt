@@ -90,7 +90,7 @@ fn a_reader_that_fails_is_told(rt: HostRuntime) -> Result<(), Fail> {
 /// A command, its input, what it prints, and the line of its refusal, or none.
 type Run = (&'static str, &'static str, &'static str, &'static str);
 
-/// The four commands, each answered.
+/// The four commands, each with its output.
 const ANSWERED: [Run; 4] = [
     ("encode", ":method\tGET\n", "0000d1\n", ""),
     ("decode 42", "0000d1", ":method\tGET\nsize 42\n", ""),
@@ -122,7 +122,7 @@ fn run_on(
     Ok((status, out, faults))
 }
 
-// An output that is closed, or full before the answer is written, gets a front of it.
+// An output that is closed, or full before everything is written, gets a front of it.
 #[test]
 fn an_output_that_fails_is_told(rt: HostRuntime) -> Result<(), Fail> {
     for case in ANSWERED {
@@ -155,7 +155,7 @@ fn faults_that_can_not_be_written_are_passed_over(rt: HostRuntime) -> Result<(),
     Ok(())
 }
 
-// Where all is answered nothing is written to the faults, so that closed ones do not matter.
+// If the output is written nothing is written to the faults, so that closed ones do not matter.
 #[test]
 fn closed_faults_do_not_matter_to_an_answer(rt: HostRuntime) -> Result<(), Fail> {
     for case in ANSWERED {

@@ -6,10 +6,10 @@ pub(crate) const NO_CAPACITY: &str =
 /// The capacity is 0 again.
 pub(crate) const CAPACITY_IS_ZERO_AGAIN: &str =
     "an earlier instruction set the capacity to 0, and the encoder goes on inserting";
-/// Sizes are counted otherwise.
+/// Sizes are counted in another way.
 pub(crate) const TOO_LARGE: &str =
     "the encoder leaves out the 32 bytes that each entry counts more, or has another capacity";
-/// SETTINGS are not kept.
+/// SETTINGS are not followed.
 pub(crate) const ABOVE_MAXIMUM: &str =
     "the encoder does not keep to the decoder's SETTINGS, or they are not in the recording: give --max-capacity";
 /// The stream of encoder instructions begins with its type.
@@ -18,10 +18,10 @@ pub(crate) const ENCODER_TYPE: &str =
 /// The stream of decoder instructions begins with its type.
 pub(crate) const DECODER_TYPE: &str =
     "the type of the stream, the byte 0x03, was left in: leave it out";
-/// An index of an instruction is counted otherwise.
+/// An index of an instruction is counted in another way.
 pub(crate) const INSTRUCTION_INDEX: &str =
     "the encoder counts from a base and not from the newest entry, or an insertion is missing";
-/// A static index is counted otherwise.
+/// A static index is counted in another way.
 pub(crate) const STATIC_INDEX: &str =
     "static indexes begin at 0; or a dynamic index has the bit of a static one";
 /// Bytes are missing before it.

@@ -334,7 +334,7 @@ fn judge_hearing(
     report.add(place, subject, reason.as_str(), rule)
 }
 
-/// Judges a section that would be blocked where no more streams may be.
+/// Judges a section that would be blocked if more streams might be.
 fn judge_too_many_blocked(
     alloc: Global,
     judged: &mut Judged,
@@ -423,7 +423,7 @@ fn judge_cut(
     )
 }
 
-/// Judges sections that wait to the end. After an encoder stream that was refused that is no wonder.
+/// Judges sections that wait to the end. That is to be expected after an encoder stream that was rejected.
 fn judge_waiting(alloc: Global, judged: &Judged, report: &mut Report) -> Result<(), AllocError> {
     if judged.is_broken {
         return Ok(());

@@ -11,8 +11,8 @@ pub(crate) struct Digits {
     pub(crate) has_half: bool,
 }
 
-/// Reads the bytes of words in hexadecimal; a byte may begin in one word and end in the next. Returns none if a word has
-/// anything but digits and colons after its `0x`.
+/// Reads the bytes of words in hexadecimal; a byte may begin in one word and end in the next. Returns `None` if a word
+/// has anything except digits and colons after its `0x`.
 pub(crate) fn read_digits(alloc: Global, words: &[&str]) -> Result<Option<Digits>, Fault> {
     let mut digits = Vec::new(alloc);
     for word in words {
@@ -38,7 +38,7 @@ fn without_mark(word: &[u8]) -> &[u8] {
         .unwrap_or(word)
 }
 
-/// Appends the digits of a word. Returns false if it has anything but digits and colons.
+/// Appends the digits of a word. Returns false if it has anything except digits and colons.
 fn push_digits(digits: &mut Vec<u8>, word: &[u8]) -> Result<bool, Fault> {
     for byte in word {
         if byte.is_ascii_hexdigit() {

@@ -51,7 +51,7 @@ pub(crate) struct Event<'a> {
     pub(crate) has_half: bool,
 }
 
-/// Reads a line of this number, whose end may be cut. Returns none if it is empty or a comment.
+/// Reads a line of this number, whose end may be cut. Returns `None` if it is empty or a comment.
 pub(crate) fn read_event<'a>(
     alloc: Global,
     line: usize,
@@ -216,7 +216,7 @@ fn split_number<'a, 'b>(
     }
 }
 
-/// Refuses words where none should be.
+/// Rejects words if there should be none.
 fn no_more(alloc: Global, line: usize, words: &[&str]) -> Result<(), Fault> {
     match words.first() {
         None => Ok(()),

@@ -243,7 +243,7 @@ fn static_field(alloc: Global, index: usize) -> Result<String, Fault> {
     Ok(text)
 }
 
-/// Returns what an index of the static table means where it has the name, after a text.
+/// Returns what an index of the static table that has the name means, after a text.
 fn static_name(alloc: Global, before: &str, index: usize) -> Result<String, Fault> {
     let mut text = format!(in alloc; "{before}static {index}: ")?;
     match StaticTable::get(index) {

@@ -1,5 +1,5 @@
-//! What is seen, an object of JSON a line. A name or a value is a string where it is UTF-8, and else an object whose `hex`
-//! has its bytes.
+//! What is seen, an object of JSON a line. A name or a value is a string if it is UTF-8, otherwise an object whose
+//! `hex` has its bytes.
 
 use crate::entries::{Entry, live_entries};
 use crate::place::Place;
@@ -145,7 +145,7 @@ fn push_no_instruction(
     text.push('"')
 }
 
-/// Appends a section that would be blocked where no more streams may be.
+/// Appends a section that would be blocked if more streams might be.
 fn push_too_many_blocked(
     text: &mut String,
     stream: u64,
@@ -360,7 +360,7 @@ fn push_field(alloc: Global, text: &mut String, field: &HeaderField) -> Result<(
     push_bytes(alloc, text, field.value.as_slice())
 }
 
-/// Appends bytes: a string where they are UTF-8, and else an object that has them in hexadecimal.
+/// Appends bytes: a string if they are UTF-8, otherwise an object that has them in hexadecimal.
 fn push_bytes(alloc: Global, text: &mut String, bytes: &[u8]) -> Result<(), AllocError> {
     let value = match str::from_utf8(bytes) {
         Ok(characters) => Value::String(String::from_str(alloc, characters)?),

@@ -15,7 +15,7 @@ pub(crate) struct Place<'a> {
 }
 
 impl Place<'_> {
-    /// Appends the time and the mark of the end, where they are known.
+    /// Appends the time and the mark of the end, if they are known.
     pub(crate) fn push(&self, text: &mut String) -> Result<(), AllocError> {
         if !self.time.is_empty() {
             write!(text, "{} ", self.time)?;
@@ -27,7 +27,7 @@ impl Place<'_> {
         }
     }
 
-    /// Appends the first members of an object: the line, and the time and the end, where they are known.
+    /// Appends the first members of an object: the line, and the time and the end, if they are known.
     pub(crate) fn push_members(&self, text: &mut String) -> Result<(), AllocError> {
         write!(text, "{{\"line\":{},", self.line)?;
         if !self.time.is_empty() {

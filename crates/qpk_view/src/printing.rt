@@ -154,7 +154,7 @@ fn push_no_instruction(
     text.push('\n')
 }
 
-/// Appends a section that would be blocked where no more streams may be.
+/// Appends a section that would be blocked if more streams might be.
 fn push_too_many_blocked(
     text: &mut String,
     number: usize,

@@ -12,7 +12,7 @@ use qpk_show::awaited::HearingFault;
 use qpk_show::section::{LineFault, PrefixRefusal};
 use std::alloc::AllocError;
 
-/// Appends why an encoder instruction is refused, where the table is as it was before it.
+/// Appends why an encoder instruction is refused; the table is as it was before it.
 pub(crate) fn push_not_applied(
     text: &mut String,
     line: &EncoderLine,
@@ -99,7 +99,7 @@ fn push_no_entry(text: &mut String, index: usize, table: &ReceivedTable) -> Resu
     )
 }
 
-/// Appends why a decoder instruction is refused, where the table has had its insertions.
+/// Appends why a decoder instruction is refused; the table has had its insertions.
 pub(crate) fn push_hearing(
     text: &mut String,
     fault: HearingFault,
@@ -154,7 +154,7 @@ pub(crate) fn push_line_fault(text: &mut String, fault: &LineFault) -> Result<()
     }
 }
 
-/// Appends that a section would be blocked where no more streams may be.
+/// Appends that a section would be blocked if more streams might be.
 pub(crate) fn push_too_many_blocked(text: &mut String, required: usize) -> Result<(), AllocError> {
     write!(
         text,

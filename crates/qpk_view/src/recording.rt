@@ -39,7 +39,7 @@ pub(crate) fn read_lines<'a>(alloc: Global, input: &'a [u8]) -> Result<Recording
 const NO_TEXT: &str =
     "the input is no text; --qif reads a recording of the offline interop, and --keys KEYLOG a capture";
 
-/// Refuses a recording in which some lines say which end they are of, and others do not.
+/// Rejects a recording in which some lines say which end they are of, and others do not.
 fn hold_marks(alloc: Global, events: &[Event]) -> Result<(), Fault> {
     let Some(first) = events.first() else {
         return Ok(());

@@ -33,8 +33,8 @@ pub struct View {
     pub has_found: bool,
 }
 
-/// Shows a recording in its order, and what its end cuts. Refused are a maximum capacity from 2^30 on, and an input that
-/// is no recording.
+/// Shows a recording in its order, and what its end cuts. Fails if the maximum capacity is 2^30 or more, or if the
+/// input is no recording.
 pub fn show(alloc: Global, options: ShowOptions, input: &[u8]) -> Result<View, Fault> {
     let recording = read_recording(alloc, options.qif, input)?;
     let mut screen = Screen {

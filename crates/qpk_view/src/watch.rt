@@ -55,7 +55,7 @@ fn onlookers_of(
     Ok(Onlookers { client, server })
 }
 
-/// Returns the SETTINGS that limit the encoder of an end, if the recording has them. Refuses a second one.
+/// Returns the SETTINGS that limit the encoder of an end, if the recording has them. Rejects a second one.
 fn settings_for(
     alloc: Global,
     recording: &Recording<'_>,
@@ -94,7 +94,7 @@ fn other(end: End) -> End {
     }
 }
 
-/// Returns the end whose encoder an event is about. Where no line says which end it is of, that is the client's.
+/// Returns the end whose encoder an event is about: the client if no line says which end it is of.
 fn encoder_of(event: &Event<'_>) -> End {
     let Some(end) = event.end else {
         return End::Client;
@@ -105,7 +105,7 @@ fn encoder_of(event: &Event<'_>) -> End {
     }
 }
 
-/// Returns the end that sent what is shown, where the encoder is that of an end.
+/// Returns the end that sent what is shown, if the encoder is that of an end.
 fn sender_of(shown: &Shown, encoder: End) -> End {
     match shown {
         Shown::Told { .. } | Shown::NotTold { .. } | Shown::NoDecoderInstruction { .. } => {

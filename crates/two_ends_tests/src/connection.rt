@@ -20,8 +20,8 @@ pub(crate) struct Connection {
     lacked_memory: bool,
 }
 
-/// Reads settings: the maximum capacity, the limit of blocked streams, the capacity that is wanted, and how many
-/// sections may be unacknowledged.
+/// Reads settings: the maximum capacity, the limit of blocked streams, the encoder's capacity, and how many sections
+/// may be unacknowledged.
 pub(crate) fn read_settings(settings: &mut Words<'_>) -> Result<ConnectionSettings> {
     Ok(ConnectionSettings {
         decoder: DecoderSettings {
@@ -137,7 +137,7 @@ fn read_event(alloc: Global, word: &str, words: &mut Words<'_>) -> Result<Event>
 /// What the marks of cases ask.
 const WISHES: [Wish; 4] = [Wish::Unmarked, Wish::Never, Wish::Reuse, Wish::Insert];
 
-/// Reads fields, each with what is asked for it.
+/// Reads fields, each with its wish.
 fn owned_fields(alloc: Global, text: &str) -> Result<Vec<OwnedFieldLine>> {
     let mut owned = Vec::new(alloc);
     for field in &read_fields(alloc, text)? {

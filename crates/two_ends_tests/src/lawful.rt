@@ -1,5 +1,5 @@
-//! What two ends must keep to, whatever is encoded, delivered and cancelled: each section is decoded to the fields that
-//! were handed to its encode, in order, or waits for insertions, and no stream is refused (RFC 9204, section 2).
+//! The rules for two ends, whatever is encoded, delivered and cancelled: each section is decoded to the fields that
+//! were passed to its encode, in order, or waits for insertions, and no stream is refused (RFC 9204, section 2).
 
 use anyhow::{Context, Result, ensure};
 use qpack_testing::cases::{Subject, Words, push_field, read_fields};
@@ -85,7 +85,7 @@ impl Stream {
     }
 }
 
-/// Two ends whose answers are lawful.
+/// Two ends whose results are lawful.
 #[derive(Drop)]
 pub(crate) struct Lawful<S> {
     ends: S,

@@ -1,4 +1,5 @@
-//! Scripts of calls by chance. Two ends answer each call lawfully, and at the end no section is left on its way.
+//! Scripts of calls by chance. Two ends return lawful results for each call, and at the end no section is left on its
+//! way.
 
 use crate::connection::Connection;
 use crate::lawful::{Counts, Ends, Lawful, Rest};

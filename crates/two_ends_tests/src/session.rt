@@ -192,7 +192,7 @@ impl Session {
         (self.ends.decoder_bytes().len(), sections)
     }
 
-    /// Gives a decode. It must answer what the decoder itself answers for the section.
+    /// Gives a decode. It must return what the decoder itself returns for the section.
     fn decode(&mut self, stream: u64) -> Result<Outcome> {
         let foreseen = self.foresee(stream);
         let outcome = self.step(&Event::Decode(stream))?;
@@ -261,7 +261,7 @@ impl Session {
     }
 }
 
-/// Whether a decode answered what was foreseen.
+/// Returns whether a decode has the expected outcome.
 fn is_foreseen(foreseen: Option<&Result<Decoded, DecoderError>>, outcome: &Outcome) -> bool {
     match outcome {
         Outcome::Decoded(answer) => foreseen == Some(answer),

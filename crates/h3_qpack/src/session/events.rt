@@ -25,7 +25,7 @@ impl Session {
         }
     }
 
-    /// Does what an event says.
+    /// Performs an event.
     pub(super) fn perform(&mut self, event: &Event) -> Outcome
         ensures goes { Follows self.old self.new (event_of event.now) result }
         ensures asks { IsAskedFor self.old self.new (event_of event.now) result }

@@ -1,4 +1,4 @@
-//! What of a stream is delivered, and offered to the end that reads it.
+//! Which bytes of a stream are delivered, and passed to the end that reads it.
 
 ghost use Rattle.std.specs.Prelude.{◌≡◌, ◌+◌, ◌≤◌, length, take, drop, min};
 

@@ -143,8 +143,8 @@ impl Stream {
         self.cancelled = true;
     }
 
-    /// Encodes a block of the fields, and keeps it (RFC 9204, section 2.1). Room for it is made first. On error, which
-    /// is for memory alone, no block is kept.
+    /// Encodes a block of the fields, and keeps it (RFC 9204, section 2.1). It makes room for it first. On error, which
+    /// is for memory only, no block is kept.
     pub(super) fn encode(
         &mut self,
         alloc: Global,

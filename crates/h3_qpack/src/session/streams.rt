@@ -70,7 +70,7 @@ impl Streams {
         self.by_number.get(&number)
     }
 
-    /// Makes room for a stream. What streams are there does not change.
+    /// Makes room for a stream. The streams do not change.
     pub(super) fn open(&mut self, alloc: Global, number: u64) -> Result<(), NoMemory>
         ensures same { KeepsStreams self.old self.new }
         ensures open { OnOk result (IsOpen number self.new) }

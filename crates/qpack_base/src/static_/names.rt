@@ -21,7 +21,7 @@ pub(super) fn names_of_length(length: usize) -> &'static [Name]
     names_in(long_names(), length - 16)
 }
 
-/// Returns the names in a row of a part, none where it has no such row.
+/// Returns the names in a row of a part, none if it has no such row.
 #[inline(always)]
 #[tactic(auto, using(crate::proofs::StaticNames::names_there, crate::proofs::StaticNames::no_names_past))]
 fn names_in(rows: &'static [&'static [Name]], at: usize) -> &'static [Name]

@@ -33,7 +33,7 @@ struct Fields {
     mem_size: u64,
 }
 
-/// Decodes the section that the cursor has left.
+/// Decodes the section left at the cursor.
 #[tactic(auto, unfolding(qpack_spec::specs::BlockReading::reading_of_bytes))]
 pub(super) fn read_section<I: EntryIndex>(
     table: &DynamicTable<I>,

@@ -17,10 +17,11 @@ const GREATEST_NUMBER: usize = 11;
 /// 9204, sections 3.2.3 and 4.3.1). It first checks that the table takes the capacity, then makes room for the
 /// instruction.
 ///
-/// A capacity above the maximum capacity, or of 2^30 or more, is refused (`Insertion(MaximumTableSizeTooLarge)`), and
-/// one for which an entry that is not evictable would have to go (`Insertion(MaxTableSizeReached)`); any other may be
-/// refused for memory. On error nothing changes and nothing is written. With eleven bytes of free room it takes no
-/// memory.
+/// # Errors
+///
+/// Fails with `Insertion(MaximumTableSizeTooLarge)` if the capacity is above the maximum or is 2^30 or more, with
+/// `Insertion(MaxTableSizeReached)` if it would evict an entry that is not evictable, and with `Memory` if memory runs
+/// out. On error nothing changes and nothing is written. With eleven bytes of free room it takes no memory.
 pub fn set_dynamic_table_size<A: Allocator>(
     table: &mut DynamicTable,
     encoder_buf: &mut Vec<u8, A>,

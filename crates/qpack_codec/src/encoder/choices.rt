@@ -13,16 +13,16 @@ ghost use Rattle.qpack_codec.specs.declared.encoder.choices.Wish.{Wish as Asked}
 use qpack_base::field::FieldLine;
 use qpack_table::dynamic::{DynamicTableEncoder, SoughtField};
 
-/// What the caller of an encoder asks for a field.
+/// The caller's wish for a field.
 #[derive(Debug, Clone, Copy, PartialEq, Drop)]
 pub enum Wish {
     /// Nothing: the encoder chooses.
     Unmarked,
-    /// The field is never indexed: it is a literal that says so (RFC 9204, section 7.1.3).
+    /// The field is never indexed: it becomes a literal with that mark (RFC 9204, section 7.1.3).
     Never,
     /// What is in the table is referenced. The field is not inserted.
     Reuse,
-    /// The field is inserted where there is room.
+    /// The field is inserted if there is room.
     Insert,
 }
 

@@ -178,7 +178,7 @@ fn append_line<A: Allocator>(
 }
 
 /// Appends the literal of a field without the dynamic table, by the static field of its name if there is one. On error
-/// the vector is as before.
+/// the vector is unchanged.
 fn append_alone<A: Allocator>(
     field: &FieldLine<'_>,
     sought: &SoughtField,

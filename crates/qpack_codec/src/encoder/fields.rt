@@ -176,7 +176,7 @@ pub(super) fn instruction_room(block: &DynamicTableEncoder<'_>, field: &FieldLin
     4 * size
 }
 
-/// Appends the instruction of an insertion. On error the vector is as before.
+/// Appends the instruction of an insertion. On error the vector is unchanged.
 #[tactic(auto, using(crate::proofs::Alike::writes_alike))]
 pub(super) fn write_instruction<A: Allocator>(
     field: &FieldLine<'_>,
@@ -202,8 +202,7 @@ pub(super) fn write_instruction<A: Allocator>(
     }
 }
 
-/// Appends the line of a field that was inserted, or was not. On error the vector is as
-/// before.
+/// Appends the line of a field that was inserted, or was not. On error the vector is unchanged.
 #[inline(always)]
 pub(super) fn append_inserted<A: Allocator>(
     field: &FieldLine<'_>,
@@ -226,7 +225,7 @@ pub(super) fn append_inserted<A: Allocator>(
     }
 }
 
-/// Appends a literal, by where its name was found. On error the vector is as before.
+/// Appends a literal, by where its name was found. On error the vector is unchanged.
 #[tactic(auto, using(crate::proofs::Alike::writes_alike))]
 pub(super) fn append_literal<A: Allocator>(
     field: &FieldLine<'_>,

@@ -20,9 +20,9 @@ use qpack_wire::block::{HeaderPrefix, Indexed, Literal, LiteralWithNameRef};
 use std::alloc::Allocator;
 
 /// Appends the section of field lines that is written without a dynamic table, as `encode_stateless` writes it: it
-/// references no entry, and is never blocked. A field line that is never to be indexed is a literal that says so, by
-/// the first static field of its name if there is one (RFC 9204, section 7.1.3). Room for the section is enough, and
-/// then is not grown. On error, which is for memory alone, the vector is as before.
+/// references no entry, and is never blocked. A field line that is never to be indexed becomes a literal with that
+/// mark, by the first static field of its name if there is one (RFC 9204, section 7.1.3). A vector with room for the
+/// section does not grow. On error, which is for memory only, the vector is unchanged.
 pub fn encode_section_stateless<A: Allocator, H: AsField>(
     block: &mut Vec<u8, A>,
     fields: &[H],
@@ -45,7 +45,7 @@ pub fn encode_section_stateless<A: Allocator, H: AsField>(
     Ok(appended?)
 }
 
-/// Appends the section; refused, what stood before is still at the front.
+/// Appends the section. On error the earlier bytes are still at the front.
 pub(crate) fn append_section<A: Allocator, H: AsField>(
     block: &mut Vec<u8, A>,
     fields: &[H],
@@ -66,7 +66,7 @@ pub(crate) fn append_section<A: Allocator, H: AsField>(
     Ok(())
 }
 
-/// Appends the line of a field. On error the vector is as before.
+/// Appends the line of a field. On error the vector is unchanged.
 fn append_line<A: Allocator>(block: &mut Vec<u8, A>, field: &FieldLine<'_>) -> Result<(), NoMemory>
     ensures writes { Writes (written_marked_line field.now.never_indexed
         (stateless_line_marked (line_of field.now))) block.old block.new result }
@@ -77,8 +77,8 @@ fn append_line<A: Allocator>(block: &mut Vec<u8, A>, field: &FieldLine<'_>) -> R
     append_unmarked(block, field.name, field.value)
 }
 
-/// Appends the line of a field that may be indexed: a static index, a static name with the value, or both in full.
-/// On error the vector is as before.
+/// Appends the line of a field that may be indexed: a static index, a static name with the value, or both in full. On
+/// error the vector is unchanged.
 #[tactic(auto, using(crate::proofs::Alike::writes_alike))]
 pub(crate) fn append_unmarked<A: Allocator>(
     block: &mut Vec<u8, A>,
@@ -97,7 +97,7 @@ pub(crate) fn append_unmarked<A: Allocator>(
     }
 }
 
-/// Appends the literal of a field that is never to be indexed. On error the vector is as before.
+/// Appends the literal of a field that is never to be indexed. On error the vector is unchanged.
 #[tactic(auto, using(crate::proofs::Alike::writes_alike))]
 fn append_never_indexed<A: Allocator>(
     block: &mut Vec<u8, A>,

@@ -41,7 +41,7 @@ impl Model for Ends {
 }
 
 impl Ends {
-    /// Two ends of which neither was called.
+    /// Returns two ends of which neither was called.
     pub(super) fn new(alloc: Global, settings: ConnectionSettings) -> Result<Ends, SettingsError>
         ensures ok { IfOk result (λ c. BeginsWith settings c) }
         ensures err { IfErr result (FailsSettings settings.decoder) }
@@ -55,7 +55,7 @@ impl Ends {
         })
     }
 
-    /// Does what an event says.
+    /// Performs an event.
     pub(super) fn perform(&mut self, event: Event) -> Outcome
         requires { IsReached self.old }
         ensures { Goes self.old self.new event result }

@@ -27,7 +27,7 @@ pub struct OwnedFieldLine {
 }
 
 impl OwnedFieldLine {
-    /// Returns a copy of a field line, for which its mark alone asks.
+    /// Returns a copy of a field line, with the wish of its mark.
     pub fn copy(alloc: Global, line: FieldLine<'_>) -> Result<OwnedFieldLine, NoMemory>
         ensures { IfOk result (λ owned. line_of_owned owned ≡ line_of line.entry) }
     {

@@ -1,4 +1,4 @@
-//! What of an instruction stream is offered to the end that receives it.
+//! Which bytes of an instruction stream are passed to the end that receives it.
 
 ghost use Rattle.std.specs.Prelude.{◌≡◌, take, drop};
 

@@ -17,7 +17,7 @@ pub(super) struct Copies {
 }
 
 impl Copies {
-    /// Returns that there are no copies.
+    /// Returns a memory of no copies.
     pub(super) fn new() -> Copies {
         let none = Pair {
             copy: 0,

@@ -16,7 +16,7 @@ pub(super) struct Draining {
 }
 
 impl Draining {
-    /// Returns that no entry drains.
+    /// Returns a state in which no entry drains.
     pub(super) fn new() -> Draining {
         Draining {
             newest: 0,
@@ -31,7 +31,7 @@ impl Draining {
         entry <= self.newest
     }
 
-    /// Takes up which entries drain where a section begins.
+    /// Notes which entries drain when a section begins.
     pub(super) fn advance(&mut self, block: &DynamicTableEncoder<'_>) {
         self.count(block);
         let most = self.capacity - self.capacity / 4;

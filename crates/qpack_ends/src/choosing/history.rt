@@ -28,7 +28,7 @@ impl History {
         }
     }
 
-    /// Makes it as large as a capacity asks for. Where memory is refused it stays as it is.
+    /// Makes it as large as a capacity asks for. If memory is refused it does not change.
     pub(super) fn fit(&mut self, capacity: usize) {
         let sets = (capacity / (BYTES_A_TAG * WAYS)).clamp(LEAST_SETS, MOST_SETS);
         if self.tags.len() != sets * WAYS {

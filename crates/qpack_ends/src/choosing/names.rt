@@ -1,4 +1,4 @@
-//! Insertions for the sake of a name: a few at first, and more where their names are used.
+//! Insertions for the sake of a name: a few at first, and more once their names are used.
 
 /// The most fields that may be inserted for their names before one of them is referenced.
 const MOST: u8 = 4;

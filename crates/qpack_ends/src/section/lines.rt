@@ -125,7 +125,7 @@ struct Lengths {
     value: usize,
 }
 
-/// Appends a field's name if it has at most `most` bytes, and returns how many it has. On error the text is as before.
+/// Appends a field's name if it has at most `most` bytes, and returns how many it has. On error the text is unchanged.
 #[inline(always)]
 fn append_name(field: &HeaderField, most: usize, text: &mut Vec<u8>) -> Result<usize, LineError>
     ensures exact { AppendsName most text.old.items text.new.items result (Ok (field_of field.now)) }
@@ -149,7 +149,7 @@ fn append_field(field: &HeaderField, most: usize, text: &mut Vec<u8>) -> Result<
 }
 
 impl<I: EntryIndex> Lines<'_, I> {
-    /// Refuses a relative index past the required insert count (RFC 9204, section 2.2.3).
+    /// Rejects a relative index past the required insert count (RFC 9204, section 2.2.3).
     fn check_relative(&self, index: usize) -> Result<(), LineError>
         ensures { ChecksRequired result self.now.required (self.now.base - index) }
     {
@@ -160,7 +160,7 @@ impl<I: EntryIndex> Lines<'_, I> {
         Ok(())
     }
 
-    /// Refuses a post-base index past the required insert count (RFC 9204, section 2.2.3).
+    /// Rejects a post-base index past the required insert count (RFC 9204, section 2.2.3).
     fn check_post_base(&self, index: usize) -> Result<(), LineError>
         ensures { ChecksRequired result self.now.required (self.now.base + index + 1) }
     {
@@ -337,7 +337,7 @@ fn most_of_field(limit: u64, sum: u64) -> usize
 }
 
 /// Appends the field of the line at the cursor, which begins with this byte, unless the sizes pass the limit with it;
-/// those so far have this sum. Returns the sum with it. On error text and spans are as before. What passes the limit is
+/// those so far have this sum. Returns the sum with it. On error text and spans are unchanged. What passes the limit is
 /// never appended, and no room is made for it.
 fn read_line<I: EntryIndex>(
     lines: &Lines<I>,
@@ -416,7 +416,7 @@ fn at_line(number: usize, offset: usize, error: LineError) -> SectionError
     }
 }
 
-/// Reads the lines to the end of the cursor, each strictly, until one is refused.
+/// Reads the lines to the end of the cursor, each strictly, until one is rejected.
 pub(crate) fn read_lines<I: EntryIndex>(
     lines: &Lines<I>,
     buf: &mut Cursor,

@@ -6,8 +6,8 @@ use h3_qpack::dynamic::Error;
 use h3_qpack::static_::StaticTable;
 use h3_qpack::{DecoderError, EncoderError, prefix_int};
 
-/// An integer with a prefix of so many ones at most, behind its first byte: its value and how many bytes it has, or
-/// nothing where it is cut. With two bytes at most it is never too large (RFC 9204, section 4.1.1).
+/// Reads the integer at the front, with the prefix under the mask `ones`: its value and how many bytes it has, or
+/// `None` if it is cut. With two bytes at most it is never too large (RFC 9204, section 4.1.1).
 fn integer(bytes: &[u8], ones: u8) -> Option<(usize, usize)> {
     let first = bytes.first()? & ones;
     if first < ones {
@@ -45,8 +45,8 @@ enum Instruction {
     BadName,
 }
 
-/// The instruction at the front, if one stands whole (RFC 9204, section 4.3). An insertion is told by the size of its
-/// field.
+/// Returns the instruction at the front, if there is a whole one (RFC 9204, section 4.3). An insertion is represented
+/// by the size of its field.
 fn first_instruction(bytes: &[u8]) -> Option<Instruction> {
     let first = *bytes.first()?;
     let second = bytes.get(1).copied();

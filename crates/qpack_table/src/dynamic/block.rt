@@ -95,7 +95,7 @@ impl DynamicTable {
     }
 }
 
-/// Makes room for one number more. Where it is free already, nothing changes and no memory is taken.
+/// Makes room for one more number. If it is free already, nothing changes and no memory is taken.
 #[inline(always)]
 pub(super) fn make_room(numbers: &mut Vec<usize>) -> Result<(), AllocError>
     ensures items { numbers.new.items ≡ numbers.old.items }

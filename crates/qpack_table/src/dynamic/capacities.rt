@@ -33,7 +33,7 @@ impl Default for Capacities {
 
     ghost is_default = { λ a. a ≡ no_capacity };
 
-    /// Capacity 0, and nothing agreed on.
+    /// Returns capacity 0, with no agreed maximum.
     fn default() -> Capacities {
         Capacities {
             capacity: 0,
@@ -50,7 +50,7 @@ impl Capacities {
         self.capacity
     }
 
-    /// Returns the maximum capacity: what was agreed on, and the present capacity until something is.
+    /// Returns the maximum capacity: what was agreed on, and the present capacity until then.
     pub(super) fn maximum(&self) -> usize
         ensures exact { result ≡ maximum_capacity self.now.agreed_max self.now.capacity }
         ensures most { self.now.capacity ≤ result }

@@ -1,4 +1,4 @@
-//! What is kept of committed blocks is found by a number, and keeps the order of their commits.
+//! What committed blocks keep, found by a number, in the order of their commits.
 
 /// The key of something that a commit keeps.
 #[derive(Clone, Copy, Debug, PartialEq, Eq, PartialOrd, Ord, Drop)]

@@ -25,7 +25,7 @@ use qpack_base::field::{FieldLine, HeaderField};
 pub enum DynamicLookupResult {
     /// A static field with the name.
     Static(usize),
-    /// An entry that stood at the block's start, by its relative index under the base (RFC 9204, section 3.2.5).
+    /// An entry that was live at the block's start, by its relative index under the base (RFC 9204, section 3.2.5).
     Relative { index: usize, absolute: usize },
     /// A later entry, by its post-base index (RFC 9204, section 3.2.6).
     PostBase { index: usize, absolute: usize },
@@ -300,7 +300,7 @@ impl DynamicTableEncoder<'_> {
         self.table.newest_sought_name(field.name, sought)
     }
 
-    /// References a live entry, if it may be referenced. On error, which is for memory alone, nothing changes.
+    /// References a live entry, if it may be referenced. On error, which is for memory only, nothing changes.
     #[inline(always)]
     pub fn reference(&mut self, newest: Option<usize>) -> Result<DynamicLookupResult, Error>
         requires live { IfSome newest (λ absolute. self.old.table.now.dropped < absolute) }
@@ -315,7 +315,7 @@ impl DynamicTableEncoder<'_> {
     }
 
     /// Inserts a field that was sought, if one more block may be blocked and there is room, and references the new
-    /// entry. Otherwise does nothing. On error, which is for memory alone, nothing changes.
+    /// entry. Otherwise does nothing. On error, which is for memory only, nothing changes.
     #[inline(always)]
     pub fn insert_sought(
         &mut self,
@@ -333,8 +333,8 @@ impl DynamicTableEncoder<'_> {
         self.table.insert_referenced(self.base, field, sought)
     }
 
-    /// Inserts a field that was sought, if there is room, and references nothing (RFC 9204, section 2.1.2). Otherwise does
-    /// nothing. On error, which is for memory alone, nothing changes.
+    /// Inserts a field that was sought, if there is room, and references nothing (RFC 9204, section 2.1.2). Otherwise
+    /// does nothing. On error, which is for memory only, nothing changes.
     #[inline(always)]
     pub fn insert_unreferenced(
         &mut self,
@@ -354,7 +354,7 @@ impl DynamicTableEncoder<'_> {
 
     /// Ends the block, whose required insert count is this. It waits for an acknowledgment if it references an entry,
     /// and counts as blocked while its required insert count is above the known received count. On error, which is for
-    /// memory alone, what it references is given back.
+    /// memory only, what it references is given back.
     #[inline(always)]
     pub fn commit(self, largest_ref: usize) -> Result<(), Error>
         ensures { Commits result self.entry.stream_id largest_ref self.entry.table.now self.exit.0.now }

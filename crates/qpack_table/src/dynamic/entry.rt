@@ -104,7 +104,7 @@ pub(super) fn drop_oldest<I: EntryIndex>(
     freed
 }
 
-/// Makes room for an entry. Where it is free already, nothing changes and no memory is taken.
+/// Makes room for an entry. If it is free already, nothing changes and no memory is taken.
 #[inline(always)]
 fn make_room(entries: &mut VecDeque<Entry>) -> Result<(), AllocError>
     ensures items { entries.new.items ≡ entries.old.items }

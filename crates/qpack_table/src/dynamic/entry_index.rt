@@ -1,4 +1,4 @@
-//! What a table keeps beside its entries to find one by its field: an index, or nothing where it is never asked.
+//! What a table keeps beside its entries to find one by its field: an index, or nothing if it is never used.
 
 ghost use Rattle.std.specs.Prelude.{◌≡◌, ℕ, ◌+◌, ◌^◌, ◌<◌, ◌≤◌, ⊤, List, [], ◌∷◌, ◌++◌, OnOk, length, drop};
 ghost use Rattle.qpack_base.specs.HeaderFields.{field_of, line_of};
@@ -16,7 +16,7 @@ use std::collections::VecDeque;
 /// What is kept beside the entries of a [`DynamicTable`](crate::dynamic::DynamicTable), as a map is over its hasher:
 /// [`Index`], by which an encoder finds them, or [`NoIndex`].
 pub trait EntryIndex: Drop {
-    /// What is known of a field where its entry comes in.
+    /// What is known of a field when its entry is added.
     type Key: Copy;
 
     // The live entries are in; this many were dropped before the first of them.
@@ -25,14 +25,14 @@ pub trait EntryIndex: Drop {
     // The key is that of the field.
     ghost is_key_of: { Self.Key → Field → Type 0 };
 
-    // There is room for one entry more, with such a key.
+    // There is room for one more entry, with this key.
     ghost has_room: { Self.Key → Self → Type 0 };
 
     /// Returns the key of a field.
     fn key_of(field: &FieldLine<'_>) -> Self::Key
         ensures { is_key_of result (line_of field.now).field };
 
-    /// Makes room for one entry more, with such a key. On error the same entries are in.
+    /// Makes room for one more entry, with this key. On error the same entries are in.
     fn reserve(
         &mut self,
         entries: &VecDeque<Entry>,

@@ -150,8 +150,8 @@ impl DynamicTable {
         self.room_for(field)
     }
 
-    /// Inserts a field, and references it, if one more block may be blocked and there is room. Else its name is
-    /// found.
+    /// Inserts a field, and references it, if one more block may be blocked and there is room. Otherwise finds its
+    /// name.
     pub(super) fn insert_field(
         &mut self,
         base: usize,
@@ -247,7 +247,7 @@ impl DynamicTable {
         Ok(Some(insertion))
     }
 
-    /// Inserts a field for which there is room, and references nothing. On error, which is for memory alone, nothing
+    /// Inserts a field for which there is room, and references nothing. On error, which is for memory only, nothing
     /// changes.
     #[inline(always)]
     fn insert_alone_in_room(

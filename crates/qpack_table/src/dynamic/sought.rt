@@ -20,7 +20,7 @@ use qpack_base::field::FieldLine;
 /// What is known of a field that was sought.
 #[derive(Debug, Clone, Copy)]
 pub struct SoughtField {
-    /// Its hashes, which are not taken where there is no entry.
+    /// Its hashes, which are not computed if there is no entry.
     pub(super) hashes: Option<Hashes>,
     /// The absolute index of the newest live entry that is the field.
     pub(super) newest: Option<AbsoluteIndex>,
@@ -64,7 +64,7 @@ impl SoughtField {
         }
     }
 
-    /// Returns its hashes, which are taken now if they were not.
+    /// Returns its hashes, and computes them unless they are known.
     #[inline(always)]
     pub(super) fn hashes_of(&self, field: &FieldLine<'_>) -> Hashes
         requires { IfSome self.now.hashes (λ hashes. AreHashesOf hashes (line_of field.now).field) }
@@ -95,8 +95,8 @@ impl FoundField {
 }
 
 impl DynamicTable {
-    /// Seeks a field, whose name the static table has at this index if at any. Where there is no entry, nothing is
-    /// hashed.
+    /// Seeks a field; `static_name` is the index of its name in the static table, if it has one. If there is no entry,
+    /// nothing is hashed.
     #[inline(always)]
     pub(super) fn seek(&self, field: &FieldLine<'_>, static_name: Option<usize>) -> SoughtField
         requires { static_name ≡ static_name_index (line_of field.now).field.name }

@@ -55,7 +55,7 @@ pub struct DynamicTable<I: EntryIndex = Index> {
     pub(super) max_blocked: usize,
     /// The known received count.
     pub(super) known_received_count: usize,
-    /// The absolute indexes that the block in progress names.
+    /// The absolute indexes that the block in progress references.
     pub(super) referenced: Vec<usize>,
     pub(super) unacknowledged: OpenBlocks,
     pub(super) blocked: BlockedBlocks,
@@ -109,8 +109,8 @@ impl DynamicTable {
         Ok(())
     }
 
-    /// Inserts a field that an encoder sends, which has such hashes, and the block in progress references it. Refused,
-    /// which is for memory alone, nothing changes.
+    /// Inserts a field that an encoder sends, which has these hashes, and references it in the block in progress. On
+    /// error, which is for memory only, nothing changes.
     #[inline(always)]
     pub(super) fn insert_sent(
         &mut self,
@@ -422,8 +422,8 @@ impl<I: EntryIndex> DynamicTable<I> {
         self.capacities.greatest()
     }
 
-    /// Returns the maximum capacity in bytes: what was agreed, and the present capacity until something is (RFC 9204,
-    /// section 3.2.3).
+    /// Returns the maximum capacity in bytes: what was agreed, and the present capacity until then (RFC 9204, section
+    /// 3.2.3).
     pub fn agreed_max(&self) -> usize
         ensures exact { result ≡ maximum_capacity self.now.agreed_max self.now.capacity }
         ensures most { self.now.capacity ≤ result }
@@ -432,8 +432,8 @@ impl<I: EntryIndex> DynamicTable<I> {
         self.capacities.maximum()
     }
 
-    /// Agrees on a maximum capacity in bytes, before anything is inserted; a capacity above it is not set any more
-    /// (RFC 9204, section 3.2.3). It is refused from 2^30 on, and takes no memory. On error nothing changes.
+    /// Agrees on a maximum capacity in bytes, before anything is inserted; from then on no capacity above it is set
+    /// (RFC 9204, section 3.2.3). Fails if the maximum is 2^30 or more. It takes no memory. On error nothing changes.
     pub fn set_agreed_max(&mut self, max: usize) -> Result<(), Error>
         requires empty { insert_count self.old ≡ 0 }
         requires most { self.old.capacity ≤ max }
@@ -447,9 +447,9 @@ impl<I: EntryIndex> DynamicTable<I> {
         Ok(())
     }
 
-    /// Sets the capacity in bytes: what doesn't fit goes, the oldest first (RFC 9204, section 3.2.3). It is
-    /// refused above the maximum capacity and from 2^30 on, and where an entry that is not evictable would have to be
-    /// evicted. On error nothing changes.
+    /// Sets the capacity in bytes, and evicts entries that no longer fit, the oldest first (RFC 9204, section 3.2.3).
+    /// Fails if the capacity is above the maximum or is 2^30 or more, and if it would evict an entry that is not
+    /// evictable. On error nothing changes.
     pub fn set_max_size(&mut self, size: usize) -> Result<(), Error>
         ensures { Changes result (with_capacity self.old size) self.old self.new }
     {
@@ -485,7 +485,7 @@ impl<I: EntryIndex> DynamicTable<I> {
     }
 }
 
-/// A table under the base of a block, whose lines name its entries.
+/// A table under the base of a block, whose lines reference its entries.
 #[derive(Debug, Drop)]
 pub struct DynamicTableDecoder<'a, I: EntryIndex = Index> {
     table: &'a DynamicTable<I>,

@@ -36,7 +36,7 @@ pub struct Field {
 }
 
 impl Field {
-    /// Lends the field.
+    /// Borrows the field.
     pub fn as_line(&self) -> FieldLine<'_> {
         FieldLine {
             name: &self.name,

@@ -17,7 +17,7 @@ pub struct Case<'a> {
     /// What is called, with its settings: at least one.
     pub subjects: Vec<&'a str>,
     pub calls: Vec<Line<'a>>,
-    /// How many calls stand before the first `again`.
+    /// How many calls come before the first `again`.
     common: Option<usize>,
 }
 

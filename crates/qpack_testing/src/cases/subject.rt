@@ -1,4 +1,4 @@
-//! What cases call, and whether it answers what they say.
+//! What cases call, and whether it returns what they say.
 
 use crate::cases::script::{Case, Line};
 use crate::cases::words::Words;
@@ -19,7 +19,7 @@ pub trait Subject: Drop {
         answer: &mut String,
     ) -> Result<()>;
 
-    /// The calls that all answer the error once one ended the connection. There are none if it does not end.
+    /// The calls that all return the error once one ended the connection. There are none if it does not end.
     fn calls_that_can_fail() -> &'static [&'static str] {
         &[]
     }
@@ -83,7 +83,7 @@ pub fn hold<S: Subject>(
     hold_calls(alloc, &mut subject, settings.rest, calls)
 }
 
-/// Makes all calls of one that is lent, of whose settings no word is left.
+/// Makes all calls of a borrowed subject, of whose settings no word is left.
 fn hold_calls<S: Subject>(
     alloc: Global,
     subject: &mut S,
@@ -127,7 +127,7 @@ fn hold_line<S: Subject>(
     is_expected(call, expected, answer)
 }
 
-/// Fails if a call gave another answer.
+/// Fails if a call gave a different answer.
 fn is_expected(call: &str, expected: &str, answer: &str) -> Result<()> {
     ensure!(answer == expected, "{call} -> {answer}, and not {expected}");
     Ok(())
@@ -145,7 +145,7 @@ fn hold_call<S: Subject>(
     is_expected(call, expected, answer)
 }
 
-/// Makes a call, whose answer takes the place of the last one.
+/// Makes a call, whose answer replaces the last one.
 pub fn make_call<S: Subject>(
     alloc: Global,
     subject: &mut S,

@@ -11,7 +11,7 @@ pub struct Words<'a> {
 }
 
 impl<'a> Words<'a> {
-    /// The next word; empty where there is none.
+    /// Returns the next word; empty if there is none.
     pub fn word(&mut self) -> &'a str {
         let (word, rest) = self.rest.split_once(' ').unwrap_or((self.rest, ""));
         self.rest = rest;

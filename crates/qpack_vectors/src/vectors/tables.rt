@@ -25,7 +25,8 @@ fn insert_foo(
     }
 }
 
-/// A table of capacity 4096, where one block may be blocked, with such a block; and what the insertion was answered.
+/// Returns a table of capacity 4096, with a limit of one blocked block, and such a block; and the result of the
+/// insertion.
 fn table_of_a_block(alloc: Global) -> Result<(DynamicTable, DynamicInsertionResult), Error> {
     let mut table = DynamicTable::new(alloc);
     table.set_max_size(4096)?;

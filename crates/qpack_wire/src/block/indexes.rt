@@ -49,8 +49,8 @@ impl Indexed {
         read_indexed(buf)
     }
 
-    /// Appends the written spelling of the line. On error the vector is as before; with free room for
-    /// the spelling it succeeds and takes no memory.
+    /// Appends the written spelling of the line. On error the vector is unchanged; with free room for the spelling it
+    /// succeeds and takes no memory.
     #[inline(always)]
     #[tactic(auto, unfolding(qpack_spec::specs::Line::written_line))]
     pub fn encode<A: Allocator>(&self, buf: &mut Vec<u8, A>) -> Result<(), NoMemory>
@@ -107,8 +107,8 @@ impl IndexedWithPostBase {
         read_indexed_with_post_base(buf)
     }
 
-    /// Appends the written spelling of the line. On error the vector is as before; with free room for
-    /// the spelling it succeeds and takes no memory.
+    /// Appends the written spelling of the line. On error the vector is unchanged; with free room for the spelling it
+    /// succeeds and takes no memory.
     #[inline(always)]
     #[tactic(auto, unfolding(qpack_spec::specs::Line::written_line))]
     pub fn encode<A: Allocator>(&self, buf: &mut Vec<u8, A>) -> Result<(), NoMemory>

@@ -169,8 +169,8 @@ pub enum BlockLine {
 }
 
 impl BlockLine {
-    /// Reads the line at the cursor, in the form that its first byte names. Where it is refused, the
-    /// cursor's position is unspecified.
+    /// Reads the line at the cursor, in the form that its first byte determines. On error the cursor's position is
+    /// unspecified.
     #[inline(always)]
     pub fn decode(alloc: Global, buf: &mut Cursor) -> Result<BlockLine, ParseError>
         ensures decodes { Decodes line_of SpellsLine RefusesBlockLine buf.old buf.new result }
@@ -182,8 +182,8 @@ impl BlockLine {
         read_line(alloc, buf)
     }
 
-    /// Appends the written spelling of the line. On error the vector is as before; with free room for
-    /// the spelling it succeeds and takes no memory.
+    /// Appends the written spelling of the line. On error the vector is unchanged; with free room for the spelling it
+    /// succeeds and takes no memory.
     pub fn encode<A: Allocator>(&self, buf: &mut Vec<u8, A>) -> Result<(), prefix_string::Error>
         ensures writes { Writes (written_line (line_of self.now)) buf.old buf.new result }
         ensures memory { IfErr result (λ e. e ≡ NoRoom) }

@@ -89,8 +89,8 @@ impl LiteralWithNameRef {
         read_literal_with_name_ref(alloc, buf)
     }
 
-    /// Appends the written spelling of the line, whose N is 0. On error the vector is as before; with
-    /// free room for the spelling it succeeds and takes no memory.
+    /// Appends the written spelling of the line, whose N is 0. On error the vector is unchanged; with free room for the
+    /// spelling it succeeds and takes no memory.
     pub fn encode<A: Allocator>(&self, buf: &mut Vec<u8, A>) -> Result<(), prefix_string::Error>
         ensures writes { Writes (written_line (line_of_literal_with_name_ref self.now)) buf.old buf.new result }
         ensures memory { IfErr result (λ e. e ≡ NoRoom) }
@@ -247,8 +247,8 @@ impl LiteralWithPostBaseNameRef {
         read_literal_with_post_base_name_ref(alloc, buf)
     }
 
-    /// Appends the written spelling of the line, whose N is 0. On error the vector is as before; with
-    /// free room for the spelling it succeeds and takes no memory.
+    /// Appends the written spelling of the line, whose N is 0. On error the vector is unchanged; with free room for the
+    /// spelling it succeeds and takes no memory.
     pub fn encode<A: Allocator>(&self, buf: &mut Vec<u8, A>) -> Result<(), prefix_string::Error>
         ensures writes { Writes (written_line (line_of_literal_with_post_base_name_ref self.now))
             buf.old buf.new result }
@@ -349,8 +349,8 @@ impl Literal {
         Literal { name, value }
     }
 
-    /// Reads such a line at the cursor. A first byte of another form is refused whole, before
-    /// anything is read. On error the cursor's position is unspecified.
+    /// Reads such a line at the cursor. A first byte of another form is rejected before anything is read. On error the
+    /// cursor's position is unspecified.
     #[inline(always)]
     pub fn decode(alloc: Global, buf: &mut Cursor) -> Result<Literal, ParseError>
         ensures decodes { Decodes line_of_literal (SpellsKind literal) (RefusesKind literal) buf.old buf.new result }
@@ -362,8 +362,8 @@ impl Literal {
         read_literal(alloc, buf)
     }
 
-    /// Appends the written spelling of the line, whose N is 0. On error the vector is as before; with
-    /// free room for the spelling it succeeds and takes no memory.
+    /// Appends the written spelling of the line, whose N is 0. On error the vector is unchanged; with free room for the
+    /// spelling it succeeds and takes no memory.
     pub fn encode<A: Allocator>(&self, buf: &mut Vec<u8, A>) -> Result<(), prefix_string::Error>
         ensures writes { Writes (written_line (line_of_literal self.now)) buf.old buf.new result }
         ensures memory { IfErr result (λ e. e ≡ NoRoom) }

@@ -85,8 +85,8 @@ impl HeaderPrefix {
         read_header_prefix(buf)
     }
 
-    /// Appends the written spelling of the prefix. On error the vector is as before; with free room
-    /// for the spelling it succeeds and takes no memory.
+    /// Appends the written spelling of the prefix. On error the vector is unchanged; with free room for the spelling it
+    /// succeeds and takes no memory.
     #[tactic(auto, unfolding(qpack_spec::specs::Prefix::written_prefix))]
     pub fn encode<A: Allocator>(&self, buf: &mut Vec<u8, A>) -> Result<(), NoMemory>
         ensures writes { Writes (written_prefix (prefix_of self.now)) buf.old buf.new result }
@@ -135,8 +135,8 @@ impl HeaderPrefix {
         Ok((required, base))
     }
 
-    /// Returns the same, read strictly: a base below 0 is an error (`InvalidBase`) also where nothing is required
-    /// (RFC 9204, section 4.5.1.2).
+    /// Returns what `get` returns, read strictly: a base below 0 is an error (`InvalidBase`) also if nothing is
+    /// required (RFC 9204, section 4.5.1.2).
     #[tactic(auto, unfolding(qpack_spec::specs::Prefix::read_strict_prefix))]
     pub fn get_strict(
         self,

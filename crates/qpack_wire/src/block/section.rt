@@ -36,7 +36,7 @@ pub fn read_block(alloc: Global, block: &[u8]) -> Result<(HeaderPrefix, Vec<Bloc
     read_whole(alloc, &mut Cursor::new(block))
 }
 
-/// Reads the block that the cursor has left.
+/// Reads the block left at the cursor.
 fn read_whole(alloc: Global, buf: &mut Cursor) -> Result<(HeaderPrefix, Vec<BlockLine>), ParseError>
     ensures exact { ReadsBlock result (block_at buf.old.rest) }
     ensures memory { result ≡ Err Memory → AsksSectionForMemory buf.old.rest }

@@ -33,8 +33,8 @@ const INCREMENT: u8 = 0b00;
 pub struct InsertCountIncrement(pub usize);
 
 impl InsertCountIncrement {
-    /// Reads such an instruction at the cursor, or none of a truncated one. Takes no memory. Where none is read, the
-    /// cursor's position is unspecified.
+    /// Reads such an instruction at the cursor, or returns `None` if it is truncated. Takes no memory. If none is read,
+    /// the cursor's position is unspecified.
     pub fn decode(buf: &mut Cursor) -> Result<Option<InsertCountIncrement>, ParseError>
         ensures decodes { DecodesInstruction decoder_instruction_of_insert_count_increment
             (SpellsKind insert_count_increment)
@@ -47,8 +47,8 @@ impl InsertCountIncrement {
         or_none(read_insert_count_increment(buf))
     }
 
-    /// Appends the written spelling of the instruction. On error the vector is as before; with free
-    /// room for the spelling it succeeds and takes no memory.
+    /// Appends the written spelling of the instruction. On error the vector is unchanged; with free room for the
+    /// spelling it succeeds and takes no memory.
     #[tactic(auto, unfolding(qpack_spec::specs::Instruction::written_decoder_instruction))]
     pub fn encode<A: Allocator>(&self, buf: &mut Vec<u8, A>) -> Result<(), NoMemory>
         ensures writes { Writes
@@ -85,8 +85,8 @@ pub(crate) const ACKNOWLEDGMENT: u8 = 0b1;
 pub struct HeaderAck(pub u64);
 
 impl HeaderAck {
-    /// Reads such an instruction at the cursor, or none of a truncated one. Takes no memory. Where none is read, the
-    /// cursor's position is unspecified.
+    /// Reads such an instruction at the cursor, or returns `None` if it is truncated. Takes no memory. If none is read,
+    /// the cursor's position is unspecified.
     pub fn decode(buf: &mut Cursor) -> Result<Option<HeaderAck>, ParseError>
         ensures decodes { DecodesInstruction decoder_instruction_of_header_ack (SpellsKind header_ack)
             (RefusesKind header_ack) buf.old buf.new result }
@@ -98,8 +98,8 @@ impl HeaderAck {
         or_none(read_header_ack(buf))
     }
 
-    /// Appends the written spelling of the instruction. On error the vector is as before; with free
-    /// room for the spelling it succeeds and takes no memory.
+    /// Appends the written spelling of the instruction. On error the vector is unchanged; with free room for the
+    /// spelling it succeeds and takes no memory.
     #[tactic(auto, unfolding(qpack_spec::specs::Instruction::written_decoder_instruction))]
     pub fn encode<A: Allocator>(&self, buf: &mut Vec<u8, A>) -> Result<(), NoMemory>
         ensures writes { Writes
@@ -133,8 +133,8 @@ pub(crate) const CANCELLATION: u8 = 0b01;
 pub struct StreamCancel(pub u64);
 
 impl StreamCancel {
-    /// Reads such an instruction at the cursor, or none of a truncated one. Takes no memory. Where none is read, the
-    /// cursor's position is unspecified.
+    /// Reads such an instruction at the cursor, or returns `None` if it is truncated. Takes no memory. If none is read,
+    /// the cursor's position is unspecified.
     pub fn decode(buf: &mut Cursor) -> Result<Option<StreamCancel>, ParseError>
         ensures decodes { DecodesInstruction decoder_instruction_of_stream_cancel (SpellsKind stream_cancel)
             (RefusesKind stream_cancel) buf.old buf.new result }
@@ -146,8 +146,8 @@ impl StreamCancel {
         or_none(read_stream_cancel(buf))
     }
 
-    /// Appends the written spelling of the instruction. On error the vector is as before; with free
-    /// room for the spelling it succeeds and takes no memory.
+    /// Appends the written spelling of the instruction. On error the vector is unchanged; with free room for the
+    /// spelling it succeeds and takes no memory.
     #[tactic(auto, unfolding(qpack_spec::specs::Instruction::written_decoder_instruction))]
     pub fn encode<A: Allocator>(&self, buf: &mut Vec<u8, A>) -> Result<(), NoMemory>
         ensures writes { Writes

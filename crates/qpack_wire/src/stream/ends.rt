@@ -1,4 +1,4 @@
-//! Early ends, which are no refusal in a stream.
+//! Early ends, which are not errors in a stream.
 
 ghost use Rattle.std.specs.Prelude.{◌≡◌};
 ghost use Rattle.qpack_wire.specs.StreamAnswers.{without_end};

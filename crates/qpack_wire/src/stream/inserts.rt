@@ -71,8 +71,8 @@ impl InsertWithNameRef {
         InsertWithNameRef::Dynamic { index, value }
     }
 
-    /// Reads such an instruction at the cursor, or none of a truncated one. Where none is read, the
-    /// cursor's position is unspecified.
+    /// Reads such an instruction at the cursor, or returns `None` if it is truncated. If none is read, the cursor's
+    /// position is unspecified.
     pub fn decode(alloc: Global, buf: &mut Cursor) -> Result<Option<InsertWithNameRef>, ParseError>
         ensures decodes { DecodesInstruction encoder_instruction_of_insert_with_name_ref
             (SpellsKind insert_with_name_ref)
@@ -86,8 +86,8 @@ impl InsertWithNameRef {
         or_none(read_insert_with_name_ref(alloc, buf))
     }
 
-    /// Appends the written spelling of the instruction. On error the vector is as before; with free
-    /// room for the spelling it succeeds and takes no memory.
+    /// Appends the written spelling of the instruction. On error the vector is unchanged; with free room for the
+    /// spelling it succeeds and takes no memory.
     pub fn encode<A: Allocator>(&self, buf: &mut Vec<u8, A>) -> Result<(), prefix_string::Error>
         ensures writes { Writes (written_encoder_instruction (encoder_instruction_of_insert_with_name_ref self.now))
             buf.old buf.new result }
@@ -191,8 +191,8 @@ impl InsertWithoutNameRef {
         InsertWithoutNameRef { name, value }
     }
 
-    /// Reads such an instruction at the cursor, or none of a truncated one. Where none is read, the
-    /// cursor's position is unspecified.
+    /// Reads such an instruction at the cursor, or returns `None` if it is truncated. If none is read, the cursor's
+    /// position is unspecified.
     pub fn decode(
         alloc: Global,
         buf: &mut Cursor,
@@ -208,8 +208,8 @@ impl InsertWithoutNameRef {
         or_none(read_insert_without_name_ref(alloc, buf))
     }
 
-    /// Appends the written spelling of the instruction. On error the vector is as before; with free
-    /// room for the spelling it succeeds and takes no memory.
+    /// Appends the written spelling of the instruction. On error the vector is unchanged; with free room for the
+    /// spelling it succeeds and takes no memory.
     pub fn encode<A: Allocator>(&self, buf: &mut Vec<u8, A>) -> Result<(), prefix_string::Error>
         ensures writes { Writes (written_encoder_instruction (encoder_instruction_of_insert_without_name_ref self.now))
             buf.old buf.new result }

@@ -35,19 +35,19 @@ pub trait Wire: Sized + Drop {
     /// The one spelling that is written.
     ghost written: { Line → List ℕ };
 
-    /// Reading may ask for memory, where the bytes begin so.
+    /// Reading may ask for memory, if the bytes begin so.
     ghost asks_for_memory: { List ℕ → Type 0 };
 
-    /// Reads the line at the cursor, or none of a truncated one. Where none is read, the cursor's
-    /// position is unspecified.
+    /// Reads the line at the cursor, or returns `None` if it is truncated. If none is read, the cursor's position is
+    /// unspecified.
     fn decode(alloc: Global, buf: &mut Cursor) -> Result<Option<Self>, ParseError>
         ensures decodes { DecodesInstruction line_of spells refuses buf.old buf.new result }
         ensures memory { result ≡ Err Memory → asks_for_memory buf.old.rest }
         // The clauses above as one function, which reads from left to right.
         ensures exact { ReadsStream line_of buf.old buf.new result (read buf.old.rest) };
 
-    /// Appends the written spelling of the line. On error the vector is as before; with free room for
-    /// the spelling it succeeds and takes no memory.
+    /// Appends the written spelling of the line. On error the vector is unchanged; with free room for the spelling it
+    /// succeeds and takes no memory.
     fn encode<A: Allocator>(&self, buf: &mut Vec<u8, A>) -> Result<(), NoMemory>
         ensures writes { Writes (written (line_of self.now)) buf.old buf.new result };
 
@@ -64,8 +64,8 @@ pub trait Wire: Sized + Drop {
     ghost no_line_begins_another: { NoInstructionBeginsAnother spells refuses };
 }
 
-/// Reads the line at the cursor and moves past exactly it. Where none is read, of a truncated line or
-/// at a refusal, the cursor stays where it was.
+/// Reads the line at the cursor and moves past exactly it. If the line is truncated or refused, the cursor does not
+/// move.
 #[inline(always)]
 pub fn next_line<W: Wire>(alloc: Global, cursor: &mut Cursor) -> Result<Option<W>, ParseError>
     ensures decodes { DecodesInstruction W.line_of W.spells W.refuses cursor.old cursor.new result }

@@ -31,8 +31,8 @@ const DUPLICATE: u8 = 0b000;
 pub struct Duplicate(pub usize);
 
 impl Duplicate {
-    /// Reads such an instruction at the cursor, or none of a truncated one. Takes no memory. Where none is read, the
-    /// cursor's position is unspecified.
+    /// Reads such an instruction at the cursor, or returns `None` if it is truncated. Takes no memory. If none is read,
+    /// the cursor's position is unspecified.
     pub fn decode(buf: &mut Cursor) -> Result<Option<Duplicate>, ParseError>
         ensures decodes { DecodesInstruction encoder_instruction_of_duplicate (SpellsKind duplicate)
             (RefusesKind duplicate) buf.old buf.new result }
@@ -44,8 +44,8 @@ impl Duplicate {
         or_none(read_duplicate(buf))
     }
 
-    /// Appends the written spelling of the instruction. On error the vector is as before; with free
-    /// room for the spelling it succeeds and takes no memory.
+    /// Appends the written spelling of the instruction. On error the vector is unchanged; with free room for the
+    /// spelling it succeeds and takes no memory.
     #[tactic(auto, unfolding(qpack_spec::specs::Instruction::written_encoder_instruction))]
     pub fn encode<A: Allocator>(&self, buf: &mut Vec<u8, A>) -> Result<(), NoMemory>
         ensures writes { Writes
@@ -78,8 +78,8 @@ pub(crate) const CAPACITY: u8 = 0b001;
 pub struct DynamicTableSizeUpdate(pub usize);
 
 impl DynamicTableSizeUpdate {
-    /// Reads such an instruction at the cursor, or none of a truncated one. Takes no memory. Where none is read, the
-    /// cursor's position is unspecified.
+    /// Reads such an instruction at the cursor, or returns `None` if it is truncated. Takes no memory. If none is read,
+    /// the cursor's position is unspecified.
     pub fn decode(buf: &mut Cursor) -> Result<Option<DynamicTableSizeUpdate>, ParseError>
         ensures decodes { DecodesInstruction encoder_instruction_of_dynamic_table_size_update
             (SpellsKind dynamic_table_size_update) (RefusesKind dynamic_table_size_update) buf.old buf.new result }
@@ -91,8 +91,8 @@ impl DynamicTableSizeUpdate {
         or_none(read_dynamic_table_size_update(buf))
     }
 
-    /// Appends the written spelling of the instruction. On error the vector is as before; with free
-    /// room for the spelling it succeeds and takes no memory.
+    /// Appends the written spelling of the instruction. On error the vector is unchanged; with free room for the
+    /// spelling it succeeds and takes no memory.
     #[tactic(auto, unfolding(qpack_spec::specs::Instruction::written_encoder_instruction))]
     pub fn encode<A: Allocator>(&self, buf: &mut Vec<u8, A>) -> Result<(), NoMemory>
         ensures writes { Writes

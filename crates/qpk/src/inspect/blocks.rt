@@ -42,7 +42,7 @@ fn push_section_lines(
     ensures { PrintsSection decoder.now.table block.now (fields_in decoded.now.fields.items) (string_bytes text.old)
         (string_bytes text.new) result }
 {
-    // It is refused for memory alone: the decoder read these bytes.
+    // It fails for memory only: the decoder read these bytes.
     let Ok((prefix, lines)) = read_block(*text.allocator(), block) else {
         return Err(Fault::Memory);
     };

@@ -62,7 +62,7 @@ fn next_instruction(alloc: Global, buf: &mut Cursor) -> Result<Option<EncoderLin
     Ok(next_line(alloc, buf)?)
 }
 
-/// Gives the decoder one instruction, whose increments are dropped.
+/// Passes the decoder one instruction, whose increments are dropped.
 fn apply_bytes(alloc: Global, decoder: &mut Decoder, instruction: &[u8]) -> Result<(), Fault>
     ensures { (i : EncoderInstruction) → SpellsEncoderInstruction instruction.now i
         → AppliesWhole decoder.old.table decoder.new.table instruction.now i result }

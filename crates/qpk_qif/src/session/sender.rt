@@ -67,7 +67,7 @@ impl Sender {
             .encoder
             .encode(stream, &mut block, &mut instructions, list.iter())
         else {
-            // It is refused for memory alone.
+            // It fails for memory only.
             return Err(Fault::Memory);
         };
         if !instructions.is_empty() {
