@@ -35,7 +35,7 @@ pair_bytes entry = take (entry / 256 % 256) (entry / 65536 % 256 ∷ entry / 167
 abbrev pub pair_bits : ℕ → ℕ
 pair_bits entry = entry % 256
 
--- the twelve bits begin with the codes of the bytes, one after the other, which have so many bits together
+-- the twelve bits begin with the codes of the bytes, one after the other, which have that many bits together
 pub record BeginsWithCodes (window bits : ℕ) (bytes : List ℕ) : Type 0 where
   pub some : 1 ≤ length bytes
   pub most : bits ≤ 12
