@@ -20,16 +20,3 @@ ArePlaces _ = ⊥
 -- one more slot may come in
 abbrev pub HasRoomIn : SlotList → Type 0
 HasRoomIn slots = length slots.items < slots.capacity
-
--- slots that stand in a list from a position on
-abbrev pub IsWindow : List Slot → ℕ → List Slot → Type 0
-IsWindow all start slots = (k : ℕ) (d : Slot) → k < length slots
-    → slice_index_or all (start + k) d ≡ slice_index_or slots k d
-
--- the slot at a position is among them
-abbrev pub HasPosition : ℕ → List Slot → ℕ → Type 0
-HasPosition start slots position = (start ≤ position) × (position < start + length slots)
-
--- a slot of those from a position on and before another is among them
-abbrev pub Meets : ℕ → List Slot → ℕ → ℕ → Type 0
-Meets start slots low high = (start < high) × (low < start + length slots) × (0 < length slots)

@@ -234,8 +234,7 @@ fn a_row_of_equal_hashes_finds_what_a_scan_finds(rt: HostRuntime) -> Result<(), 
     finds_among_alike(rt.alloc(), &mut table, &mut numbers)
 }
 
-/// Puts so many fields of equal hashes that they stand in pieces of several groups, lets nearly all of them go, and
-/// begins again.
+/// Puts thousands of fields of equal hashes, lets nearly all of them go, and begins again.
 fn finds_among_alike(
     alloc: Global,
     table: &mut DynamicTable,
