@@ -1,5 +1,5 @@
 -- What a contract sees of the slots of a row.
-use Rattle.std.specs.Prelude.{◌≡◌, ℕ, ◌+◌, ◌<◌, ◌≤◌, ◌==◌, List, [], ◌∷◌, length, slice_index_or, if◌then◌else◌}
+use Rattle.std.specs.Prelude.{◌≡◌, ℕ, ◌<◌, ◌==◌, List, [], ◌∷◌, length, if◌then◌else◌}
 use Rattle.qpack_table.specs.declared.dynamic.index.row.Slot.{Slot}
 
 -- the slots in order, and up to how many there may be before memory is asked for

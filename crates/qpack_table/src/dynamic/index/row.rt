@@ -2,10 +2,9 @@
 //! searched by halving.
 
 ghost use Rattle.std.specs.Prelude.{◌≡◌, ◌≢◌, ◌==◌, ◌+◌, ◌-◌, ◌^◌, ◌<◌, ◌≤◌, [], min, length, OnOk, IfSome, IfNone};
-ghost use Rattle.std.specs.Prelude.{ℕ, slice_index};
 ghost use Rattle.std.specs.Cmp.Lexicographic.{slice_cmp};
 ghost use Rattle.std.specs.Ordering.{nat_cmp};
-ghost use Rattle.qpack_base.specs.HeaderFields.{field_of, line_of, field_cmp};
+ghost use Rattle.qpack_base.specs.HeaderFields.{field_of, field_cmp};
 ghost use Rattle.qpack_table.specs.Rows.{part_of, part_at, key_cmp, key_at, key_of, field_of_sought, IsHashed, IsSlot};
 ghost use Rattle.qpack_table.specs.Rows.{HasRoom, IsRow, IsPlace, FindsSlot, Enters, Leaves, HasIndexAt, HasNoIndex};
 ghost use Rattle.qpack_table.specs.Rows.{Counts, IsGapByHash};
@@ -22,7 +21,7 @@ use std::alloc::{AllocError, Global};
 use std::cmp::Ordering;
 use std::collections::VecDeque;
 
-/// A row of at most so many slots is searched for an index without a look at an entry.
+/// A row of at most this many slots is searched for an index without a look at an entry.
 const MOST_SCANNED: usize = 8;
 
 /// Which part of its field an entry is found by.
