@@ -91,47 +91,39 @@ static void fill_tables(kind k) {
   __real_free(f);
 }
 
-/* ---- Fields of equal hashes, which the encoder's index keeps in one row, in order and in pieces */
+/* ---- Fields of equal hashes, which the encoder's index keeps in one row, in order */
 
-/* All pieces are full, and one more comes into each, which cuts it. */
-static void cut_pieces(void) {
-  size_t pieces = size < PIECE ? 1 : size / PIECE, capacity = (PIECE + 1) * pieces * FIELD;
-  h3_qpack_encoder e;
-  bytes sent = {NULL, 0, 0};
-  inserted = 0;
-  open_encoder(&e, capacity, 16, 1000);
-  insert_layer(&e, (layer){1, HALF, 0}, pieces, &sent);
-  insert_layer(&e, (layer){1, HALF / 2, 2}, pieces, &sent);
-  insert_layer(&e, (layer){1, HALF / 2, 1}, pieces, &sent);
-  check_entries(&sent, capacity, PIECE * pieces);
-  begin_case();
-  insert_layer(&e, (layer){1, 1, 3}, pieces, NULL);
-  CHECK(most_taken() <= BASE + 16384 * pieces);
-  end_case("encode", "each insertion cuts a piece", pieces, 0);
-  drop(&sent);
-  h3_qpack_encoder_del(&e);
+/* Returns whether the encoder finds the field of a place at this absolute index: else its value is in the section. */
+static int finds(h3_qpack_encoder *e, size_t place, size_t index) {
+  field f = field_of_place(place);
+  h3_qpack_nv nv = {f.name, sizeof f.name, f.value, sizeof f.value, H3_QPACK_NV_FLAG_REUSE};
+  h3_qpack_encoded a = h3_qpack_encoder_encode(e, 0, &nv, 1, section, sizeof section);
+  CHECK(a.status == H3_QPACK_OK);
+  heard(e, a.required);
+  return a.len < sizeof f.value && a.required == index;
 }
 
-/* Of each pair of neighbours one field more is left than is joined, and goes for the one that comes. */
-static void join_pieces(void) {
-  size_t pairs = size < HALF + 1 ? 1 : size / (HALF + 1), left = pairs * (HALF + 1);
-  size_t capacity = (2 * (HALF + HALF / 2) + 1) * pairs * FIELD;
+/* Each insertion puts a slot in front of its row, and the eviction for it takes one near the front: so either moves nearly
+ * all other slots of the row, sixteen bytes each. */
+static void move_slots(void) {
+  size_t calls = size < 200 ? size / 2 : 100;
   h3_qpack_encoder e;
-  bytes sent = {NULL, 0, 0};
-  inserted = 0;
-  open_encoder(&e, capacity, 16, 1000);
-  insert_layer(&e, (layer){1, HALF, 0}, 2 * pairs, &sent);
-  insert_layer(&e, (layer){2, 1, 1}, 2 * pairs, &sent);
-  insert_layer(&e, (layer){1, HALF / 2, 2}, 2 * pairs, &sent);
-  CHECK(h3_qpack_encoder_set_capacity(&e, left * FIELD) == H3_QPACK_OK);
-  put(&sent, stream, h3_qpack_encoder_write_encoder(&e, stream, sizeof stream));
-  check_entries(&sent, capacity, left);
+  open_encoder(&e, size * FIELD, 16, 1000);
+  for (size_t i = 0; i < size; i++) {
+    field f = field_of_place(calls + i);
+    CHECK(encode_heard(&e, &f, NULL) == i + 1);
+  }
   begin_case();
-  insert_layer(&e, (layer){2, 1, 3}, 2 * pairs, &sent);
-  CHECK(most_taken() <= BASE + 16384 * pairs);
-  end_case("encode", "each eviction joins two pieces", pairs, 0);
-  check_entries(&sent, capacity, left);
-  drop(&sent);
+  for (size_t i = 0; i < calls; i++) {
+    field f = field_of_place(calls - 1 - i);
+    CHECK(encode_heard(&e, &f, NULL) == size + i + 1);
+  }
+  CHECK(most_taken() <= BASE + size * 1024);
+  end_case("encode", "each insertion and eviction moves the slots of its row", calls, 0);
+  for (size_t place = 0; place < size + calls; place++) {
+    int is_live = place < calls || place >= 2 * calls;
+    CHECK(finds(&e, place, place < calls ? size + calls - place : place - calls + 1) == is_live);
+  }
   h3_qpack_encoder_del(&e);
 }
 
@@ -477,8 +469,7 @@ static void declare(void) {
 static void run_size(void) {
   for (kind k = 0; k < KINDS; k++)
     if (k != ONE_ROW || size <= 10000) fill_tables(k); /* names for more are not found in seconds */
-  cut_pieces();
-  join_pieces();
+  move_slots();
   read_strings(&plain);
   read_strings(&shortest);
   read_strings(&longest);

@@ -244,39 +244,4 @@ static inline void close_decoder(h3_qpack_decoder *d, bytes *b) {
   drop(b);
 }
 
-/* ---- Fields of equal hashes, which the encoder's index keeps in one row, in order and in pieces of at most 128 */
-
-#define PIECE 128
-#define HALF (PIECE / 2)
-#define STEP 4
-
-/* Fields that come into each |every|th piece, |count| into each, at this place of its steps. */
-typedef struct {
-  size_t every, count, place;
-} layer;
-
-static size_t inserted;
-
-static inline void insert_layer(h3_qpack_encoder *e, layer l, size_t pieces, bytes *sent) {
-  for (size_t turn = 0; turn < pieces / l.every; turn++)
-    for (size_t i = 0; i < l.count; i++) {
-      field f = field_of_place(turn * l.every * STEP * HALF + i * STEP + l.place);
-      CHECK(encode_heard(e, &f, sent) == ++inserted);
-    }
-}
-
-/* An encoder's peer has so many entries, and no more. */
-static inline void check_entries(const bytes *sent, size_t capacity, size_t count) {
-  for (size_t past = 0; past < 2; past++) {
-    h3_qpack_decoder d;
-    bytes b = {NULL, 0, 0};
-    open_decoder(&d, capacity, 0, 1000);
-    receive(&d, sent);
-    put_prefix(&b, inserted, capacity);
-    put_int(&b, 0x80, 6, count - 1 + past);
-    CHECK(decode(&d, 0, &b).status == (past ? H3_QPACK_DECOMPRESSION_FAILED : H3_QPACK_OK));
-    close_decoder(&d, &b);
-  }
-}
-
 #endif

@@ -15,10 +15,6 @@ pub mod Lookups
 pub mod Changes
 pub mod Halvings
 pub mod Places
-pub mod Lengths
-pub mod Parts
-pub mod Pieces
-pub mod Groups
 pub mod RowOrder
 pub mod RowSearches
 pub mod RowSlots

@@ -9,7 +9,6 @@ use Rattle.qpack_base.specs.HeaderFields.{field_of}
 use Rattle.qpack_spec.specs.Field.{Field}
 use Rattle.qpack_table.specs.Rows.{Key, key_cmp, key_at, part_of, part_at, field_at, IsSlot, IsRow, IsMatch}
 use Rattle.qpack_table.specs.Rows.{IsGap, hash_of}
-use Rattle.qpack_table.specs.SlotLists.{IsWindow, HasPosition}
 use Rattle.qpack_table.specs.Tables.{live_fields}
 use Rattle.qpack_table.specs.declared.dynamic.entry.Entry.{Entry}
 use Rattle.qpack_table.specs.declared.dynamic.index.row.Part.{Part}
@@ -155,10 +154,3 @@ found_some part dropped live row k position index slot at read is =
       sym is,
       ap (λ (i : ℕ). part_at part dropped live i) is ∙ same_part (key_at part dropped live slot) k tie,
     )
-
--- a slot that was read in a window
-pub window_read : (all slots : List Slot) (start position : ℕ) (slot : Slot) → IsWindow all start slots
-    → HasPosition start slots position → slot ≡ get_or slots (position - start) slot → slot ≡ get_or all position slot
-window_read all slots start position slot window has read =
-    read ∙ sym (window (position - start) slot (omega (arith, has.0, has.1)))
-    ∙ ap (λ (k : ℕ). get_or all k slot) (omega (arith, has.0))

@@ -6,9 +6,6 @@ pub mod Commits
 pub mod OpenBlocks
 pub mod BlockedBlocks
 pub mod Tables
-pub mod Lengths
-pub mod Pieces
-pub mod Groups
 pub mod SlotLists
 pub mod Slots
 pub mod Rows

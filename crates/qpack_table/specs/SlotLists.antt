@@ -1,5 +1,5 @@
 -- What a contract sees of the slots of a row.
-use Rattle.std.specs.Prelude.{◌≡◌, ℕ, ◌+◌, ◌<◌, ◌≤◌, ◌==◌, List, [], ◌∷◌, length, slice_index_or, if◌then◌else◌}
+use Rattle.std.specs.Prelude.{◌≡◌, ℕ, ◌<◌, ◌==◌, List, [], ◌∷◌, length, if◌then◌else◌}
 use Rattle.qpack_table.specs.declared.dynamic.index.row.Slot.{Slot}
 
 -- the slots in order, and up to how many there may be before memory is asked for
@@ -20,16 +20,3 @@ ArePlaces _ = ⊥
 -- one more slot may come in
 abbrev pub HasRoomIn : SlotList → Type 0
 HasRoomIn slots = length slots.items < slots.capacity
-
--- slots that stand in a list from a position on
-abbrev pub IsWindow : List Slot → ℕ → List Slot → Type 0
-IsWindow all start slots = (k : ℕ) (d : Slot) → k < length slots
-    → slice_index_or all (start + k) d ≡ slice_index_or slots k d
-
--- the slot at a position is among them
-abbrev pub HasPosition : ℕ → List Slot → ℕ → Type 0
-HasPosition start slots position = (start ≤ position) × (position < start + length slots)
-
--- a slot of those from a position on and before another is among them
-abbrev pub Meets : ℕ → List Slot → ℕ → ℕ → Type 0
-Meets start slots low high = (start < high) × (low < start + length slots) × (0 < length slots)

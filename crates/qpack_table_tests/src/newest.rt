@@ -234,7 +234,7 @@ fn a_row_of_equal_hashes_finds_what_a_scan_finds(rt: HostRuntime) -> Result<(), 
     finds_among_alike(rt.alloc(), &mut table, &mut numbers)
 }
 
-/// Puts enough fields of equal hashes to need pieces of several groups, evicts nearly all of them, and begins again.
+/// Puts thousands of fields of equal hashes, evicts nearly all of them, and begins again.
 fn finds_among_alike(
     alloc: Global,
     table: &mut DynamicTable,

@@ -11,14 +11,10 @@ ghost use Rattle.qpack_table.specs.Hashes.{name_hash};
 ghost use Rattle.qpack_table.specs.Indexes.{AreHashesOf, IsIndexOf, HasRoomForEntry, IsNewestIn};
 ghost use Rattle.qpack_table.specs.Indexes.{GrowsRows};
 
-mod group;
 mod hash;
-mod lengths;
-mod pieces;
 mod row;
 mod rows;
 mod slots;
-mod window;
 
 use crate::dynamic::entry::Entry;
 pub(super) use crate::dynamic::index::hash::Hashes;

@@ -2,10 +2,9 @@
 //! searched by halving.
 
 ghost use Rattle.std.specs.Prelude.{◌≡◌, ◌≢◌, ◌==◌, ◌+◌, ◌-◌, ◌^◌, ◌<◌, ◌≤◌, [], min, length, OnOk, IfSome, IfNone};
-ghost use Rattle.std.specs.Prelude.{ℕ, slice_index};
 ghost use Rattle.std.specs.Cmp.Lexicographic.{slice_cmp};
 ghost use Rattle.std.specs.Ordering.{nat_cmp};
-ghost use Rattle.qpack_base.specs.HeaderFields.{field_of, line_of, field_cmp};
+ghost use Rattle.qpack_base.specs.HeaderFields.{field_of, field_cmp};
 ghost use Rattle.qpack_table.specs.Rows.{part_of, part_at, key_cmp, key_at, key_of, field_of_sought, IsHashed, IsSlot};
 ghost use Rattle.qpack_table.specs.Rows.{HasRoom, IsRow, IsPlace, FindsSlot, Enters, Leaves, HasIndexAt, HasNoIndex};
 ghost use Rattle.qpack_table.specs.Rows.{Counts, IsGapByHash};
@@ -15,7 +14,6 @@ ghost use Rattle.qpack_table.specs.declared.dynamic.index.row.Slot.{Slot};
 
 use crate::dynamic::entry::Entry;
 use crate::dynamic::index::slots::Slots;
-use crate::dynamic::index::window::{Reach, Window};
 use crate::dynamic::steps::Steps;
 use qpack_base::bytes::same;
 use qpack_base::field::FieldLine;
@@ -23,7 +21,7 @@ use std::alloc::{AllocError, Global};
 use std::cmp::Ordering;
 use std::collections::VecDeque;
 
-/// A row of at most so many slots is searched for an index without a look at an entry.
+/// A row of at most this many slots is searched for an index without a look at an entry.
 const MOST_SCANNED: usize = 8;
 
 /// Which part of its field an entry is found by.
@@ -147,31 +145,6 @@ fn search_here(
     }
 }
 
-/// Where the slot with what is sought is among at most two, or where it would stand, slot by slot.
-#[inline(always)]
-fn search_two(
-    slots: &[Slot],
-    entries: &VecDeque<Entry>,
-    dropped: usize,
-    sought: &Sought<'_>,
-    steps: &mut Steps,
-) -> Result<usize, usize>
-    requires few { length slots.now ≤ 2 }
-    requires row { IsRow sought.now.part dropped (live_fields entries.now.items) slots.now }
-    ensures place { IsPlace sought.now.part dropped (live_fields entries.now.items) slots.now (key_of sought.now)
-        result }
-    ensures steps { Counts (length slots.now) steps.old.count steps.new.count }
-{
-    for position in 0..slots.len() {
-        match compare(sought, slots[position], entries, dropped, steps) {
-            Ordering::Less => {}
-            Ordering::Equal => return Ok(position),
-            Ordering::Greater => return Err(position),
-        }
-    }
-    Err(slots.len())
-}
-
 /// Where a slot of a hash would stand in two places that rise, of which neither has it.
 #[inline(always)]
 fn gap_here(first: Slot, second: Slot, hash: u32) -> usize
@@ -186,6 +159,33 @@ fn gap_here(first: Slot, second: Slot, hash: u32) -> usize
         return 1;
     }
     2
+}
+
+/// Where the slot with what is sought is among slots in order, or where it would stand. Each comparison leaves at most
+/// half of the slots.
+fn search_by_halves(
+    slots: &[Slot],
+    entries: &VecDeque<Entry>,
+    dropped: usize,
+    sought: &Sought<'_>,
+    steps: &mut Steps,
+) -> Result<usize, usize>
+    requires { IsRow sought.now.part dropped (live_fields entries.now.items) slots.now }
+    ensures place { IsPlace sought.now.part dropped (live_fields entries.now.items) slots.now (key_of sought.now)
+        result }
+    ensures steps { Counts (length slots.now) steps.old.count steps.new.count }
+{
+    let mut low = 0;
+    let mut high = slots.len();
+    while low < high {
+        let middle = low + (high - low) / 2;
+        match compare(sought, slots[middle], entries, dropped, steps) {
+            Ordering::Less => low = middle + 1,
+            Ordering::Equal => return Ok(middle),
+            Ordering::Greater => high = middle,
+        }
+    }
+    Err(low)
 }
 
 /// The position of an index in two places.
@@ -206,13 +206,41 @@ fn position_here(places: &[Slot; 2], index: usize) -> Option<usize>
     None
 }
 
-/// How many binary digits a number has; 0 has none.
-fn digits_of(number: usize) -> u32
-    ensures above { number < 2 ^ result }
-    ensures least { (digits : ℕ) → number < 2 ^ digits → result ≤ digits }
-    ensures few { result ≤ 64 }
+/// The position of an index among slots in order.
+fn position_outside(
+    slots: &[Slot],
+    entries: &VecDeque<Entry>,
+    dropped: usize,
+    index: usize,
+    sought: &Sought<'_>,
+) -> Option<usize>
+    requires row { IsRow sought.now.part dropped (live_fields entries.now.items) slots.now }
+    requires field { field_of_sought sought.now
+        ≡ part_at sought.now.part dropped (live_fields entries.now.items) index }
+    requires hashed { IsHashed sought.now }
+    ensures some { IfSome result (λ position. HasIndexAt slots.now index position) }
+    ensures none { IfNone result (HasNoIndex slots.now index) }
 {
-    if number == 0 { 0 } else { number.ilog2() + 1 }
+    if slots.len() <= MOST_SCANNED {
+        return scan(slots, index);
+    }
+    let mut steps = Steps::new();
+    let Ok(position) = search_by_halves(slots, entries, dropped, sought, &mut steps) else {
+        return None;
+    };
+    if slots[position].index == index {
+        Some(position)
+    } else {
+        None
+    }
+}
+
+/// The position of an index among slots, slot by slot.
+fn scan(slots: &[Slot], index: usize) -> Option<usize>
+    ensures some { IfSome result (λ position. HasIndexAt slots.now index position) }
+    ensures none { IfNone result (HasNoIndex slots.now index) }
+{
+    slots.iter().position(|slot| slot.index == index)
 }
 
 /// Slots of live entries, rising by the hash and the part; no two have the same part.
@@ -255,70 +283,8 @@ impl Row {
     {
         match self.slots.here() {
             Some(places) => search_here(places, entries, dropped, sought, steps),
-            None => self.search_outside(entries, dropped, sought, steps),
+            None => search_by_halves(self.slots.as_slice(), entries, dropped, sought, steps),
         }
-    }
-
-    /// The same where the slots stand outside the row itself: of two that were left behind it looks at one after the
-    /// other.
-    fn search_outside(
-        &self,
-        entries: &VecDeque<Entry>,
-        dropped: usize,
-        sought: &Sought<'_>,
-        steps: &mut Steps,
-    ) -> Result<usize, usize>
-        requires { IsRow sought.now.part dropped (live_fields entries.now.items) self.now.slots.items }
-        ensures place { IsPlace sought.now.part dropped (live_fields entries.now.items) self.now.slots.items
-            (key_of sought.now) result }
-        ensures steps { Counts (length self.now.slots.items) steps.old.count steps.new.count }
-    {
-        match self.slots.as_two() {
-            Some(slots) => search_two(slots, entries, dropped, sought, steps),
-            None => self.search_by_halves(entries, dropped, sought, steps),
-        }
-    }
-
-    /// The same in a row of any length, by halves: each comparison leaves fewer slots than one binary digit less can
-    /// count. Of the positions that do so it takes one whose piece need not be sought, if there is one.
-    fn search_by_halves(
-        &self,
-        entries: &VecDeque<Entry>,
-        dropped: usize,
-        sought: &Sought<'_>,
-        steps: &mut Steps,
-    ) -> Result<usize, usize>
-        requires { IsRow sought.now.part dropped (live_fields entries.now.items) self.now.slots.items }
-        ensures place { IsPlace sought.now.part dropped (live_fields entries.now.items) self.now.slots.items
-            (key_of sought.now) result }
-        ensures steps { Counts (length self.now.slots.items) steps.old.count steps.new.count }
-    {
-        let mut low = 0;
-        let mut high = self.slots.len();
-        let mut digits = digits_of(high);
-        let mut reach = Reach::WHOLE;
-        let mut window = Window::of(&[]);
-        while low < high {
-            digits -= 1;
-            let side = (high - low).min(1 << digits);
-            window = self
-                .slots
-                .window_near(high - side, low + side, window, reach);
-            let middle = window.middle(high - side, low + side);
-            let slot = window.slots[middle - window.start];
-            match compare(sought, slot, entries, dropped, steps) {
-                Ordering::Less => {
-                    low = middle + 1;
-                    reach.first = window.place;
-                }
-                Ordering::Equal => return Ok(middle),
-                Ordering::Greater => {
-                    high = middle;
-                    reach.last = window.place;
-                }
-            }
-        }
-        Err(low)
     }
 
     /// The index whose entry has what is sought.
@@ -337,7 +303,7 @@ impl Row {
         ensures steps { Counts (length self.now.slots.items) steps.old.count steps.new.count }
     {
         match self.search(entries, dropped, sought, steps) {
-            Ok(position) => Some(self.slots.get(position).index),
+            Ok(position) => Some(self.slots.as_slice()[position].index),
             Err(_) => None,
         }
     }
@@ -410,33 +376,9 @@ impl Row {
         ensures some { IfSome result (λ position. HasIndexAt self.now.slots.items index position) }
         ensures none { IfNone result (HasNoIndex self.now.slots.items index) }
     {
-        if let Some(places) = self.slots.here() {
-            return position_here(places, index);
+        match self.slots.here() {
+            Some(places) => position_here(places, index),
+            None => position_outside(self.slots.as_slice(), entries, dropped, index, sought),
         }
-        if self.slots.len() <= MOST_SCANNED {
-            return self.scan(index);
-        }
-        let mut steps = Steps::new();
-        let Ok(position) = self.search(entries, dropped, sought, &mut steps) else {
-            return None;
-        };
-        if self.slots.get(position).index == index {
-            Some(position)
-        } else {
-            None
-        }
-    }
-
-    /// The position of an index, slot by slot.
-    fn scan(&self, index: usize) -> Option<usize>
-        ensures some { IfSome result (λ position. HasIndexAt self.now.slots.items index position) }
-        ensures none { IfNone result (HasNoIndex self.now.slots.items index) }
-    {
-        for position in 0..self.slots.len() {
-            if self.slots.get(position).index == index {
-                return Some(position);
-            }
-        }
-        None
     }
 }

@@ -1,31 +1,26 @@
-//! The slots of a row, in order: hardly any in the row itself, few in a vector, many in pieces.
+//! The slots of a row, in order: two in the row itself, more in a vector.
 
-ghost use Rattle.std.specs.Prelude.{◌≡◌, ◌+◌, ◌<◌, ◌≤◌, [], length, take, IfSome, OnOk, slice_index_or};
-ghost use Rattle.std.specs.Prelude.{slice_set, vec_capacity};
+ghost use Rattle.std.specs.Prelude.{◌≡◌, ◌<◌, ◌≤◌, [], length, take, IfSome, OnOk, slice_set};
 ghost use Rattle.std.specs.List.{insert, remove};
-ghost use Rattle.qpack_table.specs.SlotLists.{HasRoomIn, IsWindow, HasPosition, Meets, slots_here, ArePlaces};
+ghost use Rattle.qpack_table.specs.SlotLists.{HasRoomIn, slots_here, ArePlaces};
 
-use crate::dynamic::index::group::MOST_IN_PIECE;
-use crate::dynamic::index::pieces::Pieces;
 use crate::dynamic::index::row::Slot;
-use crate::dynamic::index::window::{Reach, Window};
 use std::alloc::{AllocError, Global};
 use std::marker::Model;
 
 /// For how many slots a vector has room at first.
 const FEW: usize = 4;
 
-/// Where slots stand. Two stand in the row itself, so that hardly a row takes memory: in places, of which the second has
-/// none unless the first has one. That they are told apart by what they hold, and not by one kind of row for each number
-/// of them, spares a jump that no processor foretells.
+/// Where slots are kept. Two fit in the row itself, so that hardly a row takes memory: in places, of which the second
+/// is empty unless the first is filled. Such rows are told apart by what they hold. With one kind of row for each number
+/// of slots, a processor mispredicts which it is.
 #[derive(Debug, Drop)]
 enum Kept {
     Here([Slot; 2]),
-    Few(Vec<Slot>),
-    Many(Box<Pieces>),
+    Outside(Vec<Slot>),
 }
 
-/// Slots in order, of which one that comes in or goes out moves few others.
+/// Slots in order.
 #[derive(Debug, Drop)]
 pub(super) struct Slots {
     kept: Kept,
@@ -53,19 +48,7 @@ impl Slots {
         }
     }
 
-    /// How many there are.
-    #[inline]
-    pub(super) fn len(&self) -> usize
-        ensures { result ≡ length self.now.items }
-    {
-        match &self.kept {
-            Kept::Here(places) => count_of(places),
-            Kept::Few(slots) => slots.len(),
-            Kept::Many(pieces) => pieces.len(),
-        }
-    }
-
-    /// The two places in the row itself, where the slots stand in these.
+    /// The two places in the row itself, if the slots are kept there.
     #[inline(always)]
     pub(super) fn here(&self) -> Option<&[Slot; 2]>
         ensures slots { IfSome result (λ places. slots_here places.now ≡ self.now.items) }
@@ -73,19 +56,18 @@ impl Slots {
     {
         match &self.kept {
             Kept::Here(places) => Some(places),
-            Kept::Few(_) | Kept::Many(_) => None,
+            Kept::Outside(_) => None,
         }
     }
 
-    /// The slots in a vector, where they are at most two.
+    /// All slots, in order.
     #[inline(always)]
-    pub(super) fn as_two(&self) -> Option<&[Slot]>
-        ensures slots { IfSome result (λ slots. slots.now ≡ self.now.items) }
-        ensures few { IfSome result (λ slots. length slots.now ≤ 2) }
+    pub(super) fn as_slice(&self) -> &[Slot]
+        ensures { result.now ≡ self.now.items }
     {
         match &self.kept {
-            Kept::Few(slots) if slots.len() <= 2 => Some(slots),
-            Kept::Here(_) | Kept::Few(_) | Kept::Many(_) => None,
+            Kept::Here(places) => &places[..count_of(places)],
+            Kept::Outside(slots) => slots,
         }
     }
 
@@ -97,11 +79,11 @@ impl Slots {
     {
         match &self.kept {
             Kept::Here([_, second]) if second.is_none() => Ok(()),
-            Kept::Here(_) | Kept::Few(_) | Kept::Many(_) => self.reserve_outside(alloc),
+            Kept::Here(_) | Kept::Outside(_) => self.reserve_outside(alloc),
         }
     }
 
-    /// The same where the row itself has no room. It is a call of its own, so that whoever finds room saves no registers.
+    /// Makes room outside the row itself. This is a call of its own, so that a row with room saves no registers.
     #[inline(never)]
     fn reserve_outside(&mut self, alloc: Global) -> Result<(), AllocError>
         ensures slots { self.new.items ≡ self.old.items }
@@ -109,80 +91,16 @@ impl Slots {
     {
         match &mut self.kept {
             Kept::Here(places) => {
-                let mut few = Vec::with_capacity(alloc, FEW)?;
-                few.extend_from_slice(&places[..count_of(places)])?;
-                self.kept = Kept::Few(few);
+                let mut slots = Vec::with_capacity(alloc, FEW)?;
+                slots.extend_from_slice(&places[..count_of(places)])?;
+                self.kept = Kept::Outside(slots);
                 Ok(())
             }
-            Kept::Few(slots) => {
-                if slots.len() < MOST_IN_PIECE {
-                    return slots.reserve(1);
-                }
-                let pieces = Pieces::of(alloc, slots)?;
-                self.kept = Kept::Many(Box::new(alloc, pieces)?);
-                Ok(())
-            }
-            Kept::Many(pieces) => pieces.reserve(alloc),
+            Kept::Outside(slots) => slots.reserve(1),
         }
     }
 
-    /// The slot at a position.
-    #[inline]
-    pub(super) fn get(&self, position: usize) -> Slot
-        requires { position < length self.now.items }
-        ensures { result ≡ slice_index_or self.now.items position result }
-    {
-        match &self.kept {
-            Kept::Here(places) => places[position],
-            Kept::Few(slots) => slots[position],
-            Kept::Many(pieces) => {
-                let window = pieces.window(position, Reach::WHOLE);
-                window.slots[position - window.start]
-            }
-        }
-    }
-
-    /// A window with a position, whose piece is sought within reach first.
-    #[inline(always)]
-    fn window(&self, position: usize, reach: Reach) -> Window<'_>
-        requires { position < length self.now.items }
-        ensures slots { IsWindow self.now.items result.start result.slots.now }
-        ensures has { HasPosition result.start result.slots.now position }
-    {
-        let slots: &[Slot] = match &self.kept {
-            Kept::Here(places) => &places[..count_of(places)],
-            Kept::Few(slots) => slots,
-            Kept::Many(pieces) => return pieces.window(position, reach),
-        };
-        Window::of(slots)
-    }
-
-    /// A window with a slot from a position on and before another, near the middle: this one, if it has the middle.
-    #[inline(always)]
-    pub(super) fn window_near<'a>(
-        &'a self,
-        low: usize,
-        high: usize,
-        window: Window<'a>,
-        reach: Reach,
-    ) -> Window<'a>
-        requires range { low < high }
-        requires within { high ≤ length self.now.items }
-        requires window { IsWindow self.now.items window.start window.slots.now }
-        ensures slots { IsWindow self.now.items result.start result.slots.now }
-        ensures meets { Meets result.start result.slots.now low high }
-    {
-        let middle = low + (high - low) / 2;
-        if window.has(middle) {
-            return window;
-        }
-        if let Kept::Many(pieces) = &self.kept {
-            return pieces.window_near(low, high, reach);
-        }
-        self.window(middle, reach)
-    }
-
-    /// Puts another slot in the place of one.
+    /// Puts a slot in the place of the one at a position.
     #[inline]
     pub(super) fn set(&mut self, position: usize, slot: Slot)
         requires within { position < length self.old.items }
@@ -192,12 +110,11 @@ impl Slots {
     {
         match &mut self.kept {
             Kept::Here(places) => places[position] = slot,
-            Kept::Few(slots) => slots[position] = slot,
-            Kept::Many(pieces) => pieces.set(position, slot),
+            Kept::Outside(slots) => slots[position] = slot,
         }
     }
 
-    /// A slot comes in at a position, for which there is room.
+    /// Inserts a slot at a position, and moves those from there on. There is room.
     #[inline(always)]
     pub(super) fn insert(&mut self, position: usize, slot: Slot)
         requires within { position ≤ length self.old.items }
@@ -214,12 +131,11 @@ impl Slots {
                     [first, slot]
                 };
             }
-            Kept::Few(slots) => if let Err(_full) = slots.insert(position, slot) {},
-            Kept::Many(pieces) => pieces.insert(position, slot),
+            Kept::Outside(slots) => if let Err(_full) = slots.insert(position, slot) {},
         }
     }
 
-    /// The slot at a position goes out.
+    /// Removes the slot at a position, and moves those after it.
     #[inline]
     pub(super) fn remove(&mut self, position: usize)
         requires { position < length self.old.items }
@@ -231,15 +147,14 @@ impl Slots {
                 let [first, second] = *places;
                 *places = [if position == 0 { second } else { first }, Slot::NONE];
             }
-            Kept::Few(slots) => {
+            Kept::Outside(slots) => {
                 slots.remove(position);
             }
-            Kept::Many(pieces) => pieces.remove(position),
         }
     }
 }
 
-/// How many slots stand in two places.
+/// How many of two places are filled.
 #[inline(always)]
 fn count_of(places: &[Slot; 2]) -> usize
     ensures count { result ≡ length (slots_here places.now) }

@@ -1,0 +1,15 @@
+use Rattle.std.proofs.Common.{◌-◌, length}
+use Rattle.qpack_table.specs.Rows.{key_of}
+use Rattle.qpack_table.specs.Tables.{live_fields}
+use Rattle.qpack_table.proofs.Halvings.{CountsHalved}
+use Rattle.qpack_table.proofs.RowSearches.{Searching}
+use Rattle.qpack_table.proofs.dynamic.index.row.search_by_halves.Given as goal
+
+abbrev pub invariant-loop-low : goal.invariant-loop-low
+invariant-loop-low l = record {
+  parted : Searching l.sought.part l.dropped (live_fields l.entries.items) l.slots (key_of l.sought) l.low l.high;
+  counted : CountsHalved (length l.slots) (l.high - l.low) l.initial.steps.count l.steps.count;
+}
+
+abbrev pub decreases-loop-low : goal.decreases-loop-low
+decreases-loop-low l = l.high - l.low
