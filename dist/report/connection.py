@@ -58,7 +58,6 @@ class Event:
     data: bytes = b""  # of the instruction or the section
     arrival: Optional["Event"] = None  # of a section that was blocked: when it came
     lines: List[Line] = field(default_factory=list)
-    faults: List[Object] = field(default_factory=list)
 
     @property
     def line(self) -> int:
@@ -191,12 +190,15 @@ class Connection:
     recording: Recording
     events: List[Event]
     directions: List[Direction]
-    findings: List[Tuple[Object, Optional[Event]]]  # what check finds wrong, and the event that it is about
 
     @property
     def is_refused(self) -> bool:
         """Whether something in it is refused."""
         return any("refused" in it.said for it in self.events)
+
+    def findings(self) -> List[Tuple[Object, Optional[Event]]]:
+        """Returns what qpk check finds wrong, each with the event that it is about."""
+        return [(it, find_event(self.events, it)) for it in self.recording.check()]
 
     def moment_of(self, line: Optional[int]) -> int:
         """Returns the number of the last event up to a line of the recording, or of all; -1 if there is none."""
@@ -219,11 +221,7 @@ def read_connection(recording: Recording) -> Connection:
     give_bytes(events, streams, {it.line: it.data for it in pieces if it.kind == "b"})
     for event in events:
         directions[event.of].apply(event)
-    findings = [(it, find_event(events, it)) for it in recording.check()]
-    for it, about in findings:
-        if about is not None:
-            about.faults.append(it)
-    return Connection(recording, events, list(directions.values()), findings)
+    return Connection(recording, events, list(directions.values()))
 
 
 def owner_of(said: Object) -> str:

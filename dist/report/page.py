@@ -60,7 +60,7 @@ def connection_data(connection: Connection) -> Dict[str, Any]:
         "name": connection.recording.name,
         "directions": [direction_data(it) for it in connection.directions],
         "events": [event_data(it, places[it.of]) for it in connection.events],
-        "faults": [{**said, "event": about.number if about else None} for said, about in connection.findings],
+        "faults": [{**said, "event": about.number if about else None} for said, about in connection.findings()],
     }
 
 

@@ -66,7 +66,7 @@ def bytes_of_lists(direction: Direction) -> Iterator[ListBytes]:
     """Yields what each list took, in the order in which they were decoded."""
     instructions = 0
     for event in direction.events:
-        if event.stream == "encoder" and "instruction" in event.said:
+        if event.stream == "encoder" and "instruction" in event.said and "refused" not in event.said:
             instructions += len(event.data)
         elif event.is_list:
             yield ListBytes(event, len(event.data), instructions)

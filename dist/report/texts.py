@@ -63,12 +63,14 @@ def instruction(said: Object) -> str:
         return f"cut, bytes that wait: {said['cut']}" if "cut" in said else "refused"
     if kind == "set capacity":
         return f"set capacity {said['capacity']}"
+    inserted = f" as entry {said['entry']}" if "entry" in said else ""
     if kind == "insert":
         names = said["name_from"]
         of_name = "" if names["type"] == "literal" else f" with the name of {shown_form(names)}"
-        return f"insert{of_name} as entry {said['entry']}"
+        return f"insert{of_name}{inserted}"
     if kind == "duplicate":
-        return f"duplicate {said['of']['index']} (entry {said['of']['entry']}) as entry {said['entry']}"
+        entry = f" (entry {said['of']['entry']})" if "entry" in said["of"] else ""
+        return f"duplicate {said['of']['index']}{entry}{inserted}"
     return f"increment {said['by']}" if kind == "increment" else f"{kind} stream {said['stream']}"
 
 

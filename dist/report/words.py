@@ -3,6 +3,7 @@
 import argparse
 import json
 import locale
+import os
 import sys
 from pathlib import Path
 from typing import Any, Callable, Dict, List, NoReturn, Optional
@@ -233,6 +234,10 @@ def main(scripts: Path) -> int:
         connections = [read_connection(it) for it in read_recordings(source, scripts)]
         COMMANDS[words.command](words, connections, scripts)
         sys.stdout.flush()
+    except BrokenPipeError:
+        os.dup2(os.open(os.devnull, os.O_WRONLY), sys.stdout.fileno())  # so that the end of Python writes nothing
+        print("qpk: refused: output", file=sys.stderr)
+        return 1
     except (ReportError, OSError) as error:
         print(f"qpk {words.command}: {error}", file=sys.stderr)
         return 1
