@@ -1,11 +1,11 @@
 #!/usr/bin/env python3
-"""Tests dist/qpk-report: the numbers of a recorded connection, its tables, and the page, as far as no browser is needed.
+"""Tests dist/qpk-report: the numbers of a recorded connection, its tables, and the data of the page.
 
     tests/report.py
 
 The recording of tests/captured with Chromium is counted again from Chromium's own lists, from its bytes, and from what
-qpk inspect and qpk show --table print. Small recordings are counted by hand. tests/browsers/report.py opens pages. It ends
-with a line 'report: N tests .. passed', and with status 1 if a test failed.
+qpk inspect and qpk show --table print. Small recordings are counted by hand. tests/browsers/report.py opens pages. This
+ends with a line 'report: N tests .. passed', and with status 1 if a test failed.
 """
 import collections
 import json
@@ -25,14 +25,14 @@ BUILT = tempfile.TemporaryDirectory()  # the program and the library of dist/, w
 QPK = f"{BUILT.name}/qpk" if shutil.which("cc") and shutil.which("make") else str(TOP / "qpk")
 # A section that waits for an insertion: one line of the recording, and half a second.
 BLOCKED = "@1.5 b 4 028010\n@2 e 3fe11f6294e7838c767f\n"
-# At capacity 76: foo: bar is inserted, duplicated and inserted again, which evicts the first. A section has a line of each
-# kind: static 17, dynamic 0, and a literal with the name of static 29, with that of dynamic 0, with its own, and one that is
-# never indexed.
+# At capacity 76: foo: bar is inserted, duplicated and inserted again, which evicts the first. A section has a line of
+# each kind: static 17, dynamic 0, and literals with the name of static 29, with that of dynamic 0, and with their own,
+# of which one is never indexed.
 EACH_KIND = "e 3f2d 6294e7838c767f 00 6294e7838c767f\nb 0 0400 d1 80 5f0e0161 400161 21610162 31610162\n"
 
 
 def start(*words, text=None, **variables):
-    """Runs the script on a text, or on the file that its words name, and returns its status, its output and its faults."""
+    """Runs the script, with a text as its input, and returns its status, its output and its faults."""
     ran = subprocess.run(
         [sys.executable, str(TOP / "dist" / "qpk-report"), *map(str, words)],
         input=None if text is None else text.encode("latin-1"),
@@ -153,7 +153,7 @@ def test_tables_of_chromium():
 
 
 def test_the_life_of_an_entry():
-    """Entry 8 of the client is in its first section, names entry 16, and is evicted by entry 80; the server has another."""
+    """Entry 8 of the client is in its first section, names entry 16, and is evicted by entry 80."""
     client, server = ask_json("table", RECORDING, "--entry", 8)
     check(client, size=50, name="sec-fetch-site", value="none")
     check(client["inserted"], line=4, encoder=301, bytes="6a4148b4a549275906497f83a8f517")
@@ -183,7 +183,7 @@ def test_a_blocked_section():
 def test_each_kind_of_line():
     """Each kind of line, an entry that nothing references, a duplicate and an eviction are counted."""
     (found,) = ask_json("stats", "-", text=EACH_KIND)
-    assert found["hits"] == {"static": 1, "dynamic": 1, "static-name": 1, "dynamic-name": 1, "literal": 2}
+    assert found["hits"] == {"static": 1, "dynamic": 1, "static_name": 1, "dynamic_name": 1, "literal": 2}
     check(found, insertions=3, duplicates=1, evictions=1, never_referenced=1, section_bytes=19, encoder_stream_bytes=17)
     check(found, fields=6, list_bytes=len(":methodGETfoobaracceptafooaabab"))
     second, third = (ask_json("table", "-", "--entry", it, text=EACH_KIND)[0] for it in (2, 3))
@@ -218,7 +218,7 @@ def test_text():
     lists = "b 0 0000d1\nb 4 0000d1d1d1d1d1d1\nb 8 0000\n"
     assert "  bytes a list, in order  ▄█▃ 2 to 8\n" in ask("stats", "-", text=lists, PYTHONIOENCODING="utf-8")
     assert ask("table", "-", "--at", "1", text=EACH_KIND).splitlines() == [
-        "2 entries, 76 of 76 bytes, 1 evicted",
+        "entries 2, 76 of 76 bytes, evicted 1",
         "  entry 3, 38 bytes, foo: bar",
         "  entry 2, 38 bytes, foo: bar",
     ]
@@ -227,10 +227,11 @@ def test_text():
 def test_a_recording_of_the_interop():
     """A recording of records is read with --qif, and its lines are its records."""
     lists = b":method\tGET\nfoo\tbar\n\nfoo\tbar\n\n"
-    records = subprocess.run([QPK, "encode", "--qif", "4096", "100", "1"], input=lists, stdout=subprocess.PIPE, check=True)
-    (found,) = ask_json("stats", "-", "--qif", text=records.stdout.decode("latin-1"))
+    words = [QPK, "encode", "--qif", "4096", "100", "1"]
+    records = subprocess.run(words, input=lists, stdout=subprocess.PIPE, check=True).stdout.decode("latin-1")
+    (found,) = ask_json("stats", "-", "--qif", text=records)
     check(found, sections=2, fields=3, insertions=1, list_bytes=22, encoder_stream_bytes=10)
-    (life,) = ask_json("table", "-", "--qif", "--entry", 1, text=records.stdout.decode("latin-1"))
+    (life,) = ask_json("table", "-", "--qif", "--entry", 1, text=records)
     assert [it["line"] for it in life["referenced_by"]] == [3, 4]
 
 
@@ -240,10 +241,11 @@ def test_a_recording_of_the_interop():
 def test_other_capacities():
     """The library takes at capacity 0 what is counted without a table, and less with one."""
     library = Path(BUILT.name) / "libh3_qpack.so.0"
-    for found in ask_json("stats", RECORDING, "--try", "0,4096", H3_QPACK_LIBRARY=str(library)) if library.exists() else []:
-        plain, usual = found["tried"]
-        check(plain, capacity=0, encoder_stream_bytes=0, bytes=found["without_table_bytes"])
-        assert usual["bytes"] == usual["section_bytes"] + usual["encoder_stream_bytes"] < plain["bytes"] / 2
+    if library.exists():
+        for found in ask_json("stats", RECORDING, "--try", "0,4096", H3_QPACK_LIBRARY=str(library)):
+            plain, usual = found["tried"]
+            check(plain, capacity=0, encoder_stream_bytes=0, bytes=found["without_table_bytes"])
+            assert usual["bytes"] == usual["section_bytes"] + usual["encoder_stream_bytes"] < plain["bytes"] / 2
     assert "run `make -C " in refuse("stats", RECORDING, "--try", "0", H3_QPACK_LIBRARY="/nonexistent")
 
 
@@ -258,7 +260,7 @@ def test_statuses():
     assert refuse("stats", "-", "--max-capacity", "x") == 'qpk: argument --max-capacity: "x" is not a whole number'
     assert refuse("stats") == "qpk: FILE is missing"
     assert refuse("table", "-") == "qpk: one of the arguments --at --entry is required"
-    assert refuse("table", "-", "--entry", "2", text=BLOCKED).endswith("there is no entry 2: at most 1 insertions were made")
+    assert refuse("table", "-", "--entry", "2", text=BLOCKED) == "qpk table: there is no entry 2: the last one is 1"
     assert refuse("table", "-", "--at", "1", "--from", "client", text=BLOCKED).endswith("leave --from out")
     assert refuse("report", "-", "-o", "/nonexistent/page", text=BLOCKED).startswith("qpk report: ")
     for command in ("report", "stats", "table"):

@@ -44,8 +44,10 @@ def fields_with_marks(event: Event, library: Any) -> List[Any]:
 
 
 def encode_again(lists: List[List[Any]], capacity: int, blocked: int, library: Any) -> Tuple[int, int]:
-    """Encodes lists, each on a stream of its own and acknowledged before the next, and decodes each again. Returns the bytes
-    of the sections, and of the encoder stream."""
+    """Encodes lists, each on a stream of its own and acknowledged before the next, and decodes each again.
+
+    Returns the bytes of the sections, and of the encoder stream.
+    """
     sections = instructions = 0
     limits = {"max_capacity": capacity, "max_blocked": blocked}
     try:
@@ -56,7 +58,7 @@ def encode_again(lists: List[List[Any]], capacity: int, blocked: int, library: A
                     written = encoder.take_encoder_stream()
                     decoder.receive(written)
                     if decoder.decode(stream, section) != fields:
-                        raise ReportError(f"list {stream + 1} is another one after it was encoded at capacity {capacity}")
+                        raise ReportError(f"list {stream + 1}, encoded at capacity {capacity}, decodes to another list")
                     encoder.receive(decoder.take_decoder_stream())
                     sections, instructions = sections + len(section), instructions + len(written)
     except library.QpackError as error:

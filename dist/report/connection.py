@@ -1,4 +1,4 @@
-"""A connection, put together from what qpk shows: its events with their bytes, its entries, and its tables at any moment."""
+"""A connection, put together from what qpk shows: its events with their bytes, its entries, and its tables."""
 
 from bisect import bisect_right
 from dataclasses import dataclass, field
@@ -24,8 +24,12 @@ class Field(NamedTuple):
 
 def field_of(it: Object) -> Field:
     """Returns the field of an object that qpk printed."""
-    name, value = (bytes.fromhex(it[of]["hex"]) if isinstance(it[of], dict) else it[of].encode() for of in ("name", "value"))
-    return Field(name, value)
+    return Field(bytes_of_text(it["name"]), bytes_of_text(it["value"]))
+
+
+def bytes_of_text(text: Any) -> bytes:
+    """Returns the bytes of a string of qpk's JSON, or of the object that it prints if they are not UTF-8."""
+    return bytes.fromhex(text["hex"]) if isinstance(text, dict) else str(text).encode()
 
 
 class Line(NamedTuple):
@@ -107,7 +111,8 @@ class Entry:
     @property
     def last_referenced(self) -> int:
         """The number of the last event that references it, or else of its insertion."""
-        return max([self.inserted.number, *(it.number for it, _ in self.lines), *(it.number for it in self.instructions)])
+        references = [*(it for it, _ in self.lines), *self.instructions]
+        return max(it.number for it in [self.inserted, *references])
 
     def is_draining(self, moment: int) -> bool:
         """Whether it is evicted later, and no event after a moment references it."""
@@ -277,6 +282,7 @@ def spans(begins: List[int], end: int) -> Iterator[Tuple[int, int]]:
 def find_event(events: List[Event], finding: Object) -> Optional[Event]:
     """Returns the event that a finding of qpk check is about."""
     place = next(it for it in ("encoder", "decoder", "section", "record") if it in finding)
-    near = [it for it in events if it.line == finding["line"] and it.end == finding.get("from", "") and place in it.said]
+    end = finding.get("from", "")
+    near = [it for it in events if it.line == finding["line"] and it.end == end and place in it.said]
     same = [it for it in near if it.said[place] == finding[place]]
     return (same or near or [None])[-1]

@@ -111,9 +111,10 @@ def pieces_of_records(data: bytes) -> Iterator[Piece]:
     """Yields the pieces of the records of the offline interop."""
     at = number = 0
     while at + HEAD_OF_RECORD <= len(data):
-        stream, size = int.from_bytes(data[at : at + 8], "big"), int.from_bytes(data[at + 8 : at + HEAD_OF_RECORD], "big")
-        at, number = at + HEAD_OF_RECORD + size, number + 1
-        yield Piece(number, "", "b" if stream else "e", data[at - size : at])
+        begin = at + HEAD_OF_RECORD
+        stream, size = (int.from_bytes(it, "big") for it in (data[at : at + 8], data[at + 8 : begin]))
+        at, number = begin + size, number + 1
+        yield Piece(number, "", "b" if stream else "e", data[begin:at])
 
 
 # ---- What a word of a command names

@@ -59,8 +59,11 @@ class Report {
   }
 
   element() {
-    const aside = element('aside', '', element('h2', '', 'The tables at a moment'), this.slider, this.label, ...this.tables);
-    return element('div', '', this.faultList(), this.legend(), this.overview(), element('main', '', this.timeline, aside));
+    const states = ['inserted', 'draining', 'evicted'].map(state => element('span', state, state));
+    const aside = element('aside', '', element('h2', '', 'The tables at a moment'), this.slider, this.label,
+      element('div', 'states', ...states, '; a click on an event moves here'), ...this.tables);
+    const main = element('main', '', this.timeline, aside);
+    return element('div', '', this.faultList(), this.legend(), this.overview(), main);
   }
 
   faultList() {
@@ -80,7 +83,8 @@ class Report {
   }
 
   legend() {
-    return element('p', 'legend', ...Object.entries(legend).map(([how, text]) => element('span', 'field ' + how, text)));
+    const signs = Object.entries(legend).map(([how, text]) => element('span', 'field ' + how, text));
+    return element('p', 'legend', ...signs);
   }
 
   overview() {
@@ -199,7 +203,8 @@ class Report {
       shown.push(' and ', rest);
     }
     const used = all.length ? ['referenced by ', ...shown] : ['never referenced'];
-    return element('span', 'life', ...used, ...(evicted === null ? [] : ['; evicted in ', link(evicted, this.placeOf(evicted))]));
+    const end = evicted === null ? [] : ['; evicted in ', link(evicted, this.placeOf(evicted))];
+    return element('span', 'life', ...used, ...end);
   }
 
   // Shows both tables after an event.
@@ -207,7 +212,8 @@ class Report {
     this.slider.value = moment;
     this.timeline.querySelector('.chosen')?.classList.remove('chosen');
     const event = this.events[moment];
-    this.label.textContent = event ? `after line ${event.line}${event.time ? ', ' + event.time : ''}: ${event.title}` : 'before the first line';
+    const time = event?.time ? ', ' + event.time : '';
+    this.label.textContent = event ? `after line ${event.line}${time}: ${event.title}` : 'before the first line';
     document.getElementById('e' + moment)?.classList.add('chosen');
     this.directions.forEach((direction, i) => this.tables[i].replaceChildren(...this.table(direction, moment)));
   }
@@ -222,8 +228,8 @@ class Report {
     table.append(header);
     const oldest = Math.max(0, evicted - MOST_EVICTED);
     for (let i = inserted - 1; i >= oldest; i--) table.append(this.entryRow(direction.entries[i], i, moment, evicted));
-    return [element('h2', '', `Table of ${encoderOf(direction)}`),
-      `${inserted - evicted} entries, ${size} of ${capacity} bytes, ${evicted} evicted`, bar, element('div', 'entries', table)];
+    const numbers = `entries ${inserted - evicted}, ${size} of ${capacity} bytes, evicted ${evicted}`;
+    return [element('h2', '', `Table of ${encoderOf(direction)}`), numbers, bar, element('div', 'entries', table)];
   }
 
   entryRow(entry, place, moment, evicted) {

@@ -11,7 +11,13 @@ from .recording import pieces_of_records, run_qpk
 BLOCKS = "▁▂▃▄▅▆▇█"
 BLOCKS_OF_ASCII = "_.,-=+*#"
 MOST_BLOCKS = 72  # in a line of text
-KINDS = ("static", "dynamic", "static-name", "dynamic-name", "literal")
+NAMES = {  # of what a line has from where
+    "static": "static",
+    "dynamic": "dynamic",
+    "static-name": "name static",
+    "dynamic-name": "name dynamic",
+    "literal": "literal",
+}
 
 
 class ListBytes(NamedTuple):
@@ -95,7 +101,7 @@ def count(direction: Direction) -> Numbers:
         section_bytes=sum(len(it.data) for it in lists),
         encoder_stream_bytes=direction.stream_bytes["encoder"],
         decoder_stream_bytes=direction.stream_bytes["decoder"],
-        hits={it: hits[it] for it in KINDS},
+        hits={it: hits[it] for it in NAMES},
         without_table_bytes=without,
         saved_bytes=without - sum(it.section for it, _ in alike) - direction.stream_bytes["encoder"],
         lists_not_counted=len(lists) - len(alike),
@@ -111,8 +117,7 @@ def count(direction: Direction) -> Numbers:
 
 
 def not_decoded(direction: Direction) -> List[Event]:
-    """Returns the sections that were refused, or waited to the end or until their stream was given up: the last event of
-    each."""
+    """Returns the sections that were refused, given up, or blocked to the end: the last event of each."""
     arrivals = {it.arrival.number for it in direction.events if it.arrival}
     sections = [it for it in direction.events if "section" in it.said and not it.is_list]
     return [it for it in sections if it.number not in arrivals]
@@ -154,29 +159,29 @@ def qif(lists: List[Optional[List[Field]]]) -> bytes:
 def as_object(direction: Direction, numbers: Numbers) -> Dict[str, Any]:
     """Returns the numbers of a direction as an object for JSON."""
     head = {"from": direction.end} if direction.end else {}
-    found = {**head, **asdict(numbers), "average_bytes": round(numbers.average_bytes, 3), "ratio": round(numbers.ratio, 4)}
+    hits = {how.replace("-", "_"): number for how, number in numbers.hits.items()}
+    means = {"average_bytes": round(numbers.average_bytes, 3), "ratio": round(numbers.ratio, 4)}
+    found = {**head, **asdict(numbers), "hits": hits, **means}
     return {name: value for name, value in found.items() if value is not None}
 
 
 def rows(numbers: Numbers) -> Iterator[Tuple[str, str]]:
     """Yields the rows of the text: what is counted, and the number."""
     it = numbers
-    yield "sections", f"{it.sections}, with {it.fields} fields" + (
-        f"; not decoded {it.sections_not_decoded}" if it.sections_not_decoded else ""
-    )
+    lost = f"; not decoded {it.sections_not_decoded}" if it.sections_not_decoded else ""
+    yield "sections", f"{it.sections}; fields in them {it.fields}{lost}"
     yield "names and values", f"{it.list_bytes} bytes"
     yield "sections took", f"{it.section_bytes} bytes"
     yield "the encoder stream took", f"{it.encoder_stream_bytes} bytes"
     yield "a list took", f"{it.average_bytes:.1f} bytes, {it.ratio:.3f} of its names and values"
-    yield "fields", ", ".join(f"{number} {name}" for name, number in it.hits.items())
-    yield "without a dynamic table", f"{it.without_table_bytes} bytes, so it saved {it.saved_bytes}" + (
-        f"; lists that are not counted {it.lists_not_counted}" if it.lists_not_counted else ""
-    )
-    yield "insertions", f"{it.insertions}, of them duplicates {it.duplicates}, never referenced {it.never_referenced}"
+    yield "fields", ", ".join(f"{NAMES[how]} {number}" for how, number in it.hits.items())
+    lost = f"; lists not counted {it.lists_not_counted}" if it.lists_not_counted else ""
+    yield "without a dynamic table", f"{it.without_table_bytes} bytes; saved {it.saved_bytes}{lost}"
+    yield "insertions", f"{it.insertions}; duplicates {it.duplicates}, never referenced {it.never_referenced}"
     yield "evictions", f"{it.evictions}"
-    yield "blocked sections", f"{it.blocked_sections}" + (
-        f", for {it.blocked_lines} lines" if it.blocked_lines else ""
-    ) + (f" and {it.blocked_seconds:.6f} seconds" if it.blocked_seconds is not None else "")
+    seconds = "" if it.blocked_seconds is None else f", seconds {it.blocked_seconds:.6f}"
+    waited = f"; lines waited {it.blocked_lines}{seconds}" if it.blocked_sections else ""
+    yield "blocked sections", f"{it.blocked_sections}{waited}"
     yield "the decoder stream took", f"{it.decoder_stream_bytes} bytes"
 
 

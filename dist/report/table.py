@@ -1,6 +1,6 @@
 """qpk table: the dynamic tables at a moment, and the life of an entry."""
 
-from typing import Any, Dict, Iterator, List
+from typing import Any, Dict, Iterator, List, Tuple
 
 from . import ReportError
 from .connection import Connection, Direction, Entry, Event
@@ -42,7 +42,8 @@ def tables_as_objects(directions: List[Direction], moment: int) -> Iterator[Dict
     for it in directions:
         table = it.table_at(moment)
         entries = [{**entry_object(entry), "draining": entry.is_draining(moment)} for entry in it.entries_of(table)]
-        yield {**end_object(it), "table": entries, "size": table.size, "capacity": table.capacity, "evicted": table.evicted}
+        numbers = {"size": table.size, "capacity": table.capacity, "evicted": table.evicted}
+        yield {**end_object(it), "table": entries, **numbers}
 
 
 def tables_as_text(directions: List[Direction], moment: int) -> Iterator[str]:
@@ -51,7 +52,7 @@ def tables_as_text(directions: List[Direction], moment: int) -> Iterator[str]:
         table = it.table_at(moment)
         entries = it.entries_of(table)
         owner = f"{it.end}'s encoder: " if it.end else ""
-        yield f"{owner}{len(entries)} entries, {table.size} of {table.capacity} bytes, {table.evicted} evicted"
+        yield f"{owner}entries {len(entries)}, {table.size} of {table.capacity} bytes, evicted {table.evicted}"
         for entry in entries:
             note = ", draining" if entry.is_draining(moment) else ""
             yield f"  entry {entry.number}, {entry.size} bytes{note}, {shown_field(entry.field)}"
@@ -60,11 +61,13 @@ def tables_as_text(directions: List[Direction], moment: int) -> Iterator[str]:
 # ---- The life of an entry
 
 
-def find_entry(direction: Direction, number: int) -> Entry:
-    """Returns an entry of a direction."""
-    if not 1 <= number <= len(direction.entries):
-        raise ReportError(f"{direction.name} made {len(direction.entries)} insertions: there is no entry {number}")
-    return direction.entries[number - 1]
+def find_entries(directions: List[Direction], number: int) -> List[Tuple[Direction, Entry]]:
+    """Returns the entry of a number in each direction that has one."""
+    found = [(it, it.entries[number - 1]) for it in directions if 1 <= number <= len(it.entries)]
+    if not found:
+        most = max(len(it.entries) for it in directions)
+        raise ReportError(f"there is no entry {number}: the last one is {most}" if most else "there are no entries")
+    return found
 
 
 def event_object(event: Event) -> Dict[str, Any]:
@@ -97,7 +100,8 @@ def life_as_text(direction: Direction, entry: Entry) -> Iterator[str]:
     yield f"  inserted: {place_of(entry.inserted)}: {title_of(entry.inserted)}; bytes {entry.inserted.data.hex()}"
     for event, place in entry.lines:
         line = event.lines[place]
-        yield f"  referenced: {place_of(event)}: section {event.said['section']}, byte {line.offset}: {shown_form(line.form)}"
+        where = f"{place_of(event)}: section {event.said['section']}, byte {line.offset}"
+        yield f"  referenced: {where}: {shown_form(line.form)}"
     for event in entry.instructions:
         verb = "duplicated" if event.said["instruction"] == "duplicate" else "its name referenced"
         yield f"  {verb}: {place_of(event)}: {title_of(event)}"

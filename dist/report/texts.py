@@ -7,7 +7,7 @@ PRINTABLE = range(0x20, 0x7F)
 
 
 def shown(data: bytes, is_name: bool = False) -> str:
-    """Returns bytes as text: a backslash is doubled, and a byte that is not printable is a backslash, x and two digits."""
+    """Returns bytes as text, as qpk show does: a backslash is doubled, and other signs are \\x and two digits."""
     parts = []
     for byte in data:
         if byte == 0x5C:

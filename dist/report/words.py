@@ -14,7 +14,7 @@ from .connection import Connection, read_connection
 from .page import write_page
 from .recording import Recording, Source, read_recordings
 from .stats import as_object, count_all, print_numbers
-from .table import choose, find_entry, life_as_object, life_as_text, tables_as_objects, tables_as_text
+from .table import choose, find_entries, life_as_object, life_as_text, tables_as_objects, tables_as_text
 
 INPUT = """\
 FILE is a recording, as qpk show reads it (qpk help show), or a capture. A minus is standard input.
@@ -60,7 +60,7 @@ Status 2 says that something in the recording was refused.""",
 
 Prints the dynamic tables at a moment of a recorded connection, or the life of an entry.
   printf 'e 3fe11f6294e7838c767f\\nb 4 028010\\n' | qpk table --at end -
-  1 entries, 38 of 4096 bytes, 0 evicted
+  entries 1, 38 of 4096 bytes, evicted 0
     entry 1, 38 bytes, foo: bar
 
 --at LINE          the tables after that line of the recording; after the last, if it is the word end
@@ -191,10 +191,7 @@ def run_table(words: argparse.Namespace, connections: List[Connection], _: Path)
             moment = connection.moment_of(words.at)
             objects, lines = tables_as_objects(directions, moment), tables_as_text(directions, moment)
         else:
-            found = [(it, find_entry(it, words.entry)) for it in directions if words.end or words.entry <= len(it.entries)]
-            if not found:
-                most = max(len(it.entries) for it in directions)
-                raise ReportError(f"there is no entry {words.entry}: at most {most} insertions were made")
+            found = find_entries(directions, words.entry)
             objects = (life_as_object(*it) for it in found)
             lines = (line for it in found for line in life_as_text(*it))
         if words.json:

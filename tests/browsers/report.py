@@ -1,9 +1,10 @@
 #!/usr/bin/env python3
 """Opens reports of dist/qpk-report in headless Chromium, and reads them from the page: tests/browsers/report.py.
 
-The lists of a recorded connection with Chromium are compared with those of Chromium's own log, and both tables at moments
-with what qpk table prints. A fault in the recording must be marked, and a field with the text of a script must stay a text.
-A wrong field and a wrong entry that are planted in a page must be found. Needs chromium. It opens no connection.
+The lists of a recorded connection with Chromium are compared with those of Chromium's own log, and both tables at
+moments with what qpk table prints. A fault in the recording must be marked, and a field with the text of a script must
+stay a text. A wrong field and a wrong entry that are planted in a page must be found. Needs chromium. It opens no
+connection.
 
     --picture FILE    writes a picture of the report, and tests nothing
 
@@ -37,7 +38,8 @@ LISTS = '''Array.from(document.querySelectorAll('.event'), event => ({
   .filter(({title}) => title.startsWith('section '))'''
 TABLES = '''Array.from(document.querySelectorAll('aside .table'), table => ({
     text: table.textContent,
-    rows: Array.from(table.querySelectorAll('tr:not(.evicted)'), row => Array.from(row.cells, cell => cell.textContent)).slice(1),
+    rows: Array.from(table.querySelectorAll('tr:not(.evicted)'),
+        row => Array.from(row.cells, cell => cell.textContent)).slice(1),
     draining: Array.from(table.querySelectorAll('tr.draining'), row => Number(row.cells[0].textContent))}))'''
 
 
@@ -85,9 +87,10 @@ def expected_tables(line):
     tables = []
     for it in map(json.loads, run('table', '--at', str(line), '--json', RECORDING).splitlines()):
         entries = it['table']
+        rows = [[str(entry['entry']), str(entry['size']), f"{entry['name']}: {entry['value']}"] for entry in entries]
         tables.append({
-            'count': f"{len(entries)} entries, {it['size']} of {it['capacity']} bytes, {it['evicted']} evicted",
-            'rows': [[str(entry['entry']), str(entry['size']), f"{entry['name']}: {entry['value']}"] for entry in entries],
+            'count': f"entries {len(entries)}, {it['size']} of {it['capacity']} bytes, evicted {it['evicted']}",
+            'rows': rows,
             'draining': [entry['entry'] for entry in entries if entry['draining']]})
     return tables
 
@@ -146,8 +149,9 @@ def check_links(pages):
         const links = Array.from(document.querySelectorAll('.form a'));
         return links.map(link => {
             const to = document.querySelector(link.getAttribute('href')), entry = link.textContent.split(' ')[1];
+            const field = link.closest('.meaning').querySelector('.field');
             return to.querySelector('.meaning').textContent.includes(`as entry ${entry} `) &&
-                to.querySelector('.inserted').textContent === link.closest('.meaning').querySelector('.field').textContent;
+                to.querySelector('.inserted').textContent === field.textContent;
         });
     })()''')
     if len(seen) != 253 or not all(seen):
@@ -231,9 +235,9 @@ def take_picture(browser, room, path):
     page = Pages(browser, room).open(run('report', RECORDING))
     page.ask('''(() => {
         const event = Array.from(document.querySelectorAll('.event'))
-            .find(it => it.querySelector('.meaning').textContent.startsWith('section 12:'));
+            .find(it => it.querySelector('.meaning').textContent.startsWith('section 36:'));
         event.click();
-        document.querySelector('.overview').scrollIntoView();
+        event.parentElement.previousElementSibling.scrollIntoView();
     })()''')
     Path(path).write_bytes(page.picture())
 
