@@ -16,6 +16,7 @@ import subprocess
 import sys
 import tempfile
 import traceback
+from concurrent.futures import ThreadPoolExecutor
 from pathlib import Path
 
 TOP = Path(__file__).resolve().parent.parent
@@ -180,6 +181,18 @@ def test_a_blocked_section():
     check(given_up, sections=0, sections_not_decoded=1, insertions=1, never_referenced=1, encoder_stream_bytes=10)
 
 
+def test_both_directions():
+    """A decoder stream, SETTINGS and a stream that was given up are about the encoder of the other end."""
+    text = "< s 4096 1\n> b 4 028010\n< c 4\n> b 4 028010\n> e 3fe11f6294e7838c767f\n< d 84\n< b 0 0000d1\n"
+    client, server = ask_json("stats", "-", text=text)
+    check(client, sections=1, sections_not_decoded=1, blocked_sections=2, blocked_lines=1, decoder_stream_bytes=1)
+    check(server, sections=1, sections_not_decoded=0, blocked_sections=0, decoder_stream_bytes=0)
+    connection = page_of("-", text=text)[1]["connections"][0]
+    assert connection["directions"][0]["settings"] == "the decoder allows 4096 bytes and 1 blocked streams"
+    assert connection["directions"][1]["settings"] == ""
+    assert [it["direction"] for it in connection["events"]] == [0] * 8 + [1]
+
+
 def test_each_kind_of_line():
     """Each kind of line, an entry that nothing references, a duplicate and an eviction are counted."""
     (found,) = ask_json("stats", "-", text=EACH_KIND)
@@ -196,6 +209,16 @@ def test_each_kind_of_line():
         "  duplicated: line 1: encoder 9: duplicate 0 (entry 1) as entry 2",
         "  evicted: line 1: encoder 10: insert as entry 3",
     ]
+
+
+def test_draining():
+    """An entry drains from its last reference on, if it is evicted later."""
+    text = "e 3f2d 6294e7838c767f\nb 0 0200 80\ne 6294e7838c767f\ne 6294e7838c767f\n"
+    drain = []
+    for line in (1, 2, 3, 4):
+        (found,) = ask_json("table", "-", "--at", line, text=text)
+        drain.append([(it["entry"], it["draining"]) for it in found["table"]])
+    assert drain == [[(1, False)], [(1, True)], [(2, False), (1, True)], [(3, False), (2, False)]]
 
 
 def test_the_bytes_of_the_page():
@@ -259,7 +282,9 @@ def test_statuses():
     assert refuse("stats", "-", QPK="/nonexistent").startswith("qpk stats: /nonexistent can't be run")
     assert refuse("stats", "-", "--max-capacity", "x") == 'qpk: argument --max-capacity: "x" is not a whole number'
     assert refuse("stats") == "qpk: FILE is missing"
-    assert refuse("table", "-") == "qpk: one of the arguments --at --entry is required"
+    assert refuse("stats", "-", "--table") == 'qpk: "--table" is not an option here'
+    assert refuse("report", "-", "more") == 'qpk: "more" is one word too many'
+    assert refuse("table", "-") == "qpk: --at or --entry is missing"
     assert refuse("table", "-", "--entry", "2", text=BLOCKED) == "qpk table: there is no entry 2: the last one is 1"
     assert refuse("table", "-", "--at", "1", "--from", "client", text=BLOCKED).endswith("leave --from out")
     assert refuse("report", "-", "-o", "/nonexistent/page", text=BLOCKED).startswith("qpk report: ")
@@ -299,21 +324,25 @@ def test_no_field_ends_the_page():
     assert event["time"] == "</script>"
 
 
+def attempt(test):
+    """Runs a test, and returns why it failed, or nothing."""
+    try:
+        test()
+        return None
+    except Exception:  # pylint: disable=broad-except # a test may fail in any way
+        return f"{test.__name__}:\n{traceback.format_exc()}"
+
+
 def main():
-    """Runs all tests."""
+    """Runs all tests, three at once: most of their time programs are started."""
     if QPK.startswith(BUILT.name):
         subprocess.run(["make", "-s", "-C", str(TOP / "dist"), f"BUILD={BUILT.name}"], check=True)
-    passed = failed = 0
-    for name, test in sorted(globals().items()):
-        if name.startswith("test_"):
-            try:
-                test()
-                passed += 1
-            except Exception:  # pylint: disable=broad-except # a test may fail in any way
-                failed += 1
-                print(f"{name}:\n{traceback.format_exc()}")
-    print(f"report: {passed} tests of dist/qpk-report passed, {failed} failed")
-    return 1 if failed else 0
+    tests = [test for name, test in sorted(globals().items()) if name.startswith("test_")]
+    with ThreadPoolExecutor(3) as pool:
+        faults = [it for it in pool.map(attempt, tests) if it]
+    print(*faults, sep="\n", end="")
+    print(f"report: {len(tests) - len(faults)} tests of dist/qpk-report passed, {len(faults)} failed")
+    return 1 if faults else 0
 
 
 if __name__ == "__main__":

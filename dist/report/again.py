@@ -4,12 +4,12 @@ import importlib
 import os
 import sys
 from pathlib import Path
-from typing import Any, Dict, Iterator, List, Tuple
+from typing import Any, Dict, Iterator, List, Optional, Tuple
 
 from . import ReportError
 from .connection import Direction, Event
 
-USUAL_BLOCKED = 100  # the limit of blocked streams where the recording has none, as in qpk show
+USUAL_BLOCKED = 100
 MOST_SECTION = (1 << 64) - 1  # a decoder's limit that no section reaches
 
 
@@ -27,11 +27,17 @@ def load_library(scripts: Path) -> Any:
         raise ReportError(f"--try encodes by the library, which is not there: {hint} ({error})") from None
 
 
-def try_capacities(direction: Direction, capacities: List[int], library: Any) -> Iterator[Dict[str, int]]:
-    """Yields for each capacity what the lists of a direction take: the bytes of sections and of the encoder stream."""
+def try_capacities(
+    direction: Direction, capacities: List[int], max_blocked: Optional[int], library: Any
+) -> Iterator[Dict[str, int]]:
+    """Yields for each capacity what the lists of a direction take: the bytes of sections and of the encoder stream.
+
+    As in qpk show, the limit of blocked streams is that of SETTINGS, else the one that is given, else 100.
+    """
     lists = [fields_with_marks(it, library) for it in direction.lists()]
     settings = direction.settings()
-    blocked = settings["max_blocked"] if settings else USUAL_BLOCKED
+    usual = USUAL_BLOCKED if max_blocked is None else max_blocked
+    blocked = settings["max_blocked"] if settings else usual
     for capacity in capacities:
         sections, instructions = encode_again(lists, capacity, blocked, library)
         total = sections + instructions

@@ -4,7 +4,7 @@ from bisect import bisect_right
 from dataclasses import dataclass, field
 from typing import Any, Dict, Iterator, List, NamedTuple, Optional, Tuple
 
-from .recording import Object, Recording
+from .recording import Object, Piece, Recording
 
 ENTRY_OVERHEAD = 32  # bytes that an entry counts beside its name and value (RFC 9204, section 3.2.1)
 OTHER = {"client": "server", "server": "client", "": ""}
@@ -139,11 +139,6 @@ class Direction:
     tables: List[Table] = field(default_factory=lambda: [Table(-1, 0, 0, 0, 0)])
     stream_bytes: Dict[str, int] = field(default_factory=lambda: {"encoder": 0, "decoder": 0})
 
-    @property
-    def name(self) -> str:
-        """What it is called in texts."""
-        return self.end or "encoder"
-
     def settings(self) -> Optional[Object]:
         """Returns the SETTINGS for this encoder, if they are in the recording."""
         return next((it.said for it in self.events if "max_capacity" in it.said), None)
@@ -203,7 +198,10 @@ class Connection:
 
     def findings(self) -> List[Tuple[Object, Optional[Event]]]:
         """Returns what qpk check finds wrong, each with the event that it is about."""
-        return [(it, find_event(self.events, it)) for it in self.recording.check()]
+        events: Dict[int, List[Event]] = {}
+        for event in self.events:
+            events.setdefault(event.line, []).append(event)
+        return [(it, find_event(events.get(it["line"], []), it)) for it in self.recording.check()]
 
     def moment_of(self, line: Optional[int]) -> int:
         """Returns the number of the last event up to a line of the recording, or of all; -1 if there is none."""
@@ -235,7 +233,7 @@ def owner_of(said: Object) -> str:
     return end if "encoder" in said or "section" in said else OTHER[end]
 
 
-def join(pieces: List[Any]) -> Dict[Tuple[str, str], bytes]:
+def join(pieces: List[Piece]) -> Dict[Tuple[str, str], bytes]:
     """Returns the bytes of each stream of instructions, by the end that sent it and the kind of its lines."""
     parts: Dict[Tuple[str, str], List[bytes]] = {}
     for it in pieces:
@@ -280,9 +278,8 @@ def spans(begins: List[int], end: int) -> Iterator[Tuple[int, int]]:
 
 
 def find_event(events: List[Event], finding: Object) -> Optional[Event]:
-    """Returns the event that a finding of qpk check is about."""
+    """Returns the event of a finding of qpk check, of the events of its line."""
     place = next(it for it in ("encoder", "decoder", "section", "record") if it in finding)
-    end = finding.get("from", "")
-    near = [it for it in events if it.line == finding["line"] and it.end == end and place in it.said]
+    near = [it for it in events if it.end == finding.get("from", "") and place in it.said]
     same = [it for it in near if it.said[place] == finding[place]]
     return (same or near or [None])[-1]

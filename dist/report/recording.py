@@ -12,6 +12,7 @@ from typing import Any, Dict, Iterator, List, NamedTuple, Optional, Sequence
 from . import ReportError
 
 CAPTURES = {bytes.fromhex(it) for it in ("0a0d0d0a", "d4c3b2a1", "a1b2c3d4", "4d3cb2a1", "a1b23c4d")}
+ENDS = {b">": "client", b"<": "server"}
 HEAD_OF_RECORD = 12  # bytes before those of a record of the offline interop: 8 for the stream, 4 for the length
 Object = Dict[str, Any]
 
@@ -87,23 +88,21 @@ def run_qpk(words: Sequence[str], data: bytes, statuses: Sequence[int] = (0,)) -
 
 def pieces_of_lines(data: bytes) -> Iterator[Piece]:
     """Yields the pieces of lines (docs/QPK.md, Lines of a recording)."""
-    for number, line in enumerate(data.decode("latin-1").split("\n"), 1):
+    for number, line in enumerate(data.split(b"\n"), 1):
         words = line.split()
-        if not words or line.lstrip().startswith("#"):
+        if not words or words[0].startswith(b"#"):
             continue
-        if words[0].startswith("@"):
+        if words[0].startswith(b"@"):
             words = words[1:]
-        end = {">": "client", "<": "server"}.get(words[0], "")
+        end = ENDS.get(words[0], "")
         kind, *rest = words[1:] if end else words
-        if kind in ("e", "d"):
-            yield Piece(number, end, kind, bytes_of(rest))
-        elif kind == "b":
-            yield Piece(number, end, kind, bytes_of(rest[1:]))
+        if kind in (b"e", b"d", b"b"):
+            yield Piece(number, end, kind.decode(), bytes_of(rest[1:] if kind == b"b" else rest))
 
 
-def bytes_of(words: Sequence[str]) -> bytes:
+def bytes_of(words: Sequence[bytes]) -> bytes:
     """Returns the bytes that words of hexadecimal have. Half a byte at the end is left out."""
-    digits = "".join(re.sub(r"\b0[xX]|:", "", it) for it in words)
+    digits = b"".join(re.sub(rb"\b0[xX]|:", b"", it) for it in words).decode()
     return bytes.fromhex(digits[: len(digits) // 2 * 2])
 
 

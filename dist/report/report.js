@@ -27,7 +27,7 @@ function join(parts, between) { return parts.flatMap((part, i) => i ? [between, 
 
 function encoderOf(direction) { return direction.end ? `${direction.end}'s encoder` : 'the encoder'; }
 
-// The number of the last table at or before an event.
+// The last table at or before an event.
 function tableAt(tables, moment) {
   let low = 0, high = tables.length - 1;
   while (low < high) {

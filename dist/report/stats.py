@@ -196,7 +196,7 @@ def blocks(numbers: List[int], signs: str) -> str:
 
 def print_numbers(direction: Direction, numbers: Numbers, is_unicode: bool) -> None:
     """Prints the numbers of a direction as text."""
-    print(f"{direction.name}'s lists" if direction.end else "lists")
+    print(f"{direction.end}'s lists" if direction.end else "lists")
     for name, text in rows(numbers):
         print(f"  {name:<24}{text}")
     if numbers.bytes_of_lists:

@@ -122,7 +122,7 @@ def parser_of(command: str) -> Parser:
     if command == "stats":
         parser.add_argument("--try", dest="capacities", type=numbers, default=[], metavar="CAPACITY,..")
     if command == "table":
-        about = parser.add_mutually_exclusive_group(required=True)
+        about = parser.add_mutually_exclusive_group()
         about.add_argument("--at", type=line_or_end, default=False, metavar="LINE")
         about.add_argument("--entry", type=number, metavar="N")
         parser.add_argument("--from", dest="end", choices=("client", "server"), default="")
@@ -166,7 +166,7 @@ def run_stats(words: argparse.Namespace, connections: List[Connection], scripts:
     for connection in connections:
         print_head(connection.recording, words.json)
         for direction, counted in count_all(connection):
-            tried = list(try_capacities(direction, words.capacities, library)) if library else []
+            tried = list(try_capacities(direction, words.capacities, words.max_blocked, library)) if library else []
             if words.json:
                 print_object({**as_object(direction, counted), **({"tried": tried} if tried else {})})
             else:
@@ -214,11 +214,25 @@ def read_words(arguments: List[str]) -> argparse.Namespace:
         print(*USAGE.values(), sep="\n", file=sys.stdout if arguments[:1] in (["-h"], ["--help"]) else sys.stderr)
         sys.exit(0 if arguments[:1] in (["-h"], ["--help"]) else 1)
     parser = parser_of(arguments[0])
-    words = parser.parse_args(arguments[1:])
+    words, rest = parser.parse_known_args(arguments[1:])
     words.command = arguments[0]
-    if (words.file is None) == (words.pdml is None):
-        parser.error("FILE is missing" if words.file is None else "name a FILE or --pdml, and not both")
+    fault = find_fault(words, rest)
+    if fault:
+        parser.error(fault)
     return words
+
+
+def find_fault(words: argparse.Namespace, rest: List[str]) -> Optional[str]:
+    """Returns what is wrong with words that were read, and with the rest, or nothing."""
+    if rest:
+        return f'"{rest[0]}" is ' + ("not an option here" if rest[0].startswith("-") else "one word too many")
+    if words.file is None and words.pdml is None:
+        return "FILE is missing"
+    if words.file is not None and words.pdml is not None:
+        return "name FILE or --pdml, and not both"
+    if words.command == "table" and words.at is False and words.entry is None:
+        return "--at or --entry is missing"
+    return None
 
 
 def main(scripts: Path) -> int:

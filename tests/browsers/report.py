@@ -40,7 +40,8 @@ TABLES = '''Array.from(document.querySelectorAll('aside .table'), table => ({
     text: table.textContent,
     rows: Array.from(table.querySelectorAll('tr:not(.evicted)'),
         row => Array.from(row.cells, cell => cell.textContent)).slice(1),
-    draining: Array.from(table.querySelectorAll('tr.draining'), row => Number(row.cells[0].textContent))}))'''
+    draining: Array.from(table.querySelectorAll('tr.draining'), row => Number(row.cells[0].textContent)),
+    inserted: Array.from(table.querySelectorAll('tr.inserted'), row => Number(row.cells[0].textContent))}))'''
 
 
 def run(*words, statuses=(0,)):
@@ -117,7 +118,7 @@ def compare_tables(page):
             rows = [[number, size, field.replace('\\\\', '\\')] for number, size, field in shown['rows']]
             if rows != expected['rows'] or expected['count'] not in shown['text']:
                 raise Failure(f'the page has another table after line {line} than qpk table')
-            if not set(shown['draining']) <= set(expected['draining']):
+            if shown['draining'] != [it for it in expected['draining'] if it not in shown['inserted']]:
                 raise Failure(f'other entries drain on the page after line {line}')
     return 2 * len(MOMENTS)
 
