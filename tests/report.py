@@ -29,7 +29,7 @@ BLOCKED = "@1.5 b 4 028010\n@2 e 3fe11f6294e7838c767f\n"
 # At capacity 76: foo: bar is inserted, duplicated and inserted again, which evicts the first. A section has a line of
 # each kind: static 17, dynamic 0, and literals with the name of static 29, with that of dynamic 0, and with their own,
 # of which one is never indexed.
-EACH_KIND = "e 3f2d 6294e7838c767f 00 6294e7838c767f\nb 0 0400 d1 80 5f0e0161 400161 21610162 31610162\n"
+EACH_KIND = "e 3f2d 6294e7838c767f 00 62:94:e7 0x838c767f\r\nb 0 0400 d1 80 5f0e0161 400161 21610162 31610162\n"
 
 
 def start(*words, text=None, **variables):

@@ -173,11 +173,14 @@ def check_fault(pages):
     page = pages.open(run('report', path, statuses=(2,)))
     top, marked = page.ask("document.querySelector('.faults').textContent"), page.ask('''Array.from(
         document.querySelectorAll('.event.faulty'), it => it.id + it.querySelector('.meaning').textContent)''')
+    texts = page.ask("Array.from(document.querySelectorAll('.event.faulty .wrong'), it => it.textContent)")
     targets = page.ask("Array.from(document.querySelectorAll('.faults a'), it => it.getAttribute('href').slice(1))")
     if not top.startswith('2 faults') or 'QPACK_DECOMPRESSION_FAILED' not in top:
         raise Failure(f'the page begins with {top}')
     if [it.split(':')[0] for it in marked] != [f'{targets[0]}section 4', f'{targets[1]}decoder 1']:
         raise Failure(f'the page marks {marked} and links to {targets}')
+    if [it.split('[')[1].split(';')[0] for it in texts] != ['RFC 9204, section 4.5.1.1', 'RFC 9204, section 4.4.1']:
+        raise Failure(f'the page says at the faults {texts}')
     return 'both are marked'
 
 
