@@ -12,6 +12,7 @@ The last line is 'N passed, M failed'.
 """
 import json
 import os
+import re
 import shutil
 import subprocess
 import sys
@@ -179,7 +180,7 @@ def check_fault(pages):
         raise Failure(f'the page begins with {top}')
     if [it.split(':')[0] for it in marked] != [f'{targets[0]}section 4', f'{targets[1]}decoder 1']:
         raise Failure(f'the page marks {marked} and links to {targets}')
-    if [it.split('[')[1].split(';')[0] for it in texts] != ['RFC 9204, section 4.5.1.1', 'RFC 9204, section 4.4.1']:
+    if re.findall(r'RFC 9204, section ([\d.]+)', ' '.join(texts)) != ['4.5.1.1', '4.4.1']:
         raise Failure(f'the page says at the faults {texts}')
     return 'both are marked'
 
