@@ -3,27 +3,27 @@
 import importlib
 import os
 import sys
-from pathlib import Path
 from typing import Any, Dict, Iterator, List, Optional, Tuple
 
 from . import ReportError
 from .connection import Direction, Event
+from .recording import SCRIPTS
 
 USUAL_BLOCKED = 100
 MOST_SECTION = (1 << 64) - 1  # a decoder's limit that no section reaches
 
 
-def load_library(scripts: Path) -> Any:
+def load_library() -> Any:
     """Returns the package h3_qpack for Python: one that is installed, or else that of a clone, over its dist/build."""
-    clone = scripts.parent / "bindings" / "python"
-    built = scripts / "build" / "libh3_qpack.so.0"
+    clone = SCRIPTS.parent / "bindings" / "python"
+    built = SCRIPTS / "build" / "libh3_qpack.so.0"
     if built.is_file():
         os.environ.setdefault("H3_QPACK_LIBRARY", str(built))
     sys.path.append(str(clone))
     try:
         return importlib.import_module("h3_qpack")
     except (ImportError, OSError) as error:
-        hint = f"run `make -C {scripts}`" if clone.is_dir() else "install the library, and its package for Python"
+        hint = f"run `make -C {SCRIPTS}`" if clone.is_dir() else "install the library, and its package for Python"
         raise ReportError(f"--try encodes by the library, which is not there: {hint} ({error})") from None
 
 

@@ -11,6 +11,7 @@ from typing import Any, Dict, Iterator, List, NamedTuple, Optional, Sequence
 
 from . import ReportError
 
+SCRIPTS = Path(__file__).resolve().parent.parent  # where qpk-report is
 CAPTURES = {bytes.fromhex(it) for it in ("0a0d0d0a", "d4c3b2a1", "a1b2c3d4", "4d3cb2a1", "a1b23c4d")}
 ENDS = {b">": "client", b"<": "server"}
 HEAD_OF_RECORD = 12  # bytes before those of a record of the offline interop: 8 for the stream, 4 for the length
@@ -70,9 +71,15 @@ class Recording:
         return pieces_of_records(self.data) if "--qif" in self.words else pieces_of_lines(self.data)
 
 
+def find_program(name: str) -> str:
+    """Returns a program beside the script qpk-report, or else its name, as it is in PATH."""
+    beside = SCRIPTS / name
+    return str(beside) if os.access(beside, os.X_OK) else name
+
+
 def run_qpk(words: Sequence[str], data: bytes, statuses: Sequence[int] = (0,)) -> bytes:
     """Returns what qpk prints, which ends with one of these statuses."""
-    program = os.environ.get("QPK", "qpk")
+    program = os.environ.get("QPK") or find_program("qpk")
     try:
         ran = subprocess.run([program, *words], input=data, stdout=subprocess.PIPE, stderr=subprocess.PIPE, check=False)
     except (FileNotFoundError, PermissionError):
@@ -119,27 +126,33 @@ def pieces_of_records(data: bytes) -> Iterator[Piece]:
 # ---- What a word of a command names
 
 
-def read_recordings(source: Source, scripts: Path) -> List[Recording]:
+def read_recordings(source: Source) -> List[Recording]:
     """Returns the recordings that a command is about: one, or one for each connection of a capture."""
     if source.pdml is not None:
-        return read_capture(source, scripts, ["--pdml", source.pdml], None)
+        return read_capture(source, ["--pdml", source.pdml], None)
     if source.file != "-" and not os.path.isfile(source.file):
         raise ReportError(f"{source.file} is not a file that can be read")
     data = sys.stdin.buffer.read() if source.file == "-" else Path(source.file).read_bytes()
-    if source.keys is not None or source.connection is not None or data[:4] in CAPTURES and not source.is_qif:
-        return read_capture(source, scripts, [source.file], data if source.file == "-" else None)
+    if source.keys is not None or source.connection is not None or not source.is_qif and needs_script(data):
+        return read_capture(source, [source.file], data if source.file == "-" else None)
     words = [*source.limits(), *(["--qif"] if source.is_qif else [])]
     return [Recording("standard input" if source.file == "-" else os.path.basename(source.file), data, words)]
 
 
-def read_capture(source: Source, scripts: Path, words: List[str], data: Optional[bytes]) -> List[Recording]:
+def needs_script(data: bytes) -> bool:
+    """Whether data is read by qpk-capture: a capture, or a trace of JSON."""
+    return data[:4] in CAPTURES or data[:1] in (b"{", b"\x1e")
+
+
+def read_capture(source: Source, words: List[str], data: Optional[bytes]) -> List[Recording]:
     """Returns the recordings that qpk-capture makes of a capture. What it says on standard error is passed on."""
-    command = [str(scripts / "qpk-capture"), "lines", *words]
+    command = [find_program("qpk-capture"), "lines", *words]
     command += [] if source.keys is None else ["--keys", source.keys]
     command += [] if source.connection is None else ["--connection", str(source.connection)]
-    if not os.access(command[0], os.X_OK):
-        raise ReportError(f"a capture is read by {command[0]}, which is not there")
-    ran = subprocess.run(command, input=data, stdout=subprocess.PIPE, check=False)
+    try:
+        ran = subprocess.run(command, input=data, stdout=subprocess.PIPE, check=False)
+    except FileNotFoundError:
+        raise ReportError("a capture is read by qpk-capture, which is neither beside qpk-report nor in PATH") from None
     if ran.returncode:
         raise ReportError("the capture can't be read, as said above")
     found = []

@@ -151,7 +151,7 @@ def is_unicode() -> bool:
     return encoding.lower().replace("-", "") == "utf8"
 
 
-def run_report(words: argparse.Namespace, connections: List[Connection], _: Path) -> None:
+def run_report(words: argparse.Namespace, connections: List[Connection]) -> None:
     """Writes the page."""
     page = write_page(connections)
     if words.output in (None, "-"):
@@ -160,9 +160,9 @@ def run_report(words: argparse.Namespace, connections: List[Connection], _: Path
         Path(words.output).write_bytes(page.encode())
 
 
-def run_stats(words: argparse.Namespace, connections: List[Connection], scripts: Path) -> None:
+def run_stats(words: argparse.Namespace, connections: List[Connection]) -> None:
     """Prints the numbers of each connection."""
-    library = load_library(scripts) if words.capacities else None
+    library = load_library() if words.capacities else None
     for connection in connections:
         print_head(connection.recording, words.json)
         for direction, counted in count_all(connection):
@@ -182,7 +182,7 @@ def print_tried(tried: List[Dict[str, int]], lists: int) -> None:
         print(f"  encoded again at capacity {it['capacity']}: {it['bytes']} bytes, {mean:.1f} a list: {parts}")
 
 
-def run_table(words: argparse.Namespace, connections: List[Connection], _: Path) -> None:
+def run_table(words: argparse.Namespace, connections: List[Connection]) -> None:
     """Prints the tables of each connection at a moment, or the life of an entry."""
     for connection in connections:
         directions = choose(connection, words.end)
@@ -201,7 +201,7 @@ def run_table(words: argparse.Namespace, connections: List[Connection], _: Path)
             print(*lines, sep="\n")
 
 
-COMMANDS: Dict[str, Callable[[argparse.Namespace, List[Connection], Path], None]] = {
+COMMANDS: Dict[str, Callable[[argparse.Namespace, List[Connection]], None]] = {
     "report": run_report,
     "stats": run_stats,
     "table": run_table,
@@ -235,15 +235,15 @@ def find_fault(words: argparse.Namespace, rest: List[str]) -> Optional[str]:
     return None
 
 
-def main(scripts: Path) -> int:
-    """Does what the words ask for, and returns the status. The folder has qpk-capture."""
+def main() -> int:
+    """Does what the words ask for, and returns the status."""
     words = read_words(sys.argv[1:])
     source = Source(
         words.file, words.keys, words.pdml, words.connection, words.max_capacity, words.max_blocked, words.qif
     )
     try:
-        connections = [read_connection(it) for it in read_recordings(source, scripts)]
-        COMMANDS[words.command](words, connections, scripts)
+        connections = [read_connection(it) for it in read_recordings(source)]
+        COMMANDS[words.command](words, connections)
         sys.stdout.flush()
     except BrokenPipeError:
         os.dup2(os.open(os.devnull, os.O_WRONLY), sys.stdout.fileno())  # so that the end of Python writes nothing

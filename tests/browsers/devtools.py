@@ -24,8 +24,8 @@ class Browser:
             [PROGRAM, '--headless=new', '--no-sandbox', '--disable-gpu', '--disable-dev-shm-usage', '--no-first-run',
              '--disable-extensions', '--disable-background-networking', '--disable-component-update',
              '--hide-scrollbars', '--no-proxy-server', '--host-resolver-rules=MAP * ~NOTFOUND',
-             f'--window-size={width},{height}', '--force-device-scale-factor=1', f'--user-data-dir={room}/profile', '--remote-debugging-pipe',
-             'about:blank'],
+             f'--window-size={width},{height}', '--force-device-scale-factor=1', f'--user-data-dir={room}/profile',
+             '--remote-debugging-pipe', 'about:blank'],
             pass_fds=(3, 4), preexec_fn=lambda: [os.dup2(fd, number) for fd, number in zip(passed, (3, 4))],
             stdout=subprocess.DEVNULL, stderr=subprocess.DEVNULL, start_new_session=True)
         for it in (its_read, its_write, *passed):
