@@ -30,6 +30,11 @@ BLOCKED = "@1.5 b 4 028010\n@2 e 3fe11f6294e7838c767f\n"
 # each kind: static 17, dynamic 0, and literals with the name of static 29, with that of dynamic 0, and with their own,
 # of which one is never indexed.
 EACH_KIND = "e 3f2d 6294e7838c767f 00 62:94:e7 0x838c767f\r\nb 0 0400 d1 80 5f0e0161 400161 21610162 31610162\n"
+# What tshark prints of a packet: the number of its connection, and the length and the payload of a HEADERS frame.
+PACKET = """<packet><field name="frame.time_relative" show="1"/><field name="ip.src" show="10.0.0.1"/>
+<field name="ip.dst" show="10.0.0.2"/><field name="udp.srcport" show="5000"/><field name="udp.dstport" show="443"/>
+<field name="quic.connection.number" show="{}"/><field name="quic.stream.stream_id" show="0"/>
+<field name="quic.stream_data" value="01{}"/></packet>"""
 
 
 def start(*words, text=None, **variables):
@@ -132,6 +137,18 @@ def test_numbers_of_the_capture():
     if shutil.which("tshark"):
         head, *found = ask_json("stats", CAPTURED / "chromium.pcapng")
         assert head == {"connection": 0} and found == ask_json("stats", RECORDING)
+
+
+def test_connections():
+    """Each connection of a capture is counted, or the one that is named, and a page has all."""
+    text = f"<pdml>{PACKET.format(0, '030000d1')}{PACKET.format(5, '040000d1d1')}</pdml>"
+    with tempfile.TemporaryDirectory() as room:
+        path = Path(room) / "two.pdml"
+        path.write_text(text, "utf-8")
+        heads = ask_json("stats", "--pdml", path)
+        assert [it.get("connection", it.get("fields")) for it in heads] == [0, 1, 0, 5, 2, 0]
+        assert ask_json("stats", "--pdml", path, "--connection", 5) == heads[3:]
+        assert [len(it["events"][0]["lines"]) for it in page_of("--pdml", path)[1]["connections"]] == [1, 2]
 
 
 def test_tables_of_chromium():

@@ -142,11 +142,12 @@ class Report {
     }
   }
 
-  // Makes the rest of the events, with pauses in which the page answers.
+  // Makes the rest of the events, with pauses in which the page answers, unless another connection is chosen meanwhile.
   async makeAll() {
     while (this.made < this.events.length) {
       this.make(this.made + EVENTS_AT_ONCE);
       await new Promise(resolve => setTimeout(resolve));
+      if (report !== this) return;
     }
     document.body.dataset.ready = 'yes';
   }
@@ -246,7 +247,8 @@ class Report {
 const page = document.getElementById('page');
 let report;
 
-function open(number) {
+function choose(number) {
+  delete document.body.dataset.ready;
   report = new Report(connections[number]);
   const made = report.element();
   page.replaceChildren(heading(number), made);
@@ -264,7 +266,7 @@ function heading(number) {
   }
   const choice = element('select', '', ...connections.map(({name}) => element('option', '', name)));
   choice.selectedIndex = number;
-  choice.onchange = () => open(choice.selectedIndex);
+  choice.onchange = () => choose(choice.selectedIndex);
   title.append(choice);
   return title;
 }
@@ -276,4 +278,4 @@ addEventListener('click', ({target}) => {
   report.make(Number(to[1]) + 1);
   report.show(Number(to[1]));
 });
-if (connections.length) open(0);
+if (connections.length) choose(0);

@@ -32,6 +32,12 @@ PLANTED = [
     ('"field":":method: GET"', '"field":":method: PUT"'),
     ('"field":":authority: localhost', '"field":":authority: elsewhere'),
 ]
+# What tshark prints of two connections, each with a section: those of static 17 and static 20.
+PACKET = '''<packet><field name="frame.time_relative" show="1"/><field name="ip.src" show="10.0.0.1"/>
+<field name="ip.dst" show="10.0.0.2"/><field name="udp.srcport" show="5000"/><field name="udp.dstport" show="443"/>
+<field name="quic.connection.number" show="{}"/><field name="quic.stream.stream_id" show="0"/>
+<field name="quic.stream_data" value="01030000{}"/></packet>'''
+PDML = f"<pdml>{PACKET.format(0, 'd1')}{PACKET.format(5, 'd4')}</pdml>"
 # What the page has: the lists by the end that sent them and the stream, and the tables.
 LISTS = '''Array.from(document.querySelectorAll('.event'), event => ({
     end: event.parentElement.classList[1], title: event.querySelector('.meaning').textContent,
@@ -165,24 +171,45 @@ def check_links(pages):
 
 
 def check_fault(pages):
-    """A section that can't be decoded is marked, as is its acknowledgment. Both are counted at the top, with links."""
+    """A section that can't be decoded is marked, its acknowledgment, and an instruction that is cut. All are counted at
+    the top, with links."""
     lines = RECORDING.read_text('utf-8').splitlines()
     at = next(i for i, line in enumerate(lines) if ' < b 4 ' in line)
     lines[at] = lines[at].replace(' < b 4 05', ' < b 4 ff')
     path = Path(pages.room) / 'faulty.txt'
-    path.write_text('\n'.join(lines) + '\n', encoding='utf-8')
+    path.write_text('\n'.join([*lines, '@1 > e ff']) + '\n', encoding='utf-8')
     page = pages.open(run('report', path, statuses=(2,)))
     top, marked = page.ask("document.querySelector('.faults').textContent"), page.ask('''Array.from(
         document.querySelectorAll('.event.faulty'), it => it.id + it.querySelector('.meaning').textContent)''')
     texts = page.ask("Array.from(document.querySelectorAll('.event.faulty .wrong'), it => it.textContent)")
     targets = page.ask("Array.from(document.querySelectorAll('.faults a'), it => it.getAttribute('href').slice(1))")
-    if not top.startswith('2 faults') or 'QPACK_DECOMPRESSION_FAILED' not in top:
+    if not top.startswith('3 faults') or 'QPACK_DECOMPRESSION_FAILED' not in top:
         raise Failure(f'the page begins with {top}')
-    if [it.split(':')[0] for it in marked] != [f'{targets[0]}section 4', f'{targets[1]}decoder 1']:
+    expected = [targets[0] + 'section 4', targets[1] + 'decoder 1', targets[2] + 'encoder 1352']
+    if [it.split(':')[0] for it in marked] != expected:
         raise Failure(f'the page marks {marked} and links to {targets}')
-    if re.findall(r'RFC 9204, section ([\d.]+)', ' '.join(texts)) != ['4.5.1.1', '4.4.1']:
+    if re.findall(r'RFC 9204, section ([\d.]+)', ' '.join(texts)) != ['4.5.1.1', '4.4.1', '4.2']:
         raise Failure(f'the page says at the faults {texts}')
-    return 'both are marked'
+    return 'three are marked'
+
+
+def check_connections(pages):
+    """Of the connections of a capture one is chosen."""
+    path = Path(pages.room) / 'two.pdml'
+    path.write_text(PDML, encoding='utf-8')
+    page = pages.open(run('report', '--pdml', path))
+    found = []
+    for place in (0, 1):
+        page.ask(f'''(() => {{
+            const choice = document.querySelector('h1 select');
+            choice.selectedIndex = {place};
+            choice.dispatchEvent(new Event('change'));
+        }})()''')
+        page.wait_for("document.body.dataset.ready === 'yes'")
+        found.append(page.ask("Array.from(document.querySelectorAll('.meaning .field'), it => it.textContent)"))
+    if found != [[':method: GET'], [':method: POST']]:
+        raise Failure(f'the page has {found}')
+    return 'two'
 
 
 def check_script(pages):
@@ -230,6 +257,7 @@ CHECKS = {
     'the capture': check_capture,
     'links': check_links,
     'a fault in the recording': check_fault,
+    'connections': check_connections,
     'a script in a field': check_script,
     'planted faults': check_planted,
 }
