@@ -84,7 +84,7 @@ def run_qpk(words: Sequence[str], data: bytes, statuses: Sequence[int] = (0,)) -
         ran = subprocess.run([program, *words], input=data, stdout=subprocess.PIPE, stderr=subprocess.PIPE, check=False)
     except (FileNotFoundError, PermissionError):
         raise ReportError(f"{program} can't be run: install qpk, or name it in the variable QPK") from None
-    if ran.returncode not in statuses or (ran.stderr and not ran.stdout):
+    if ran.returncode not in statuses or ran.returncode == 1 and not ran.stdout:
         said = ran.stderr.decode(errors="replace").strip().splitlines()
         raise ReportError(re.sub(r"^qpk: ", "", said[-1]) if said else f"{program} ended with status {ran.returncode}")
     return ran.stdout

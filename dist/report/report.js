@@ -211,11 +211,12 @@ class Report {
   // Shows both tables after an event.
   show(moment) {
     this.slider.value = moment;
-    this.timeline.querySelector('.chosen')?.classList.remove('chosen');
+    this.chosen?.classList.remove('chosen');
     const event = this.events[moment];
     const time = event?.time ? ', ' + event.time : '';
     this.label.textContent = event ? `after line ${event.line}${time}: ${event.title}` : 'before the first line';
-    document.getElementById('e' + moment)?.classList.add('chosen');
+    this.chosen = document.getElementById('e' + moment);
+    this.chosen?.classList.add('chosen');
     this.directions.forEach((direction, i) => this.tables[i].replaceChildren(...this.table(direction, moment)));
   }
 
@@ -271,11 +272,17 @@ function heading(number) {
   return title;
 }
 
-// A link may lead to an event that is not on the page yet.
-addEventListener('click', ({target}) => {
-  const to = target.closest('a')?.getAttribute('href')?.match(/^#e(\d+)$/);
-  if (!to) return;
-  report.make(Number(to[1]) + 1);
-  report.show(Number(to[1]));
-});
+// Shows the event to which a link leads, which may not be on the page yet.
+function follow(link) {
+  const number = Number(link?.match(/^#e(\d+)$/)?.[1] ?? -1);
+  if (!report?.events[number]) return;
+  report.make(number + 1);
+  report.show(number);
+}
+
+addEventListener('click', ({target}) => follow(target.closest('a')?.getAttribute('href')));
 if (connections.length) choose(0);
+if (location.hash) {
+  follow(location.hash);
+  document.querySelector('.chosen')?.scrollIntoView();
+}

@@ -66,12 +66,12 @@ class Pages:
     def __init__(self, browser, room):
         self.browser, self.room, self.number = browser, room, 0
 
-    def open(self, html):
-        """Opens a report, and waits until it is whole."""
+    def open(self, html, place=''):
+        """Opens a report, at a place of it, and waits until it is whole."""
         self.number += 1
         path = Path(self.room) / f'{self.number}.html'
         path.write_text(html, encoding='utf-8')
-        page = self.browser.open(path.as_uri())
+        page = self.browser.open(path.as_uri() + place)
         page.wait_for("document.body && document.body.dataset.ready === 'yes'")
         return page
 
@@ -167,6 +167,9 @@ def check_links(pages):
     page.ask("Array.from(document.querySelectorAll('.form a')).find(it => it.textContent === 'entry 80').click()")
     if 'as entry 80' not in page.ask("document.querySelector('.moment').textContent"):
         raise Failure('a link to an insertion does not show the table after it')
+    page = pages.open(run('report', RECORDING), '#e5')
+    if 'insert as entry 3' not in page.ask("document.querySelector('.moment').textContent"):
+        raise Failure('the address of an insertion does not show the table after it')
     return f'{len(seen)} links'
 
 
