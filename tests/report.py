@@ -255,6 +255,8 @@ def test_text():
     text = ask("stats", "-", text=EACH_KIND, PYTHONIOENCODING="utf-8")
     assert "  evictions               1\n" in text and "  bytes a list, in order  █ 36 to 36\n" in text
     assert "# 36 to 36" in ask("stats", "-", text=EACH_KIND, PYTHONIOENCODING="ascii")
+    table = ask_json("table", "-", "--at", "end", text="e 3fe11f 41e9 02c3a9\n", PYTHONIOENCODING="ascii")
+    assert [(it["name"], it["value"]) for it in table[0]["table"]] == [({"hex": "e9"}, "\xe9")]
     lists = "b 0 0000d1\nb 4 0000d1d1d1d1d1d1\nb 8 0000\n"
     assert "  bytes a list, in order  ▄█▃ 2 to 8\n" in ask("stats", "-", text=lists, PYTHONIOENCODING="utf-8")
     assert ask("table", "-", "--at", "1", text=EACH_KIND).splitlines() == [
@@ -331,11 +333,11 @@ def test_no_field_ends_the_page():
     value = b'</script><script>alert(1)</script>&lt;\\\xff\0<!--'
     text = f"@</script> b 0 0000 2161{len(value):02x} {value.hex()}\n"
     with tempfile.TemporaryDirectory() as room:
-        path = Path(room) / "<b>&.txt"
-        path.write_text(text, "utf-8")
-        html, data = page_of(path)
+        path = os.path.join(room.encode(), b"<b>&\xff.txt")
+        Path(os.fsdecode(path)).write_text(text, "utf-8")
+        html, data = page_of(os.fsdecode(path))
     assert html.count("<script") == html.count("</script>") == 2 and "<b>" not in html and "<!--" not in html
-    assert "<title>QPACK of &lt;b&gt;&amp;.txt</title>" in html
+    assert "<title>QPACK of &lt;b&gt;&amp;?.txt</title>" in html
     event = data["connections"][0]["events"][0]
     assert event["lines"][0]["field"] == r"a: </script><script>alert(1)</script>&lt;\\\xff\x00<!--"
     assert event["time"] == "</script>"

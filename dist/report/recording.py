@@ -136,7 +136,8 @@ def read_recordings(source: Source) -> List[Recording]:
     if source.keys is not None or source.connection is not None or not source.is_qif and needs_script(data):
         return read_capture(source, [source.file], data if source.file == "-" else None)
     words = [*source.limits(), *(["--qif"] if source.is_qif else [])]
-    return [Recording("standard input" if source.file == "-" else os.path.basename(source.file), data, words)]
+    name = "standard input" if source.file == "-" else os.path.basename(source.file)
+    return [Recording(name.encode(errors="replace").decode(), data, words)]
 
 
 def needs_script(data: bytes) -> bool:
@@ -159,5 +160,5 @@ def read_capture(source: Source, words: List[str], data: Optional[bytes]) -> Lis
     for part in re.split(rb"^# ", ran.stdout, flags=re.M)[1:]:
         name, _, lines = part.partition(b"\n")
         number = re.match(rb"connection (\d+)", name)
-        found.append(Recording(name.decode(), lines, source.limits(), int(number[1]) if number else None))
+        found.append(Recording(name.decode(errors="replace"), lines, source.limits(), int(number[1]) if number else None))
     return found

@@ -16,9 +16,8 @@ from .recording import Recording, Source, read_recordings
 from .stats import as_object, count_all, print_numbers
 from .table import choose, find_entries, life_as_object, life_as_text, tables_as_objects, tables_as_text
 
-INPUT = """\
-FILE is a recording, as qpk show reads it (qpk help show), or a capture. A minus is standard input.
-
+FILE = "FILE is a recording, as qpk show reads it (qpk help show), or a capture. A minus is standard input."
+OPTIONS = """\
 --keys KEYLOG      the secrets of a capture's connections; a capture that contains them needs none
 --connection N     only this connection of a capture, as tshark numbers them, from 0
 --pdml FILE        in the place of a capture: what tshark -T pdml printed
@@ -43,8 +42,10 @@ Writes a recorded connection as a page of HTML, in one file that needs no networ
 bytes and their meaning, both tables at any moment, what is wrong, and what stats counts.
   qpk report capture.pcapng --keys keys.log -o connection.html
 
+{FILE}
+
 -o PAGE            the file that is written; else standard output
-{INPUT}
+{OPTIONS}
 Status 2 says that something in the recording was refused; the page marks it.""",
     "stats": f"""\
 
@@ -52,9 +53,11 @@ Counts what QPACK did in each direction of a recorded connection: bytes, fields 
 sections. docs/QPK.md says how each is counted.
   printf 'e 3fe11f6294e7838c767f\\nb 4 028010\\n' | qpk stats -
 
+{FILE}
+
 --json             print an object for each direction
 --try CAPACITY,..  encode the same lists again by the library, with tables of these capacities, and print their bytes
-{INPUT}
+{OPTIONS}
 Status 2 says that something in the recording was refused.""",
     "table": f"""\
 
@@ -63,11 +66,13 @@ Prints the dynamic tables at a moment of a recorded connection, or the life of a
   entries 1, 38 of 4096 bytes, evicted 0
     entry 1, 38 bytes, foo: bar
 
+{FILE}
+
 --at LINE          the tables after that line of the recording; after the last, if it is the word end
 --entry N          when entry N was inserted, what referenced it, and when it was evicted
 --from END         only the table of this end's encoder: client or server
 --json             print an object a line
-{INPUT}
+{OPTIONS}
 Status 2 says that something in the recording was refused.""",
 }
 
@@ -85,6 +90,7 @@ class PrintHelp(argparse.Action):
 
     def __call__(self, parser: argparse.ArgumentParser, *_: Any) -> None:
         print(f"{parser.usage}\n{HELP[parser.prog]}")
+        sys.stdout.flush()
         sys.exit(0)
 
 
@@ -134,7 +140,7 @@ def parser_of(command: str) -> Parser:
 
 def print_object(it: Dict[str, Any]) -> None:
     """Prints an object in a line."""
-    print(json.dumps(it, separators=(",", ":"), ensure_ascii=False))
+    print(json.dumps(it, separators=(",", ":")))
 
 
 def print_head(recording: Recording, is_json: bool) -> None:
@@ -235,9 +241,8 @@ def find_fault(words: argparse.Namespace, rest: List[str]) -> Optional[str]:
     return None
 
 
-def main() -> int:
+def answer(words: argparse.Namespace) -> int:
     """Does what the words ask for, and returns the status."""
-    words = read_words(sys.argv[1:])
     source = Source(
         words.file, words.keys, words.pdml, words.connection, words.max_capacity, words.max_blocked, words.qif
     )
@@ -246,10 +251,19 @@ def main() -> int:
         COMMANDS[words.command](words, connections)
         sys.stdout.flush()
     except BrokenPipeError:
-        os.dup2(os.open(os.devnull, os.O_WRONLY), sys.stdout.fileno())  # so that the end of Python writes nothing
-        print("qpk: refused: output", file=sys.stderr)
-        return 1
+        raise
     except (ReportError, OSError) as error:
         print(f"qpk {words.command}: {error}", file=sys.stderr)
         return 1
     return 2 if any(it.is_refused for it in connections) else 0
+
+
+def main() -> int:
+    """Answers the words of the script, and returns the status."""
+    sys.stdout.reconfigure(errors="backslashreplace")
+    try:
+        return answer(read_words(sys.argv[1:]))
+    except BrokenPipeError:
+        os.dup2(os.open(os.devnull, os.O_WRONLY), sys.stdout.fileno())  # so that the end of Python writes nothing
+        print("qpk: refused: output", file=sys.stderr)
+        return 1
