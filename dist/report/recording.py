@@ -1,0 +1,164 @@
+"""Recordings and captures: what qpk says of them, and their bytes."""
+
+import json
+import os
+import re
+import subprocess
+import sys
+from dataclasses import dataclass
+from pathlib import Path
+from typing import Any, Dict, Iterator, List, NamedTuple, Optional, Sequence
+
+from . import ReportError
+
+SCRIPTS = Path(__file__).resolve().parent.parent  # where qpk-report is
+CAPTURES = {bytes.fromhex(it) for it in ("0a0d0d0a", "d4c3b2a1", "a1b2c3d4", "4d3cb2a1", "a1b23c4d")}
+ENDS = {b">": "client", b"<": "server"}
+HEAD_OF_RECORD = 12  # bytes before those of a record of the offline interop: 8 for the stream, 4 for the length
+Object = Dict[str, Any]
+
+
+@dataclass(frozen=True)
+class Source:
+    """What the words of a command name."""
+
+    file: str
+    keys: Optional[str] = None
+    pdml: Optional[str] = None
+    connection: Optional[int] = None
+    max_capacity: Optional[int] = None
+    max_blocked: Optional[int] = None
+    is_qif: bool = False
+
+    def limits(self) -> List[str]:
+        """Returns the words of qpk that have the limits."""
+        given = {"--max-capacity": self.max_capacity, "--max-blocked": self.max_blocked}
+        return [word for name, number in given.items() if number is not None for word in (name, str(number))]
+
+
+class Piece(NamedTuple):
+    """A line of a recording that has bytes, or a record."""
+
+    line: int
+    end: str  # client, server, or nothing if the recording has one direction
+    kind: str  # e, d or b
+    data: bytes
+
+
+@dataclass(frozen=True)
+class Recording:
+    """A recorded connection, and the words with which qpk reads it."""
+
+    name: str
+    data: bytes
+    words: Sequence[str]
+    number: Optional[int] = None  # of a connection of a capture
+
+    def show(self) -> List[Object]:
+        """Returns what qpk shows, an object a line."""
+        return self._objects("show", (0, 2))
+
+    def check(self) -> List[Object]:
+        """Returns what qpk finds wrong."""
+        return [it for it in self._objects("check", (0, 1)) if "fault" in it]
+
+    def _objects(self, command: str, statuses: Sequence[int]) -> List[Object]:
+        printed = run_qpk([command, "--json", *self.words, "-"], self.data, statuses)
+        return [json.loads(line) for line in printed.splitlines()]
+
+    def pieces(self) -> Iterator[Piece]:
+        """Yields the lines that have bytes. Which lines there may be is checked by qpk."""
+        return pieces_of_records(self.data) if "--qif" in self.words else pieces_of_lines(self.data)
+
+
+def find_program(name: str) -> str:
+    """Returns a program beside the script qpk-report, or else its name, as it is in PATH."""
+    beside = SCRIPTS / name
+    return str(beside) if os.access(beside, os.X_OK) else name
+
+
+def run_qpk(words: Sequence[str], data: bytes, statuses: Sequence[int] = (0,)) -> bytes:
+    """Returns what qpk prints, which ends with one of these statuses."""
+    program = os.environ.get("QPK") or find_program("qpk")
+    try:
+        ran = subprocess.run([program, *words], input=data, stdout=subprocess.PIPE, stderr=subprocess.PIPE, check=False)
+    except (FileNotFoundError, PermissionError):
+        raise ReportError(f"{program} can't be run: install qpk, or name it in the variable QPK") from None
+    if ran.returncode not in statuses or ran.returncode == 1 and not ran.stdout:
+        said = ran.stderr.decode(errors="replace").strip().splitlines()
+        raise ReportError(re.sub(r"^qpk: ", "", said[-1]) if said else f"{program} ended with status {ran.returncode}")
+    return ran.stdout
+
+
+# ---- The bytes of a recording
+
+
+def pieces_of_lines(data: bytes) -> Iterator[Piece]:
+    """Yields the pieces of lines (docs/QPK.md, Lines of a recording)."""
+    for number, line in enumerate(data.split(b"\n"), 1):
+        words = line.split()
+        if not words or words[0].startswith(b"#"):
+            continue
+        if words[0].startswith(b"@"):
+            words = words[1:]
+        end = ENDS.get(words[0], "")
+        kind, *rest = words[1:] if end else words
+        if kind in (b"e", b"d", b"b"):
+            yield Piece(number, end, kind.decode(), bytes_of(rest[1:] if kind == b"b" else rest))
+
+
+def bytes_of(words: Sequence[bytes]) -> bytes:
+    """Returns the bytes that words of hexadecimal have. Half a byte at the end is left out."""
+    digits = b"".join(re.sub(rb"\b0[xX]|:", b"", it) for it in words).decode()
+    return bytes.fromhex(digits[: len(digits) // 2 * 2])
+
+
+def pieces_of_records(data: bytes) -> Iterator[Piece]:
+    """Yields the pieces of the records of the offline interop."""
+    at = number = 0
+    while at + HEAD_OF_RECORD <= len(data):
+        begin = at + HEAD_OF_RECORD
+        stream, size = (int.from_bytes(it, "big") for it in (data[at : at + 8], data[at + 8 : begin]))
+        at, number = begin + size, number + 1
+        yield Piece(number, "", "b" if stream else "e", data[begin:at])
+
+
+# ---- What a word of a command names
+
+
+def read_recordings(source: Source) -> List[Recording]:
+    """Returns the recordings that a command is about: one, or one for each connection of a capture."""
+    if source.pdml is not None:
+        return read_capture(source, ["--pdml", source.pdml], None)
+    if source.file != "-" and not os.path.isfile(source.file):
+        raise ReportError(f"{source.file} is not a file that can be read")
+    data = sys.stdin.buffer.read() if source.file == "-" else Path(source.file).read_bytes()
+    if source.keys is not None or source.connection is not None or not source.is_qif and needs_script(data):
+        return read_capture(source, [source.file], data if source.file == "-" else None)
+    words = [*source.limits(), *(["--qif"] if source.is_qif else [])]
+    name = "standard input" if source.file == "-" else os.path.basename(source.file)
+    return [Recording(name.encode(errors="replace").decode(), data, words)]
+
+
+def needs_script(data: bytes) -> bool:
+    """Whether data is read by qpk-capture: a capture, or a trace of JSON."""
+    return data[:4] in CAPTURES or data[:1] in (b"{", b"\x1e")
+
+
+def read_capture(source: Source, words: List[str], data: Optional[bytes]) -> List[Recording]:
+    """Returns the recordings that qpk-capture makes of a capture. What it says on standard error is passed on."""
+    command = [find_program("qpk-capture"), "lines", *words]
+    command += [] if source.keys is None else ["--keys", source.keys]
+    command += [] if source.connection is None else ["--connection", str(source.connection)]
+    try:
+        ran = subprocess.run(command, input=data, stdout=subprocess.PIPE, check=False)
+    except FileNotFoundError:
+        raise ReportError("a capture is read by qpk-capture, which is neither beside qpk-report nor in PATH") from None
+    if ran.returncode:
+        raise ReportError("the capture can't be read, as said above")
+    found = []
+    for part in re.split(rb"^# ", ran.stdout, flags=re.M)[1:]:
+        name, _, lines = part.partition(b"\n")
+        number = re.match(rb"connection (\d+)", name)
+        found.append(Recording(name.decode(errors="replace"), lines, source.limits(), int(number[1]) if number else None))
+    return found

@@ -1,0 +1,269 @@
+"""The words of qpk report, stats and table, and what each does."""
+
+import argparse
+import json
+import locale
+import os
+import sys
+from pathlib import Path
+from typing import Any, Callable, Dict, List, NoReturn, Optional
+
+from . import ReportError
+from .again import load_library, try_capacities
+from .connection import Connection, read_connection
+from .page import write_page
+from .recording import Recording, Source, read_recordings
+from .stats import as_object, count_all, print_numbers
+from .table import choose, find_entries, life_as_object, life_as_text, tables_as_objects, tables_as_text
+
+FILE = "FILE is a recording, as qpk show reads it (qpk help show), or a capture. A minus is standard input."
+OPTIONS = """\
+--keys KEYLOG      the secrets of a capture's connections; a capture that contains them needs none
+--connection N     only this connection of a capture, as tshark numbers them, from 0
+--pdml FILE        in the place of a capture: what tshark -T pdml printed
+--max-capacity N   the maximum table capacity in bytes, where no line s has it; else 4096
+--max-blocked N    how many streams may be blocked, where no line s has it; else 100
+--qif              read a recording of the offline interop"""
+
+USAGE = {
+    "report": "usage: qpk report FILE [-o PAGE] [--max-capacity N] [--max-blocked N] [--qif]\n"
+    "       qpk report CAPTURE --keys KEYLOG [-o PAGE] [--connection N]",
+    "stats": "usage: qpk stats [--json] [--try CAPACITY,..] [--max-capacity N] [--max-blocked N] [--qif] FILE\n"
+    "       qpk stats CAPTURE --keys KEYLOG [--json] [--try CAPACITY,..] [--connection N]",
+    "table": "usage: qpk table --at LINE|end [--from END] [--json] [--max-capacity N] [--max-blocked N] [--qif] FILE\n"
+    "       qpk table --entry N [--from END] [--json] .. FILE\n"
+    "       qpk table CAPTURE --keys KEYLOG [--connection N] ..",
+}
+
+HELP = {
+    "report": f"""\
+
+Writes a recorded connection as a page of HTML, in one file that needs no network: each instruction and section with its
+bytes and their meaning, both tables at any moment, what is wrong, and what stats counts.
+  qpk report capture.pcapng --keys keys.log -o connection.html
+
+{FILE}
+
+-o PAGE            the file that is written; else standard output
+{OPTIONS}
+Status 2 says that something in the recording was refused; the page marks it.""",
+    "stats": f"""\
+
+Counts what QPACK did in each direction of a recorded connection: bytes, fields by how they came, insertions and blocked
+sections. docs/QPK.md says how each is counted.
+  printf 'e 3fe11f6294e7838c767f\\nb 4 028010\\n' | qpk stats -
+
+{FILE}
+
+--json             print an object for each direction
+--try CAPACITY,..  encode the same lists again by the library, with tables of these capacities, and print their bytes
+{OPTIONS}
+Status 2 says that something in the recording was refused.""",
+    "table": f"""\
+
+Prints the dynamic tables at a moment of a recorded connection, or the life of an entry.
+  printf 'e 3fe11f6294e7838c767f\\nb 4 028010\\n' | qpk table --at end -
+  entries 1, 38 of 4096 bytes, evicted 0
+    entry 1, 38 bytes, foo: bar
+
+{FILE}
+
+--at LINE          the tables after that line of the recording; after the last, if it is the word end
+--entry N          when entry N was inserted, what referenced it, and when it was evicted
+--from END         only the table of this end's encoder: client or server
+--json             print an object a line
+{OPTIONS}
+Status 2 says that something in the recording was refused.""",
+}
+
+
+class Parser(argparse.ArgumentParser):
+    """A parser that refuses words as qpk does: the usage, the reason, and status 1."""
+
+    def error(self, message: str) -> NoReturn:
+        print(f"{self.usage}\nqpk: {message}", file=sys.stderr)
+        sys.exit(1)
+
+
+class PrintHelp(argparse.Action):
+    """Prints the help of a command."""
+
+    def __call__(self, parser: argparse.ArgumentParser, *_: Any) -> None:
+        print(f"{parser.usage}\n{HELP[parser.prog]}")
+        sys.stdout.flush()
+        sys.exit(0)
+
+
+def number(word: str) -> int:
+    """Returns a number that is 0 or more."""
+    if not word.isascii() or not word.isdigit():
+        raise argparse.ArgumentTypeError(f'"{word}" is not a whole number')
+    return int(word)
+
+
+def line_or_end(word: str) -> Optional[int]:
+    """Returns the number of a line, or None for the end."""
+    return None if word == "end" else number(word)
+
+
+def numbers(word: str) -> List[int]:
+    """Returns numbers that are separated by commas."""
+    return [number(it) for it in word.split(",")]
+
+
+def parser_of(command: str) -> Parser:
+    """Returns the parser of the words after a command."""
+    parser = Parser(prog=command, usage=USAGE[command], add_help=False, allow_abbrev=False)
+    parser.add_argument("-h", "--help", nargs=0, action=PrintHelp)
+    parser.add_argument("file", nargs="?", metavar="FILE")
+    parser.add_argument("--keys", metavar="KEYLOG")
+    parser.add_argument("--pdml", metavar="FILE")
+    for option in ("--connection", "--max-capacity", "--max-blocked"):
+        parser.add_argument(option, type=number, metavar="N")
+    parser.add_argument("--qif", action="store_true")
+    if command == "report":
+        parser.add_argument("-o", "--output", metavar="PAGE")
+    else:
+        parser.add_argument("--json", action="store_true")
+    if command == "stats":
+        parser.add_argument("--try", dest="capacities", type=numbers, default=[], metavar="CAPACITY,..")
+    if command == "table":
+        about = parser.add_mutually_exclusive_group()
+        about.add_argument("--at", type=line_or_end, default=False, metavar="LINE")
+        about.add_argument("--entry", type=number, metavar="N")
+        parser.add_argument("--from", dest="end", choices=("client", "server"), default="")
+    return parser
+
+
+# ---- What each command does
+
+
+def print_object(it: Dict[str, Any]) -> None:
+    """Prints an object in a line."""
+    print(json.dumps(it, separators=(",", ":")))
+
+
+def print_head(recording: Recording, is_json: bool) -> None:
+    """Prints which connection of a capture it is."""
+    if recording.number is not None and is_json:
+        print_object({"connection": recording.number})
+    elif recording.number is not None:
+        print(recording.name)
+
+
+def is_unicode() -> bool:
+    """Whether blocks can be printed."""
+    encoding = getattr(sys.stdout, "encoding", None) or locale.getpreferredencoding(False)
+    return encoding.lower().replace("-", "") == "utf8"
+
+
+def run_report(words: argparse.Namespace, connections: List[Connection]) -> None:
+    """Writes the page."""
+    page = write_page(connections)
+    if words.output in (None, "-"):
+        sys.stdout.buffer.write(page.encode())
+    else:
+        Path(words.output).write_bytes(page.encode())
+
+
+def run_stats(words: argparse.Namespace, connections: List[Connection]) -> None:
+    """Prints the numbers of each connection."""
+    library = load_library() if words.capacities else None
+    for connection in connections:
+        print_head(connection.recording, words.json)
+        for direction, counted in count_all(connection):
+            tried = list(try_capacities(direction, words.capacities, words.max_blocked, library)) if library else []
+            if words.json:
+                print_object({**as_object(direction, counted), **({"tried": tried} if tried else {})})
+            else:
+                print_numbers(direction, counted, is_unicode())
+                print_tried(tried, counted.sections)
+
+
+def print_tried(tried: List[Dict[str, int]], lists: int) -> None:
+    """Prints what lists take at other capacities."""
+    for it in tried:
+        mean = it["bytes"] / lists if lists else 0.0
+        parts = f"{it['section_bytes']} sections + {it['encoder_stream_bytes']} encoder stream"
+        print(f"  encoded again at capacity {it['capacity']}: {it['bytes']} bytes, {mean:.1f} a list: {parts}")
+
+
+def run_table(words: argparse.Namespace, connections: List[Connection]) -> None:
+    """Prints the tables of each connection at a moment, or the life of an entry."""
+    for connection in connections:
+        directions = choose(connection, words.end)
+        print_head(connection.recording, words.json)
+        if words.entry is None:
+            moment = connection.moment_of(words.at)
+            objects, lines = tables_as_objects(directions, moment), tables_as_text(directions, moment)
+        else:
+            found = find_entries(directions, words.entry)
+            objects = (life_as_object(*it) for it in found)
+            lines = (line for it in found for line in life_as_text(*it))
+        if words.json:
+            for it in objects:
+                print_object(it)
+        else:
+            print(*lines, sep="\n")
+
+
+COMMANDS: Dict[str, Callable[[argparse.Namespace, List[Connection]], None]] = {
+    "report": run_report,
+    "stats": run_stats,
+    "table": run_table,
+}
+
+
+def read_words(arguments: List[str]) -> argparse.Namespace:
+    """Returns what the words ask for."""
+    if not arguments or arguments[0] not in COMMANDS:
+        print(*USAGE.values(), sep="\n", file=sys.stdout if arguments[:1] in (["-h"], ["--help"]) else sys.stderr)
+        sys.exit(0 if arguments[:1] in (["-h"], ["--help"]) else 1)
+    parser = parser_of(arguments[0])
+    words, rest = parser.parse_known_args(arguments[1:])
+    words.command = arguments[0]
+    fault = find_fault(words, rest)
+    if fault:
+        parser.error(fault)
+    return words
+
+
+def find_fault(words: argparse.Namespace, rest: List[str]) -> Optional[str]:
+    """Returns what is wrong with words that were read, and with the rest, or nothing."""
+    if rest:
+        return f'"{rest[0]}" is ' + ("not an option here" if rest[0].startswith("-") else "one word too many")
+    if words.file is None and words.pdml is None:
+        return "FILE is missing"
+    if words.file is not None and words.pdml is not None:
+        return "name FILE or --pdml, and not both"
+    if words.command == "table" and words.at is False and words.entry is None:
+        return "--at or --entry is missing"
+    return None
+
+
+def answer(words: argparse.Namespace) -> int:
+    """Does what the words ask for, and returns the status."""
+    source = Source(
+        words.file, words.keys, words.pdml, words.connection, words.max_capacity, words.max_blocked, words.qif
+    )
+    try:
+        connections = [read_connection(it) for it in read_recordings(source)]
+        COMMANDS[words.command](words, connections)
+        sys.stdout.flush()
+    except BrokenPipeError:
+        raise
+    except (ReportError, OSError) as error:
+        print(f"qpk {words.command}: {error}", file=sys.stderr)
+        return 1
+    return 2 if any(it.is_refused for it in connections) else 0
+
+
+def main() -> int:
+    """Answers the words of the script, and returns the status."""
+    sys.stdout.reconfigure(errors="backslashreplace")
+    try:
+        return answer(read_words(sys.argv[1:]))
+    except BrokenPipeError:
+        os.dup2(os.open(os.devnull, os.O_WRONLY), sys.stdout.fileno())  # so that the end of Python writes nothing
+        print("qpk: refused: output", file=sys.stderr)
+        return 1

@@ -1,0 +1,102 @@
+"""Headless Chromium with a page, over its debugging pipe: expressions are evaluated in the page, and it is pictured."""
+import base64
+import fcntl
+import json
+import os
+import select
+import subprocess
+import time
+
+from nghttp3 import Failure
+
+SECONDS = 60
+PROGRAM = 'chromium'
+
+
+class Browser:
+    """Chromium without a window. Close it at the end."""
+
+    def __init__(self, room, width=1200, height=1000):
+        own_read, its_write = os.pipe()
+        its_read, own_write = os.pipe()
+        passed = [fcntl.fcntl(it, fcntl.F_DUPFD, 10) for it in (its_read, its_write)]
+        self.process = subprocess.Popen(
+            [PROGRAM, '--headless=new', '--no-sandbox', '--disable-gpu', '--disable-dev-shm-usage', '--no-first-run',
+             '--disable-extensions', '--disable-background-networking', '--disable-component-update',
+             '--hide-scrollbars', '--no-proxy-server', '--host-resolver-rules=MAP * ~NOTFOUND',
+             f'--window-size={width},{height}', '--force-device-scale-factor=1', f'--user-data-dir={room}/profile',
+             '--remote-debugging-pipe', 'about:blank'],
+            pass_fds=(3, 4), preexec_fn=lambda: [os.dup2(fd, number) for fd, number in zip(passed, (3, 4))],
+            stdout=subprocess.DEVNULL, stderr=subprocess.DEVNULL, start_new_session=True)
+        for it in (its_read, its_write, *passed):
+            os.close(it)
+        self.read, self.write, self.waiting, self.number = own_read, own_write, b'', 0
+
+    def close(self):
+        """Ends it."""
+        self.process.terminate()
+        try:
+            self.process.wait(20)
+        except subprocess.TimeoutExpired:
+            self.process.kill()
+            self.process.wait()
+        os.close(self.read)
+        os.close(self.write)
+
+    def call(self, method, session=None, **params):
+        """Calls a method of the debugging protocol, and returns its result."""
+        self.number += 1
+        message = {'id': self.number, 'method': method, 'params': params, **({'sessionId': session} if session else {})}
+        os.write(self.write, json.dumps(message).encode() + b'\0')
+        until = time.time() + SECONDS
+        while time.time() < until:
+            answer = self.receive(until)
+            if answer.get('id') == self.number:
+                if 'error' in answer:
+                    raise Failure(f"{method}: {answer['error']['message']}")
+                return answer['result']
+        raise Failure(f'{method}: no answer within {SECONDS} seconds')
+
+    def receive(self, until):
+        """Returns the next message."""
+        while b'\0' not in self.waiting:
+            if not select.select([self.read], [], [], max(0, until - time.time()))[0]:
+                return {}
+            got = os.read(self.read, 1 << 20)
+            if not got:
+                raise Failure('the browser ended')
+            self.waiting += got
+        message, _, self.waiting = self.waiting.partition(b'\0')
+        return json.loads(message)
+
+    def open(self, url):
+        """Opens a page."""
+        target = self.call('Target.createTarget', url=url)['targetId']
+        return Page(self, self.call('Target.attachToTarget', targetId=target, flatten=True)['sessionId'])
+
+
+class Page:
+    """A page in a browser."""
+
+    def __init__(self, browser, session):
+        self.browser, self.session = browser, session
+
+    def ask(self, expression):
+        """Returns the value of an expression in the page."""
+        answer = self.browser.call('Runtime.evaluate', self.session, expression=expression, returnByValue=True,
+                                   awaitPromise=True)
+        if 'exceptionDetails' in answer:
+            raise Failure(f"{expression[:60]}: {answer['exceptionDetails'].get('exception', {}).get('description')}")
+        return answer['result'].get('value')
+
+    def wait_for(self, expression):
+        """Waits until an expression is true."""
+        until = time.time() + SECONDS
+        while not self.ask(expression):
+            if time.time() > until:
+                raise Failure(f'{expression} is not true after {SECONDS} seconds')
+            time.sleep(0.05)
+
+    def picture(self):
+        """Returns a picture of what the window shows, as PNG."""
+        return base64.b64decode(self.browser.call('Page.captureScreenshot', self.session, format='png')['data'])

@@ -1,0 +1,368 @@
+#!/usr/bin/env python3
+"""Tests dist/qpk-report: the numbers of a recorded connection, its tables, and the data of the page.
+
+    tests/report.py
+
+The recording of tests/captured with Chromium is counted again from Chromium's own lists, from its bytes, and from what
+qpk inspect and qpk show --table print. Small recordings are counted by hand. tests/browsers/report.py opens pages. This
+ends with a line 'report: N tests .. passed', and with status 1 if a test failed.
+"""
+import collections
+import json
+import os
+import re
+import shutil
+import subprocess
+import sys
+import tempfile
+import traceback
+from concurrent.futures import ThreadPoolExecutor
+from pathlib import Path
+
+TOP = Path(__file__).resolve().parent.parent
+CAPTURED = TOP / "tests" / "captured"
+RECORDING = CAPTURED / "chromium.txt"
+BUILT = tempfile.TemporaryDirectory()  # the program and the library of dist/, which tests ask often
+QPK = f"{BUILT.name}/qpk" if shutil.which("cc") and shutil.which("make") else str(TOP / "qpk")
+# A section that waits for an insertion: one line of the recording, and half a second.
+BLOCKED = "@1.5 b 4 028010\n@2 e 3fe11f6294e7838c767f\n"
+# At capacity 76: foo: bar is inserted, duplicated and inserted again, which evicts the first. A section has a line of
+# each kind: static 17, dynamic 0, and literals with the name of static 29, with that of dynamic 0, and with their own,
+# of which one is never indexed.
+EACH_KIND = "e 3f2d 6294e7838c767f 00 62:94:e7 0x838c767f\r\nb 0 0400 d1 80 5f0e0161 400161 21610162 31610162\n"
+# What tshark prints of a packet: the number of its connection, and the length and the payload of a HEADERS frame.
+PACKET = """<packet><field name="frame.time_relative" show="1"/><field name="ip.src" show="10.0.0.1"/>
+<field name="ip.dst" show="10.0.0.2"/><field name="udp.srcport" show="5000"/><field name="udp.dstport" show="443"/>
+<field name="quic.connection.number" show="{}"/><field name="quic.stream.stream_id" show="0"/>
+<field name="quic.stream_data" value="01{}"/></packet>"""
+
+
+def start(*words, text=None, **variables):
+    """Runs the script, with a text as its input, and returns its status, its output and its faults."""
+    ran = subprocess.run(
+        [sys.executable, str(TOP / "dist" / "qpk-report"), *map(str, words)],
+        input=None if text is None else text.encode("latin-1"),
+        stdout=subprocess.PIPE,
+        stderr=subprocess.PIPE,
+        env={**os.environ, "QPK": QPK, **variables},
+        check=False,
+    )
+    return ran.returncode, ran.stdout.decode(), ran.stderr.decode()
+
+
+def ask(*words, text=None, status=0, **variables):
+    """Returns the output of the script, which ends with a status and reports no fault."""
+    got, printed, faults = start(*words, text=text, **variables)
+    assert (got, faults) == (status, ""), (got, faults)
+    return printed
+
+
+def ask_json(*words, **options):
+    """Returns the objects that the script prints."""
+    return [json.loads(line) for line in ask(*words, "--json", **options).splitlines()]
+
+
+def refuse(*words, text="", **variables):
+    """Returns why the script gives no answer."""
+    status, printed, faults = start(*words, text=text, **variables)
+    assert (status, printed) == (1, ""), (status, printed)
+    return faults.rstrip().splitlines()[-1]
+
+
+def page_of(*words, **options):
+    """Returns a page, and its data."""
+    html = ask("report", *words, **options)
+    (data,) = re.findall(r'<script type="application/json" id="data">(.*?)</script>', html, re.S)
+    return html, json.loads(data)
+
+
+def check(found, **expected):
+    """Compares some members of an object."""
+    assert {name: found[name] for name in expected} == expected, found
+
+
+# ---- The recording with Chromium
+
+
+def words_of_recording(mark):
+    """Yields the words of the lines of an end, without time and mark."""
+    for line in RECORDING.read_text("utf-8").splitlines():
+        words = line.split()
+        if words[1] == mark:
+            yield words[2:]
+
+
+def sizes(mark):
+    """Returns how many bytes an end sent in lines of each kind."""
+    found = collections.Counter()
+    for kind, *rest in words_of_recording(mark):
+        found[kind] += 0 if kind == "s" else len(rest[-1]) // 2
+    return found
+
+
+def inspected(mark):
+    """Returns how often qpk inspect, another reader, prints each kind of line and instruction of an end's encoder."""
+    lines = ["\t".join((kind, rest[-1])) for kind, *rest in words_of_recording(mark) if kind in ("e", "b")]
+    text = "".join(f"{it}\n" for it in lines)
+    ran = subprocess.run([QPK, "inspect", "65536"], input=text, stdout=subprocess.PIPE, encoding="utf-8", check=True)
+    return collections.Counter(re.match(r"duplicate|[a-z]+ [a-z]+|[a-z]+", it)[0] for it in ran.stdout.splitlines())
+
+
+def test_numbers_of_chromium():
+    """The numbers are those of Chromium's log, of the bytes, and of qpk inspect."""
+    logged = json.loads((CAPTURED / "chromium.json").read_text("utf-8"))
+    for found, mark, other in zip(ask_json("stats", RECORDING), "><", "<>"):
+        lists = logged[found["from"]].values()
+        kinds, own, peer = inspected(mark), sizes(mark), sizes(other)
+        check(
+            found,
+            sections=len(lists),
+            sections_not_decoded=0,
+            fields=sum(map(len, lists)),
+            list_bytes=sum(len(field) - len(": ") for fields in lists for field in fields),
+            section_bytes=own["b"],
+            encoder_stream_bytes=own["e"],
+            decoder_stream_bytes=peer["d"],
+            insertions=sum(kinds[it] for it in ("insert static", "insert dynamic", "insert literal", "duplicate")),
+            duplicates=kinds["duplicate"],
+        )
+        check(found["hits"], static=kinds["indexed static"], literal=kinds["literal"])
+        assert found["hits"]["dynamic"] == kinds["indexed dynamic"] + kinds["postbase"]
+        assert sum(found["bytes_of_lists"]) == own["b"] + own["e"]
+        assert found["average_bytes"] == round((own["b"] + own["e"]) / len(lists), 3)
+
+
+def test_numbers_of_the_capture():
+    """A capture has the same numbers, after a line with its connection."""
+    if shutil.which("tshark"):
+        head, *found = ask_json("stats", CAPTURED / "chromium.pcapng")
+        assert head == {"connection": 0} and found == ask_json("stats", RECORDING)
+
+
+def test_connections():
+    """Each connection of a capture is counted, or the one that is named, and a page has all."""
+    text = f"<pdml>{PACKET.format(0, '030000d1')}{PACKET.format(5, '040000d1d1')}</pdml>"
+    with tempfile.TemporaryDirectory() as room:
+        path = Path(room) / "two.pdml"
+        path.write_text(text, "utf-8")
+        heads = ask_json("stats", "--pdml", path)
+        assert [it.get("connection", it.get("fields")) for it in heads] == [0, 1, 0, 5, 2, 0]
+        assert ask_json("stats", "--pdml", path, "--connection", 5) == heads[3:]
+        assert [len(it["events"][0]["lines"]) for it in page_of("--pdml", path)[1]["connections"]] == [1, 2]
+
+
+def test_tables_of_chromium():
+    """After each line both tables are those that qpk show --table prints."""
+    words = [QPK, "show", "--json", "--table", "-"]
+    shown = subprocess.run(words, input=RECORDING.read_bytes(), stdout=subprocess.PIPE, check=True)
+    tables = {"client": {"table": [], "size": 0, "capacity": 0}, "server": {"table": [], "size": 0, "capacity": 0}}
+    after = {}
+    for it in map(json.loads, shown.stdout.splitlines()):
+        if "table" in it:
+            tables[it["from"]] = it
+        after[it["line"]] = dict(tables)
+    for line in (2, 4, 6, 21, 46, 52, 54, 55):
+        for found in ask_json("table", RECORDING, "--at", line):
+            expected = after[line][found["from"]]
+            entries = [{name: value for name, value in it.items() if name != "draining"} for it in found["table"]]
+            assert entries == expected["table"], line
+            check(found, size=expected["size"], capacity=expected["capacity"])
+    assert ask_json("table", RECORDING, "--at", "end") == ask_json("table", RECORDING, "--at", 55)
+
+
+def test_the_life_of_an_entry():
+    """Entry 8 of the client is in its first section, names entry 16, and is evicted by entry 80."""
+    client, server = ask_json("table", RECORDING, "--entry", 8)
+    check(client, size=50, name="sec-fetch-site", value="none")
+    check(client["inserted"], line=4, encoder=301, bytes="6a4148b4a549275906497f83a8f517")
+    assert [(it["line"], it["section"], it["offset"]) for it in client["referenced_by"]] == [(5, 0, 13)]
+    assert [(it["line"], it["entry"]) for it in client["instructions"]] == [(10, 16)]
+    check(client["evicted"], line=54, entry=80)
+    check(server, name="x-a-22", evicted=None)
+    assert [server] == ask_json("table", RECORDING, "--entry", 8, "--from", "server")
+
+
+# ---- Small recordings, counted by hand
+
+
+def test_a_blocked_section():
+    """A section that waits is counted once, with the lines and the time that it waited."""
+    (found,) = ask_json("stats", "-", text=BLOCKED)
+    check(found, sections=1, fields=1, list_bytes=6, section_bytes=3, encoder_stream_bytes=10, bytes_of_lists=[13])
+    check(found, insertions=1, blocked_sections=1, blocked_lines=1, blocked_seconds=0.5, ratio=round(13 / 6, 4))
+    # Without a table it is 0000 2a94e7 03626172: a literal of 7 bytes after the prefix.
+    check(found, without_table_bytes=9, saved_bytes=9 - 13)
+    (waits,) = ask_json("stats", "-", text=BLOCKED.splitlines()[0])
+    check(waits, sections=0, sections_not_decoded=1, blocked_sections=1, bytes_of_lists=[], ratio=0.0)
+    (given_up,) = ask_json("stats", "-", text=BLOCKED.replace("\n", "\nc 4\n", 1))
+    check(given_up, sections=0, sections_not_decoded=1, insertions=1, never_referenced=1, encoder_stream_bytes=10)
+
+
+def test_both_directions():
+    """A decoder stream, SETTINGS and a stream that was given up are about the encoder of the other end."""
+    text = "< s 4096 1\n> b 4 028010\n< c 4\n> b 4 028010\n> e 3fe11f6294e7838c767f\n< d 84\n< b 0 0000d1\n"
+    client, server = ask_json("stats", "-", text=text)
+    check(client, sections=1, sections_not_decoded=1, blocked_sections=2, blocked_lines=1, decoder_stream_bytes=1)
+    check(server, sections=1, sections_not_decoded=0, blocked_sections=0, decoder_stream_bytes=0)
+    connection = page_of("-", text=text)[1]["connections"][0]
+    assert connection["directions"][0]["settings"] == "the decoder allows 4096 bytes and 1 blocked streams"
+    assert connection["directions"][1]["settings"] == ""
+    assert [it["direction"] for it in connection["events"]] == [0] * 8 + [1]
+
+
+def test_each_kind_of_line():
+    """Each kind of line, an entry that nothing references, a duplicate and an eviction are counted."""
+    (found,) = ask_json("stats", "-", text=EACH_KIND)
+    assert found["hits"] == {"static": 1, "dynamic": 1, "static_name": 1, "dynamic_name": 1, "literal": 2}
+    check(found, insertions=3, duplicates=1, evictions=1, never_referenced=1, section_bytes=19, encoder_stream_bytes=17)
+    check(found, fields=6, list_bytes=len(":methodGETfoobaracceptafooaabab"))
+    second, third = (ask_json("table", "-", "--entry", it, text=EACH_KIND)[0] for it in (2, 3))
+    assert not second["referenced_by"] and not second["instructions"]
+    assert [it["offset"] for it in third["referenced_by"]] == [3, 8]
+    text = ask("table", "-", "--entry", "1", text=EACH_KIND)
+    assert text.splitlines() == [
+        "entry 1, 38 bytes, foo: bar",
+        "  inserted: line 1: encoder 2: insert as entry 1; bytes 6294e7838c767f",
+        "  duplicated: line 1: encoder 9: duplicate 0 (entry 1) as entry 2",
+        "  evicted: line 1: encoder 10: insert as entry 3",
+    ]
+
+
+def test_draining():
+    """An entry drains from its last reference on, if it is evicted later."""
+    text = "e 3f2d 6294e7838c767f\nb 0 0200 80\ne 6294e7838c767f\ne 6294e7838c767f\n"
+    drain = []
+    for line in (1, 2, 3, 4):
+        (found,) = ask_json("table", "-", "--at", line, text=text)
+        drain.append([(it["entry"], it["draining"]) for it in found["table"]])
+    assert drain == [[(1, False)], [(1, True)], [(2, False), (1, True)], [(3, False), (2, False)]]
+
+
+def test_the_bytes_of_the_page():
+    """Each instruction and each line has its bytes: it ends where the next begins."""
+    _, data = page_of("-", text=EACH_KIND)
+    *instructions, section = data["connections"][0]["events"]
+    assert [it["hex"] for it in instructions] == ["3f2d", "6294e7838c767f", "00", "6294e7838c767f"]
+    assert section["hex"] == "0400"
+    assert [it["hex"] for it in section["lines"]] == ["d1", "80", "5f0e0161", "400161", "21610162", "31610162"]
+    hows = ["static", "dynamic", "static-name", "dynamic-name", "literal", "literal"]
+    assert [it["how"] for it in section["lines"]] == hows
+    assert section["lines"][4]["form"] == "literal" and section["lines"][5]["form"] == "literal never indexed"
+
+
+def test_text():
+    """The text has a row for each number, and a block for each list, which is ASCII where blocks can't be printed."""
+    text = ask("stats", "-", text=EACH_KIND, PYTHONIOENCODING="utf-8")
+    assert "  evictions               1\n" in text and "  bytes a list, in order  █ 36 to 36\n" in text
+    assert "# 36 to 36" in ask("stats", "-", text=EACH_KIND, PYTHONIOENCODING="ascii")
+    table = ask_json("table", "-", "--at", "end", text="e 3fe11f 41e9 02c3a9\n", PYTHONIOENCODING="ascii")
+    assert [(it["name"], it["value"]) for it in table[0]["table"]] == [({"hex": "e9"}, "\xe9")]
+    lists = "b 0 0000d1\nb 4 0000d1d1d1d1d1d1\nb 8 0000\n"
+    assert "  bytes a list, in order  ▄█▃ 2 to 8\n" in ask("stats", "-", text=lists, PYTHONIOENCODING="utf-8")
+    assert ask("table", "-", "--at", "1", text=EACH_KIND).splitlines() == [
+        "entries 2, 76 of 76 bytes, evicted 1",
+        "  entry 3, 38 bytes, foo: bar",
+        "  entry 2, 38 bytes, foo: bar",
+    ]
+
+
+def test_a_recording_of_the_interop():
+    """A recording of records is read with --qif, and its lines are its records."""
+    lists = b":method\tGET\nfoo\tbar\n\nfoo\tbar\n\n"
+    words = [QPK, "encode", "--qif", "4096", "100", "1"]
+    records = subprocess.run(words, input=lists, stdout=subprocess.PIPE, check=True).stdout.decode("latin-1")
+    (found,) = ask_json("stats", "-", "--qif", text=records)
+    check(found, sections=2, fields=3, insertions=1, list_bytes=22, encoder_stream_bytes=10)
+    (life,) = ask_json("table", "-", "--qif", "--entry", 1, text=records)
+    assert [it["line"] for it in life["referenced_by"]] == [3, 4]
+
+
+# ---- The lists again, by the library
+
+
+def test_other_capacities():
+    """The library takes at capacity 0 what is counted without a table, and less with one."""
+    library = Path(BUILT.name) / "libh3_qpack.so.0"
+    if library.exists():
+        for found in ask_json("stats", RECORDING, "--try", "0,4096", H3_QPACK_LIBRARY=str(library)):
+            plain, usual = found["tried"]
+            check(plain, capacity=0, encoder_stream_bytes=0, bytes=found["without_table_bytes"])
+            assert usual["bytes"] == usual["section_bytes"] + usual["encoder_stream_bytes"] < plain["bytes"] / 2
+    assert "run `make -C " in refuse("stats", RECORDING, "--try", "0", H3_QPACK_LIBRARY="/nonexistent")
+
+
+# ---- What is refused, and what is wrong
+
+
+def test_statuses():
+    """Words and input that are refused end with status 1 and a reason; a recording with a fault with 2."""
+    assert refuse("stats", "-", text="x 1\n") == 'qpk stats: line 1: "x" is not one of e, d, b, c and s'
+    assert refuse("stats", "/nonexistent") == "qpk stats: /nonexistent is not a file that can be read"
+    assert refuse("stats", "-", QPK="/nonexistent").startswith("qpk stats: /nonexistent can't be run")
+    assert refuse("stats", "-", "--max-capacity", "x") == 'qpk: argument --max-capacity: "x" is not a whole number'
+    assert refuse("stats") == "qpk: FILE is missing"
+    assert refuse("stats", "-", "--table") == 'qpk: "--table" is not an option here'
+    assert refuse("report", "-", "more") == 'qpk: "more" is one word too many'
+    assert refuse("table", "-") == "qpk: --at or --entry is missing"
+    assert refuse("table", "-", "--entry", "2", text=BLOCKED) == "qpk table: there is no entry 2: the last one is 1"
+    assert refuse("table", "-", "--at", "1", "--from", "client", text=BLOCKED).endswith("leave --from out")
+    assert refuse("report", "-", "-o", "/nonexistent/page", text=BLOCKED).startswith("qpk report: ")
+    for command in ("report", "stats", "table"):
+        assert ask(command, "--help").startswith(f"usage: qpk {command} ")
+    ask("stats", "-", text="e ff\n" + "e 80\n" * 3, status=0)  # cut at its end
+    (found,) = ask_json("stats", "-", text="b 0 0000d1ff\nb 4 0000d1\n", status=2)
+    check(found, sections=1, sections_not_decoded=1, section_bytes=3)
+
+
+def test_a_fault_is_marked():
+    """A fault of a section and one of the encoder stream are at their events, with what check says of them."""
+    _, data = page_of("-", text="e 3fe11f\nb 0 0000d1ff\ne 6294e7838c767f 8500\n", status=2)
+    connection = data["connections"][0]
+    of_section, of_stream = connection["faults"]
+    check(of_section, line=2, rfc9204="4.1.1", code=0x200)
+    check(of_stream, line=3, rfc9204="2.2.3", code=0x201)
+    assert connection["events"][of_section["event"]]["title"].startswith("section 0:")
+    assert connection["events"][of_section["event"]]["rest"] == "ff"
+    assert connection["events"][of_stream["event"]]["title"].startswith("encoder 10:")
+    assert connection["events"][of_stream["event"]]["hex"] == "8500"
+    assert not page_of("-", text=EACH_KIND)[1]["connections"][0]["faults"]
+
+
+def test_no_field_ends_the_page():
+    """A field, a time and the name of a file that have signs of HTML are data, and come back."""
+    value = b'</script><script>alert(1)</script>&lt;\\\xff\0<!--'
+    text = f"@</script> b 0 0000 2161{len(value):02x} {value.hex()}\n"
+    with tempfile.TemporaryDirectory() as room:
+        path = os.path.join(room.encode(), b"<b>&\xff.txt")
+        Path(os.fsdecode(path)).write_text(text, "utf-8")
+        html, data = page_of(os.fsdecode(path))
+    assert html.count("<script") == html.count("</script>") == 2 and "<b>" not in html and "<!--" not in html
+    assert "<title>QPACK of &lt;b&gt;&amp;?.txt</title>" in html
+    event = data["connections"][0]["events"][0]
+    assert event["lines"][0]["field"] == r"a: </script><script>alert(1)</script>&lt;\\\xff\x00<!--"
+    assert event["time"] == "</script>"
+
+
+def attempt(test):
+    """Runs a test, and returns why it failed, or nothing."""
+    try:
+        test()
+        return None
+    except Exception:  # pylint: disable=broad-except # a test may fail in any way
+        return f"{test.__name__}:\n{traceback.format_exc()}"
+
+
+def main():
+    """Runs all tests, three at once: most of their time programs are started."""
+    if QPK.startswith(BUILT.name):
+        subprocess.run(["make", "-s", "-C", str(TOP / "dist"), f"BUILD={BUILT.name}"], check=True)
+    tests = [test for name, test in sorted(globals().items()) if name.startswith("test_")]
+    with ThreadPoolExecutor(3) as pool:
+        faults = [it for it in pool.map(attempt, tests) if it]
+    print(*faults, sep="\n", end="")
+    print(f"report: {len(tests) - len(faults)} tests of dist/qpk-report passed, {len(faults)} failed")
+    return 1 if faults else 0
+
+
+if __name__ == "__main__":
+    sys.exit(main())
