@@ -1,12 +1,10 @@
 -- The table of the codes that twelve bits begin with, tested entry by entry against the table of codes.
 use Rattle.std.proofs.Common.{◌≡◌, ℕ, zero, suc, ◌+◌, ◌*◌, ◌-◌, ◌/◌, ◌%◌, ◌^◌, ◌<◌, ◌≤◌, Bool, true, ◌&&◌, List, [], ◌∷◌}
-use Rattle.std.proofs.Common.{◌++◌, refl, sym, ap, subst, ◌∙◌, arith}
+use Rattle.std.proofs.Common.{◌++◌, refl, sym, ap, subst, ◌∙◌, arith, pow-add, eqb-true, get_or-drop}
 use Rattle.std.specs.Prelude.{nat_le, ◌==◌, slice_index_or, take, drop, length}
-use Rattle.std.proofs.Common.{eqb-true, get_or-drop}
 use Rattle.std.proofs.lemmas.Bool.{leb-true, and_parts}
 use Rattle.std.proofs.lemmas.Nat.{mod_below, mul-add-lt}
 use Rattle.std.proofs.lemmas.List.Concat.{flat_map-cons}
-use Rattle.std.proofs.Common.{pow-add}
 use Rattle.qpack_spec.specs.Huffman.{AreBytes, bits_of, bits_of_text, code_of}
 use Rattle.qpack_spec.proofs.Bits.{bits_push}
 use Rattle.qpack_base.specs.HuffmanTables.{AreCodes, ArePairs, BeginsWithCodes, pair_bits, pair_bytes}

@@ -13,7 +13,7 @@ use crate::prefix_string::decoding_tables::short_codes;
 use crate::prefix_string::pair_table::pairs;
 use std::alloc::Allocator;
 
-/// How many bits `pairs` goes by.
+/// How many bits a look into `pairs` takes.
 const WINDOW: u32 = 12;
 
 /// The bits of a payload that are still to be read: the highest `count` bits of `loaded`, and then those of `rest`.
@@ -31,8 +31,8 @@ struct Code {
     bits: u32,
 }
 
-/// Codes that follow each other, one or two: their bytes, of which the second is of no meaning if there is one code,
-/// how many they are, and how many bits they have together.
+/// One code, or two that follow each other: their bytes, how many codes there are, and how many bits they have together.
+/// If there is one, `second` has no meaning.
 #[derive(Clone, Copy)]
 struct Codes {
     first: u8,
@@ -182,16 +182,17 @@ fn codes_of(entry: u32) -> Codes
     ensures bytes { bytes_of_codes result ≡ pair_bytes entry }
     ensures bits { result.bits ≡ pair_bits entry }
 {
+    let [bits, count, first, second] = entry.to_le_bytes();
     Codes {
-        first: (entry / 0x1_0000 % 0x100) as u8,
-        second: (entry / 0x100_0000) as u8,
-        count: (entry / 0x100 % 0x100) as u8,
-        bits: entry % 0x100,
+        first,
+        second,
+        count,
+        bits: u32::from(bits),
     }
 }
 
-/// Appends the bytes of the codes. Both are pushed, and the second is cut off again where there is one code, since a
-/// branch would be taken at random.
+/// Appends the bytes of the codes. Pushes both, and then cuts the second off if there is one code, so that no branch
+/// depends on the payload.
 #[inline(always)]
 fn push_both<A: Allocator>(text: &mut Vec<u8, A>, codes: Codes)
     requires { vec_len text.old + 2 ≤ vec_capacity text.old }
@@ -205,8 +206,8 @@ fn push_both<A: Allocator>(text: &mut Vec<u8, A>, codes: Codes)
     text.truncate(start + usize::from(codes.count));
 }
 
-/// Appends the bytes of the codes that the next twelve bits begin with, and passes them. Does nothing where fewer bits
-/// are loaded, or they begin with a longer code.
+/// Appends the bytes of the codes that the next twelve bits begin with. Returns what is ahead after them. If fewer bits
+/// are loaded, or they begin with a longer code, returns `None`, and the text is as before.
 #[inline(always)]
 fn push_pair<'a, A: Allocator>(ahead: Ahead<'a>, text: &mut Vec<u8, A>) -> Option<Ahead<'a>>
     requires ahead { IsAhead ahead }
@@ -218,7 +219,8 @@ fn push_pair<'a, A: Allocator>(ahead: Ahead<'a>, text: &mut Vec<u8, A>) -> Optio
     Some(ahead.pass(codes.bits))
 }
 
-/// Appends the byte of the code that comes next, and passes it. Does nothing where no whole code is loaded.
+/// Appends the byte of the code that comes next. Returns what is ahead after it. If no whole code is loaded, returns
+/// `None`, and the text is as before.
 #[inline(always)]
 fn push_code<'a, A: Allocator>(ahead: Ahead<'a>, text: &mut Vec<u8, A>) -> Option<Ahead<'a>>
     requires ahead { IsAhead ahead }
@@ -230,8 +232,8 @@ fn push_code<'a, A: Allocator>(ahead: Ahead<'a>, text: &mut Vec<u8, A>) -> Optio
     Some(ahead.pass(code.bits))
 }
 
-/// Appends the bytes of the codes that come next, of up to four, and passes them. Does nothing where no whole code is
-/// loaded.
+/// Appends the bytes of the codes that come next, up to four. Returns what is ahead after them. If no whole code is
+/// loaded, returns `None`, and the text is as before.
 #[inline(always)]
 fn push_next<'a, A: Allocator>(ahead: Ahead<'a>, text: &mut Vec<u8, A>) -> Option<Ahead<'a>>
     requires ahead { IsAhead ahead }
