@@ -298,8 +298,8 @@ pub extern "C" fn h3q_decoder_blocked(handle: &mut Handle) -> usize
     blocked
 }
 
-/// Stores a blocked stream whose section can now be decoded, if there is one, and returns whether there is. If there
-/// are several, it is the one that waited for the fewest insertions.
+/// Stores a blocked stream whose section can now be decoded, and returns 1; or returns 0 if there is none. If there are
+/// several, it is the one that waited for the fewest insertions.
 #[unsafe(no_mangle)]
 pub extern "C" fn h3q_decoder_next_ready(handle: &mut Handle, stream: &mut u64) -> u32
     ensures same { handle.new.value ≡ handle.old.value }

@@ -1,5 +1,5 @@
--- What a call does with a stream's instructions, the same at both ends, whose errors alone differ (RFC 9204,
--- sections 4.3 and 4.4).
+-- What a call does with a stream's instructions, at both ends alike; only their errors differ (RFC 9204, sections 4.3
+-- and 4.4).
 use Rattle.std.specs.Prelude.{◌≡◌, ℕ, ⊤, Bool, true, false, List, ◌++◌, Option, Result, Ok, Err}
 use Rattle.qpack_spec.specs.Form.{Form, Spells, Truncates}
 use Rattle.qpack_spec.specs.Table.{Table}

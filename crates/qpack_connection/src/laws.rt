@@ -46,10 +46,10 @@ pub fn connections_are_sessions()
 {}
 
 /// The theorem of two ends, over calls and their results (RFC 9204, sections 2.1.2, 2.2, 3.2, 4.2 to 4.5 and 7.1.3). It
-/// is of a new connection, any sections with any marks, any capacities and cancellations, any cuts of both streams, and
-/// any refusals of memory. Neither end refuses what the other sent. Each section is decoded to exactly the fields that
-/// were passed to its encode, with their marks, or waits for as many insertions as that encode returned, while fewer
-/// were received. No more streams are blocked than may be.
+/// holds for a new connection, any sections with any marks, any capacities and cancellations, any cuts of both streams,
+/// and any refusals of memory. Neither end refuses what the other sent. Each section is decoded to exactly the fields
+/// that were passed to its encode, with their marks, or waits for as many insertions as that encode returned, while
+/// fewer were received. No more streams are blocked than may be.
 pub fn two_ends_answer_what_was_handed()
     ensures { TwoEndsAnswerWhatWasHanded }
 {}

@@ -226,8 +226,8 @@ impl Model for ConnectionEncoder {
 }
 
 impl ConnectionEncoder {
-    /// Returns an encoding end for a peer that sent these settings. Its table has capacity 0 until the first section,
-    /// before which it announces another (RFC 9204, section 3.2.3). Takes no memory.
+    /// Returns an encoding end for a peer that sent these settings. Its table has capacity 0 until it announces
+    /// another, which it does before the first section (RFC 9204, section 3.2.3). Takes no memory.
     ///
     /// # Errors
     ///

@@ -84,7 +84,7 @@ insertion_or_literal base d f =
     if below_limit d.table
     && has_room d.table f then with_new_entry base d f else literal base d f (static_name_index f.name)
 
--- the newest equal entry, if it stood at the block's start and may be referenced
+-- the newest equal entry, if it was live at the block's start and may be referenced
 abbrev pub by_entry : ℕ → Draft → Field → Option ℕ → Draft
 by_entry base d f (Some a) =
     if nat_le a base && may_reference d.table a

@@ -1,4 +1,4 @@
--- What an end makes of a stream's instructions, the same of both ends (RFC 9204, sections 4.3 and 4.4).
+-- What an end makes of a stream's instructions, at both ends alike (RFC 9204, sections 4.3 and 4.4).
 use Rattle.std.specs.Prelude.{◌≡◌, ℕ, List, [], ◌∷◌, ◌++◌, Option, Result, Ok}
 use Rattle.qpack_spec.specs.Bytes.{◌>>=◌}
 use Rattle.qpack_spec.specs.Form.{Form, Spells}
