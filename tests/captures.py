@@ -27,6 +27,7 @@ SETTINGS = "00 04 05 01 50 00 07 10"  # a control stream: capacity 4096, and 16 
 def load():
     """Returns the script as a module."""
     sys.dont_write_bytecode = True
+    sys.path.insert(0, str(TOP / "dist"))
     loader = importlib.machinery.SourceFileLoader("qpk_capture", str(TOP / "dist" / "qpk-capture"))
     module = importlib.util.module_from_spec(importlib.util.spec_from_loader(loader.name, loader))
     sys.modules[loader.name] = module
@@ -120,7 +121,7 @@ def test_what_is_missing_is_reported():
     """A stream ends at bytes that the capture does not contain."""
     (connection,) = connections(packet("1", CLIENT, SERVER, (6, 0, "02 3f"), (6, 4, "62 94")))
     assert connection.lines == ["@1 > e 3f"]
-    assert list(connection.gaps()) == ["> stream 6: bytes from 2 to 4 are not in the capture"]
+    assert connection.missing == ["> stream 6: bytes from 2 to 4 are missing"]
 
 
 def test_connections():
@@ -130,7 +131,7 @@ def test_connections():
         packet("2", SERVER, CLIENT, (7, 0, "02 20"), connection=5),
         packet("3", CLIENT, SERVER, (2, 0, SETTINGS), connection=5),
     )
-    assert (first.number, first.client, first.server) == (0, CLIENT, SERVER)
+    assert (first.number, first.about) == (0, {"client": "10.0.0.1:50000", "server": "10.0.0.2:443"})
     assert second.name() == "connection 5, 10.0.0.1:50000 > 10.0.0.2:443"
     assert second.lines == ["@2 < e 20", "@3 > s 4096 16"]
 
@@ -139,7 +140,7 @@ def test_a_frame_that_ends_within_an_integer_is_refused():
     """SETTINGS that are cut are named."""
     try:
         lines(packet("1", SERVER, CLIENT, (3, 0, "00 04 01 41")))
-    except capture.CaptureError as error:
+    except capture.SourceError as error:
         assert str(error) == "stream 3 has a frame of type 4 that ends within an integer"
     else:
         raise AssertionError("it was read")

@@ -1,7 +1,7 @@
 #!/bin/sh
 # Holds what ./qpk answers against what is written below: tests/launcher.sh [KIND..]. The kinds are
 #   generated  the program of dist/, in a copy without rt, a build or a proof; ten seconds
-#   unproved   a build by rt try, in a copy without dist/; ten minutes, since each call compiles it
+#   unproved   a build by rt try, in a copy without dist/SUMS; ten minutes, since each call compiles it
 #   proved     the proved program, if it is built here
 # Without a kind all are tried. Those that are tried are compared with each other.
 # shellcheck disable=SC2317 # the cases are called by their names
@@ -201,7 +201,7 @@ try_generated() {
 
 try_unproved() {
     copy unproved
-    rm -r "$room/unproved/dist"
+    rm "$room/unproved/dist/SUMS"
     kind=unproved qpk=$room/unproved/qpk
     try_all
     try_too_much

@@ -1,0 +1,438 @@
+"""Traces in qlog: QPACK's bytes in them as lines of a recording, and a trace of what qpk shows. qpk-capture reads it.
+
+A trace is read as JSON, or as JSON-SEQ, whose records begin with the byte 1e or are a line each. These events are read, of
+draft-ietf-quic-qlog-main-schema, -quic-events and -h3-events, and of their forerunners draft-marx-qlog-main-schema and
+draft-marx-qlog-event-definitions-quic-h3:
+
+    qpack:instruction_created, instruction_parsed (instruction_sent, instruction_received)    instruction, raw
+    qpack:headers_encoded, headers_decoded                                                    stream_id, raw
+    http3:frame_created, frame_parsed (h3, http)                                              stream_id, frame, raw
+    http3:parameters_set (h3, http)                                                           initiator or owner, the limits
+    quic:stream_data_moved (transport; data_moved)                           stream_id, offset, from, to, raw or data
+
+raw is hexadecimal, or an object whose data is. Bytes that are cut are left out.
+"""
+
+import json
+import re
+from dataclasses import dataclass, field
+from typing import Dict, Iterable, Iterator, List, Optional, Tuple
+
+from qpk_streams import (
+    BLOCKED_STREAMS, HEADERS, MAX_TABLE_CAPACITY, PUSH_PROMISE, SETTINGS, Connection, NotWhole, SourceError, Streams, read_integer,
+)
+
+SEPARATOR = "\x1e"
+# Older names of categories and events.
+CATEGORIES = {"h3": "http3", "http": "http3", "transport": "quic"}
+EVENTS = {
+    "instruction_sent": "instruction_created", "instruction_received": "instruction_parsed", "data_moved": "stream_data_moved",
+}
+# What this end did, of the events in pairs. In the others the peer did it.
+OWN = ("instruction_created", "headers_encoded", "frame_created")
+DECODER_INSTRUCTIONS = ("section_ack", "header_ack", "stream_cancellation", "insert_count_increment")
+ENCODER_INSTRUCTIONS = ("set_dynamic_table_capacity", "insert_with", "duplicate")
+FRAMES = {"headers": HEADERS, "push_promise": PUSH_PROMISE, "settings": SETTINGS}
+# Sources of bytes, the best first: an event of the bytes themselves, and of streams what they carry.
+SOURCES = {"e": ("instruction", "stream"), "d": ("instruction", "stream"), "b": ("frame", "section", "stream")}
+CAPACITY_NAMES = ("settings_qpack_max_table_capacity", "qpack_max_table_capacity", "max_table_capacity")
+BLOCKED_NAMES = ("settings_qpack_blocked_streams", "qpack_blocked_streams", "blocked_streams_count")
+
+
+# ---- Files
+
+
+def is_trace(head: bytes) -> bool:
+    """Whether a file that begins with these bytes may be a trace."""
+    return head.lstrip()[:1] in (b"{", SEPARATOR.encode())
+
+
+def read_records(text: str) -> List[dict]:
+    """Returns the objects of a file: one, or one a record. A last record that is cut is left out."""
+    separator = SEPARATOR if text.lstrip(" \t\r\n").startswith(SEPARATOR) else "\n"
+    try:
+        return [json.loads(text)]
+    except ValueError:
+        pass
+    texts = [it for it in text.split(separator) if it.strip()]
+    records = []
+    for number, it in enumerate(texts, 1):
+        try:
+            records.append(json.loads(it))
+        except ValueError as error:
+            if number == 1 or number < len(texts):
+                raise SourceError(f"record {number} of the trace is no JSON: {error}") from None
+    return records
+
+
+def read_traces(text: str) -> List[dict]:
+    """Returns the traces of a file, each with its events."""
+    first, *events = read_records(text)
+    if "traces" in first:
+        return [it for it in first["traces"] if "events" in it]
+    trace = first.get("trace", {})
+    if "events" in trace:
+        return [trace]
+    return [{**trace, "title": first.get("title", trace.get("title")), "events": events}]
+
+
+# ---- Events
+
+
+@dataclass
+class Event:
+    """An event: when it was, in seconds since the first one, its group, its name and its data."""
+
+    time: float
+    group: str
+    name: str
+    data: dict
+
+
+def events_of(trace: dict) -> Iterator[Event]:
+    """Yields the events of a trace."""
+    common = trace.get("common_fields", {})
+    names = [it.lower() for it in trace.get("event_fields", [])]
+    unit = 1e-6 if trace.get("configuration", {}).get("time_units") == "us" else 1e-3
+    first, before = None, 0.0
+    for record in trace["events"]:
+        it = dict(zip(names, record)) if isinstance(record, list) else record
+        time = float(it.get("time", it.get("relative_time", it.get("delta_time", 0))))
+        form = str(it.get("time_format", common.get("time_format", "relative" if "relative_time" in it else "absolute")))
+        if form in ("delta", "relative_to_previous_event") or "delta_time" in it:
+            time += before
+        before = time
+        if first is None:
+            first = 0.0 if "delta_time" in it or form.startswith(("relative", "delta")) and form != "relative_to_epoch" else time
+        category, _, kind = str(it.get("name", "")).rpartition(":")
+        category = str(category or it.get("category", "")).lower()
+        kind = str(kind or it.get("event", it.get("event_type", it.get("type", "")))).lower()
+        group = it.get("group_id", common.get("group_id", it.get("odcid", common.get("odcid", ""))))
+        name = f"{CATEGORIES.get(category, category)}:{EVENTS.get(kind, kind)}"
+        yield Event((time - first) * unit, str(group), name, it.get("data") or {})
+
+
+def bytes_of(*places: object) -> Optional[bytes]:
+    """Returns the bytes of the first of these values that has them whole: hexadecimal, or an object whose data is."""
+    for it in places:
+        size = it.get("length", it.get("payload_length")) if isinstance(it, dict) else None
+        digits = it.get("data") if isinstance(it, dict) else it
+        if isinstance(digits, str):
+            data = bytes.fromhex(digits[2:] if digits[:2] in ("0x", "0X") else digits)
+            if size is None or len(data) >= int(size):
+                return data
+    return None
+
+
+def payload_of(kind: int, data: bytes) -> bytes:
+    """Returns the payload of a frame of a type, whose bytes may be the whole frame or the payload alone."""
+    try:
+        found, at = read_integer(data, 0)
+        size, at = read_integer(data, at)
+        if found == kind and size == len(data) - at:
+            data = data[at:]
+        return data[read_integer(data, 0)[1] :] if kind == PUSH_PROMISE else data
+    except NotWhole:
+        return data
+
+
+def limits_of(values: Dict[str, object]) -> Optional[Tuple[int, int]]:
+    """Returns the two limits among settings by their names, or none if neither is there."""
+    found = [next((values[it] for it in names if it in values), None) for names in (CAPACITY_NAMES, BLOCKED_NAMES)]
+    if found == [None, None]:
+        return None
+    return int(found[0] or 0), int(found[1] or 0)  # type: ignore[call-overload]
+
+
+# ---- Lines
+
+
+@dataclass
+class Reader:
+    """Reads the events of one connection from the side of one end."""
+
+    own: str  # the mark of this end
+    streams: Streams = field(default_factory=Streams)
+    found: List[Tuple[float, str, str, str]] = field(default_factory=list)  # time, mark, words, source
+    without_bytes: int = 0
+
+    def read(self, event: Event) -> None:
+        """Reads an event, if it is one of those with bytes or limits."""
+        category, _, kind = event.name.partition(":")
+        mark = self.own if kind in OWN else self.peer()
+        if kind in ("instruction_created", "instruction_parsed") and category == "qpack":
+            self.read_instruction(event, mark)
+        elif kind in ("headers_encoded", "headers_decoded") and category == "qpack":
+            self.add(event, mark, "section", f"b {event.data.get('stream_id')}", bytes_of(event.data.get("raw")))
+        elif kind in ("frame_created", "frame_parsed") and category == "http3":
+            self.read_frame(event, mark)
+        elif kind == "parameters_set" and category == "http3":
+            is_peer = event.data.get("initiator", event.data.get("owner")) == "remote"
+            self.add_limits(event, self.peer() if is_peer else self.own, limits_of(event.data))
+        elif kind == "stream_data_moved" and category in ("quic", "http3"):
+            self.read_stream(event)
+
+    def peer(self) -> str:
+        """Returns the mark of the other end."""
+        return "<" if self.own == ">" else ">"
+
+    def add(self, event: Event, mark: str, source: str, words: str, data: Optional[bytes]) -> None:
+        """Adds a line with bytes, or counts an event that has none."""
+        if data is None:
+            self.without_bytes += 1
+        else:
+            self.found.append((event.time, mark, f"{words} {data.hex()}", source))
+
+    def add_limits(self, event: Event, mark: str, limits: Optional[Tuple[int, int]]) -> None:
+        """Adds a line of SETTINGS. An end sends them once."""
+        if limits and not any(it[1] == mark and it[2].startswith("s ") for it in self.found):
+            self.found.append((event.time, mark, f"s {limits[0]} {limits[1]}", "settings"))
+
+    def read_instruction(self, event: Event, mark: str) -> None:
+        """Reads an instruction, whose type says on which stream it is."""
+        kind = str(event.data.get("instruction", {}).get("instruction_type", "")).lower()
+        raw = bytes_of(event.data.get("raw"), event.data.get("instruction", {}).get("raw"))
+        if kind.startswith(ENCODER_INSTRUCTIONS):
+            self.add(event, mark, "instruction", "e", raw)
+        elif kind.startswith(DECODER_INSTRUCTIONS):
+            self.add(event, mark, "instruction", "d", raw)
+
+    def read_frame(self, event: Event, mark: str) -> None:
+        """Reads a frame that has a section, or SETTINGS."""
+        frame = event.data.get("frame", {})
+        kind = FRAMES.get(str(frame.get("frame_type", "")).lower())
+        if kind == SETTINGS:
+            values = {str(it.get("name", it.get("name_bytes"))).lower(): it.get("value") for it in frame.get("settings", [])}
+            for number, names in ((MAX_TABLE_CAPACITY, CAPACITY_NAMES), (BLOCKED_STREAMS, BLOCKED_NAMES)):
+                values.setdefault(names[0], values.get(str(number), values.get(names[1])))
+            self.add_limits(event, mark, limits_of({name: it for name, it in values.items() if it is not None}) or (0, 0))
+        elif kind is not None:
+            raw = bytes_of(frame.get("raw"), event.data.get("raw"))
+            section = None if raw is None else payload_of(kind, raw)
+            self.add(event, mark, "frame", f"b {event.data.get('stream_id')}", section)
+
+    def read_stream(self, event: Event) -> None:
+        """Reads bytes of a stream, which may have been moved more than once."""
+        it = event.data
+        is_received = it.get("from") == "network" or it.get("to") in ("application", "user")
+        mark = self.peer() if is_received else self.own
+        raw = bytes_of(it.get("raw"), it.get("data"))
+        if raw is None or it.get("stream_id") is None:
+            self.without_bytes += 1
+            return
+        for words in self.streams.take(mark, int(it["stream_id"]), int(it.get("offset", 0)), raw):
+            if words.startswith("s "):
+                self.add_limits(event, mark, (int(words.split()[1]), int(words.split()[2])))
+            else:
+                self.found.append((event.time, mark, words, "stream"))
+
+    def lines(self) -> List[str]:
+        """Returns the lines: of bytes that come from more than one source, those of the best."""
+        there = {(mark, words[0], source) for _, mark, words, source in self.found}
+        kept = []
+        for time, mark, words, source in self.found:
+            best = next((it for it in SOURCES.get(words[0], ()) if (mark, words[0], it) in there), source)
+            if source == best:
+                kept.append(f"@{time:.6f} {mark} {words}")
+        return kept
+
+
+def mark_of(trace: dict) -> str:
+    """Returns the mark of the end from whose side a trace was made, or which sent what a trace of the network calls sent."""
+    point = trace.get("vantage_point", {})
+    point = point if isinstance(point, dict) else {"type": point}
+    return "<" if "server" in (point.get("type"), point.get("flow")) else ">"
+
+
+def connections_of(text: str) -> List[Connection]:
+    """Returns the connections of a file of traces."""
+    connections = []
+    for trace in read_traces(text):
+        readers: Dict[str, Reader] = {}
+        for event in events_of(trace):
+            readers.setdefault(event.group, Reader(mark_of(trace))).read(event)
+        for group, reader in readers.items():
+            about = {"trace": ", ".join(str(it) for it in (trace.get("title") or "a trace", group) if it)}
+            missing = list(reader.streams.gaps())
+            if reader.without_bytes:
+                missing.append(f"events without their bytes, which are left out: {reader.without_bytes}")
+            if reader.found or missing:
+                connections.append(Connection(len(connections), about, reader.lines(), missing))
+    return connections
+
+
+# ---- A trace of what qpk shows
+
+
+def bytes_of_line(text: str) -> Tuple[str, str, bytes]:
+    """Returns the mark of a line of a recording, what it is, and its bytes."""
+    words = text.split()
+    if words and words[0].startswith("@"):
+        words.pop(0)
+    mark = words[0][0] if words and words[0][0] in "<>" else ""
+    if words and mark:
+        words[0] = words[0][1:]
+    words = [it for it in words if it]
+    if not words or words[0] not in ("e", "d", "b"):
+        return mark, "", b""
+    digits = "".join(re.sub("^0[xX]", "", it).replace(":", "") for it in words[2 if words[0] == "b" else 1 :])
+    return mark, words[0], bytes.fromhex(digits[: len(digits) // 2 * 2])
+
+
+def named(it: dict) -> dict:
+    """Returns the name and the value of an object of qpk as those of a field."""
+    return {
+        (key if isinstance(it[key], str) else f"{key}_bytes"): (it[key] if isinstance(it[key], str) else it[key]["hex"])
+        for key in ("name", "value") if key in it
+    }
+
+
+def instruction_of(it: dict) -> Optional[dict]:
+    """Returns an instruction of qpk in the terms of a trace, or none for bytes that are no instruction."""
+    kind, source = it.get("instruction"), it.get("name_from", {})
+    if kind == "insert":
+        if source.get("type") == "literal":
+            return {"instruction_type": "insert_without_name_reference", **named(it)}
+        reference = {"table_type": source.get("type"), "name_index": source.get("index")}
+        return {"instruction_type": "insert_with_name_reference", **reference, **named(it)}
+    if kind == "duplicate":
+        return {"instruction_type": "duplicate", "index": it.get("of", {}).get("index")}
+    kinds = {
+        "set capacity": ("set_dynamic_table_capacity", "capacity", "capacity"),
+        "acknowledge": ("section_acknowledgement", "stream_id", "stream"),
+        "cancel": ("stream_cancellation", "stream_id", "stream"),
+        "increment": ("insert_count_increment", "increment", "by"),
+    }
+    if kind not in kinds:
+        return None
+    name, key, member = kinds[kind]
+    return {"instruction_type": name, key: it[member]}
+
+
+def line_of(it: dict) -> dict:
+    """Returns a field line of qpk in the terms of a trace."""
+    form = it["form"]
+    is_literal = form["type"] == "literal"
+    source = form.get("name_from", {}) if is_literal else form
+    table = {"table_type": "static" if source.get("type") == "static" else "dynamic"}
+    post_base = {"is_post_base": True} if source.get("type") == "post-base" else {}
+    if not is_literal:
+        return {"header_field_type": "indexed_header", **table, "index": form["index"], **post_base}
+    literal = {"preserve_literal": bool(form.get("never_indexed"))}
+    if "index" not in source:
+        return {"header_field_type": "literal_without_name", **literal, **named(it)}
+    value = {key: it for key, it in named(it).items() if key.startswith("value")}
+    return {"header_field_type": "literal_with_name", **literal, **table, "name_index": source["index"], **value, **post_base}
+
+
+def raw_of(data: bytes) -> dict:
+    """Returns bytes as events have them."""
+    return {"length": len(data), "data": data.hex()}
+
+
+class Writer:
+    """Makes events of what qpk shows of a recording. The side is that of the client, or of the encoder without marks."""
+
+    def __init__(self, lines: List[str], objects: List[dict]) -> None:
+        self.objects = objects
+        self.sections: Dict[int, bytes] = {}  # by their line
+        self.sent: Dict[Tuple[str, str], bytearray] = {}  # the bytes of each stream of instructions, by its mark
+        self.waiting: Dict[Tuple[str, int], List[int]] = {}  # the lines of the sections that wait
+        for number, text in enumerate(lines, 1):
+            mark, kind, data = bytes_of_line(text)
+            if kind == "b":
+                self.sections[number] = data
+            elif kind:
+                self.sent.setdefault((mark, kind), bytearray()).extend(data)
+        self.ends: Dict[int, int] = {}  # of the instructions, by their number among the objects: where the next one begins
+        after: Dict[Tuple[str, str], int] = {}
+        for at, it in reversed(list(enumerate(objects))):
+            for key in ("encoder", "decoder"):
+                if key in it:
+                    self.ends[at] = after.get((it.get("from", ""), key), len(self.sent_on(it)))
+                    after[it.get("from", ""), key] = it[key]
+
+    def events(self) -> Iterator[Tuple[str, str, dict]]:
+        """Yields the time, the name and the data of each event."""
+        for at, it in enumerate(self.objects):
+            time = it.get("time", "")
+            if "section" in it:
+                for name, data in self.events_of_section(it):
+                    yield time, name, data
+            elif "encoder" in it or "decoder" in it:
+                instruction = None if "cut" in it else instruction_of(it)
+                if instruction:
+                    raw = raw_of(self.bytes_of_instruction(at))
+                    name = "qpack:instruction_created" if self.is_own(it) else "qpack:instruction_parsed"
+                    yield time, name, {"instruction": instruction, "length": raw["length"], "raw": raw}
+            elif "max_capacity" in it:
+                limits = {"max_table_capacity": it["max_capacity"], "blocked_streams_count": it["max_blocked"]}
+                yield time, "http:parameters_set", {"owner": "local" if it.get("from") == "client" else "remote", **limits}
+        for (end, stream), numbers in self.waiting.items():
+            for number in numbers:
+                yield "", f"qpack:headers_{self.done(end)}", {"stream_id": stream, "raw": raw_of(self.sections[number])}
+
+    @staticmethod
+    def is_own(it: dict) -> bool:
+        """Whether the client sent it, or without marks the encoder."""
+        return it["from"] == "client" if "from" in it else "decoder" not in it
+
+    @staticmethod
+    def done(end: str) -> str:
+        """Returns what was done with the sections of an end."""
+        return "decoded" if end == "server" else "encoded"
+
+    def sent_on(self, it: dict) -> bytearray:
+        """Returns the bytes of the stream of an instruction."""
+        mark = {"client": ">", "server": "<"}.get(it.get("from", ""), "")
+        return self.sent.get((mark, "e" if "encoder" in it else "d"), bytearray())
+
+    def bytes_of_instruction(self, at: int) -> bytes:
+        """Returns the bytes of an instruction."""
+        it = self.objects[at]
+        return bytes(self.sent_on(it)[it.get("encoder", it.get("decoder")) : self.ends[at]])
+
+    def events_of_section(self, it: dict) -> Iterator[Tuple[str, dict]]:
+        """Yields the events of a section: that it waits, that it waits no longer, and what it has."""
+        end, stream = it.get("from", ""), it["section"]
+        if "blocked_until" in it:
+            self.waiting.setdefault((end, stream), []).append(it["line"])
+            yield "qpack:stream_state_updated", {"stream_id": stream, "state": "blocked"}
+            return
+        number = it["line"]
+        if it.get("was_blocked"):
+            number = self.waiting[end, stream].pop(0)
+            yield "qpack:stream_state_updated", {"stream_id": stream, "state": "unblocked"}
+        data = {"stream_id": stream}
+        if "lines" in it:
+            required, base = it["required_insert_count"], it["base"]
+            sign = int(base < required)
+            prefix = {"required_insert_count": required, "sign_bit": bool(sign), "delta_base": abs(base - required) - sign}
+            data["headers"] = [named(line) for line in it["lines"]]
+            data["block_prefix"] = prefix
+            data["header_block"] = [line_of(line) for line in it["lines"]]
+        raw = raw_of(self.sections[number])
+        yield f"qpack:headers_{self.done(end)}", {**data, "length": raw["length"], "raw": raw}
+
+
+def write_trace(shown: Iterable[Tuple[Connection, str]]) -> Iterator[str]:
+    """Yields the records of a trace of connections, each with the objects that qpk printed, a line each."""
+    trace = {
+        "vantage_point": {"name": "qpk", "type": "network", "flow": "client"},
+        "common_fields": {"time_format": "relative", "reference_time": 0, "protocol_type": ["QUIC", "HTTP3"]},
+    }
+    yield record_of({"qlog_version": "0.3", "qlog_format": "JSON-SEQ", "title": "qpk show --qlog", "trace": trace})
+    for connection, text in shown:
+        last = 0.0
+        for time, name, data in Writer(connection.lines, [json.loads(it) for it in text.split("\n")[:-1]]).events():
+            try:
+                last = float(time) * 1000
+            except ValueError:
+                pass  # no time, or a word that is none: that of the event before it
+            group = {"group_id": connection.name()} if connection.about else {}
+            yield record_of({"time": round(last, 6), "name": name, **group, "data": data})
+
+
+def record_of(it: dict) -> str:
+    """Returns an object as a record."""
+    return f"{SEPARATOR}{json.dumps(it, separators=(',', ':'))}\n"
