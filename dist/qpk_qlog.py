@@ -1,16 +1,16 @@
 """Traces in qlog: QPACK's bytes in them as lines of a recording, and a trace of what qpk shows. qpk-capture reads it.
 
-A trace is read as JSON, or as JSON-SEQ, whose records begin with the byte 1e or are a line each. These events are read, of
-draft-ietf-quic-qlog-main-schema, -quic-events and -h3-events, and of their forerunners draft-marx-qlog-main-schema and
-draft-marx-qlog-event-definitions-quic-h3:
+A trace is read as JSON, or as JSON-SEQ, whose records begin with the byte 1e or are a line each. These events are
+read, of draft-ietf-quic-qlog-main-schema, -quic-events and -h3-events, and of draft-marx-qlog-main-schema and
+draft-marx-qlog-event-definitions-quic-h3 before them, whose other names are in brackets:
 
-    qpack:instruction_created, instruction_parsed (instruction_sent, instruction_received)    instruction, raw
-    qpack:headers_encoded, headers_decoded                                                    stream_id, raw
-    http3:frame_created, frame_parsed (h3, http)                                              stream_id, frame, raw
-    http3:parameters_set (h3, http)                                                           initiator or owner, the limits
-    quic:stream_data_moved (transport; data_moved)                           stream_id, offset, from, to, raw or data
+    qpack:instruction_created, instruction_parsed      instruction, raw [instruction_sent, instruction_received]
+    qpack:headers_encoded, headers_decoded             stream_id, raw
+    http3:frame_created, frame_parsed                  stream_id, frame, raw [h3:, http:]
+    http3:parameters_set                               initiator [owner], max_table_capacity, blocked_streams_count
+    quic:stream_data_moved                             stream_id, offset, from, to, raw [transport:data_moved, data]
 
-raw is hexadecimal, or an object whose data is. Bytes that are cut are left out.
+raw is hexadecimal, or an object whose data is. Bytes that are cut are left out, and so is what has none.
 """
 
 import json
@@ -18,16 +18,18 @@ import re
 from dataclasses import dataclass, field
 from typing import Dict, Iterable, Iterator, List, Optional, Tuple
 
-from qpk_streams import (
-    BLOCKED_STREAMS, HEADERS, MAX_TABLE_CAPACITY, PUSH_PROMISE, SETTINGS, Connection, NotWhole, SourceError, Streams, read_integer,
-)
+from qpk_streams import BLOCKED_STREAMS, HEADERS, MAX_TABLE_CAPACITY, PUSH_PROMISE, SETTINGS
+from qpk_streams import Connection, NotWhole, SourceError, Streams, read_integer
 
 SEPARATOR = "\x1e"
 # Older names of categories and events.
 CATEGORIES = {"h3": "http3", "http": "http3", "transport": "quic"}
 EVENTS = {
-    "instruction_sent": "instruction_created", "instruction_received": "instruction_parsed", "data_moved": "stream_data_moved",
+    "instruction_sent": "instruction_created",
+    "instruction_received": "instruction_parsed",
+    "data_moved": "stream_data_moved",
 }
+GROUPS = ("group_id", "odcid", "ODCID")  # which connection an event is of
 # What this end did, of the events in pairs. In the others the peer did it.
 OWN = ("instruction_created", "headers_encoded", "frame_created")
 DECODER_INSTRUCTIONS = ("section_ack", "header_ack", "stream_cancellation", "insert_count_increment")
@@ -35,8 +37,9 @@ ENCODER_INSTRUCTIONS = ("set_dynamic_table_capacity", "insert_with", "duplicate"
 FRAMES = {"headers": HEADERS, "push_promise": PUSH_PROMISE, "settings": SETTINGS}
 # Sources of bytes, the best first: an event of the bytes themselves, and of streams what they carry.
 SOURCES = {"e": ("instruction", "stream"), "d": ("instruction", "stream"), "b": ("frame", "section", "stream")}
-CAPACITY_NAMES = ("settings_qpack_max_table_capacity", "qpack_max_table_capacity", "max_table_capacity")
-BLOCKED_NAMES = ("settings_qpack_blocked_streams", "qpack_blocked_streams", "blocked_streams_count")
+# Names of the two settings, the last by its number.
+CAPACITY_NAMES = ("settings_qpack_max_table_capacity", "max_table_capacity", str(MAX_TABLE_CAPACITY))
+BLOCKED_NAMES = ("settings_qpack_blocked_streams", "blocked_streams_count", str(BLOCKED_STREAMS))
 
 
 # ---- Files
@@ -81,7 +84,7 @@ def read_traces(text: str) -> List[dict]:
 
 @dataclass
 class Event:
-    """An event: when it was, in seconds since the first one, its group, its name and its data."""
+    """An event: when it was in seconds, its group, its name and its data."""
 
     time: float
     group: str
@@ -89,27 +92,47 @@ class Event:
     data: dict
 
 
+class Clock:
+    """The times of a trace: since its reference, or if they are absolute, since its first event."""
+
+    def __init__(self, trace: dict) -> None:
+        self.common = trace.get("common_fields", {})
+        self.unit = 1e-6 if trace.get("configuration", {}).get("time_units") == "us" else 1e-3
+        self.before = 0.0
+        self.first: Optional[float] = None
+
+    def read(self, it: dict) -> float:
+        """Returns when an event was, in seconds."""
+        time = float(it.get("time", it.get("relative_time", it.get("delta_time", 0))))
+        form = str(it.get("time_format", self.common.get("time_format", "")))
+        is_absolute = form in ("", "absolute", "relative_to_epoch") and "time" in it
+        if form in ("delta", "relative_to_previous_event") or "delta_time" in it:
+            time += self.before
+        if self.first is None:
+            self.first = time if is_absolute else 0.0
+        self.before = time
+        return (time - self.first) * self.unit
+
+
+def name_of(it: dict) -> str:
+    """Returns the name of an event, with its category, as the newest draft has it."""
+    category, _, kind = str(it.get("name", "")).lower().rpartition(":")
+    category = category or str(it.get("category", "")).lower()
+    kind = kind or str(it.get("event", it.get("event_type", it.get("type", "")))).lower()
+    return f"{CATEGORIES.get(category, category)}:{EVENTS.get(kind, kind)}"
+
+
 def events_of(trace: dict) -> Iterator[Event]:
     """Yields the events of a trace."""
-    common = trace.get("common_fields", {})
+    clock = Clock(trace)
     names = [it.lower() for it in trace.get("event_fields", [])]
-    unit = 1e-6 if trace.get("configuration", {}).get("time_units") == "us" else 1e-3
-    first, before = None, 0.0
-    for record in trace["events"]:
-        it = dict(zip(names, record)) if isinstance(record, list) else record
-        time = float(it.get("time", it.get("relative_time", it.get("delta_time", 0))))
-        form = str(it.get("time_format", common.get("time_format", "relative" if "relative_time" in it else "absolute")))
-        if form in ("delta", "relative_to_previous_event") or "delta_time" in it:
-            time += before
-        before = time
-        if first is None:
-            first = 0.0 if "delta_time" in it or form.startswith(("relative", "delta")) and form != "relative_to_epoch" else time
-        category, _, kind = str(it.get("name", "")).rpartition(":")
-        category = str(category or it.get("category", "")).lower()
-        kind = str(kind or it.get("event", it.get("event_type", it.get("type", "")))).lower()
-        group = it.get("group_id", common.get("group_id", it.get("odcid", common.get("odcid", ""))))
-        name = f"{CATEGORIES.get(category, category)}:{EVENTS.get(kind, kind)}"
-        yield Event((time - first) * unit, str(group), name, it.get("data") or {})
+    for number, record in enumerate(trace["events"], 1):
+        try:
+            it = dict(zip(names, record)) if isinstance(record, list) else record
+            group = next((place[key] for place in (it, clock.common) for key in GROUPS if key in place), "")
+            yield Event(clock.read(it), str(group), name_of(it), it.get("data") or {})
+        except (AttributeError, TypeError, ValueError) as error:
+            raise SourceError(f"event {number} of the trace can't be read: {error}") from None
 
 
 def bytes_of(*places: object) -> Optional[bytes]:
@@ -158,6 +181,13 @@ class Reader:
 
     def read(self, event: Event) -> None:
         """Reads an event, if it is one of those with bytes or limits."""
+        try:
+            self.read_known(event)
+        except (AttributeError, TypeError, ValueError, NotWhole) as error:
+            raise SourceError(f"an event {event.name} of the trace can't be read: {error}") from None
+
+    def read_known(self, event: Event) -> None:
+        """Reads an event of a name that is known."""
         category, _, kind = event.name.partition(":")
         mark = self.own if kind in OWN else self.peer()
         if kind in ("instruction_created", "instruction_parsed") and category == "qpack":
@@ -202,10 +232,9 @@ class Reader:
         frame = event.data.get("frame", {})
         kind = FRAMES.get(str(frame.get("frame_type", "")).lower())
         if kind == SETTINGS:
-            values = {str(it.get("name", it.get("name_bytes"))).lower(): it.get("value") for it in frame.get("settings", [])}
-            for number, names in ((MAX_TABLE_CAPACITY, CAPACITY_NAMES), (BLOCKED_STREAMS, BLOCKED_NAMES)):
-                values.setdefault(names[0], values.get(str(number), values.get(names[1])))
-            self.add_limits(event, mark, limits_of({name: it for name, it in values.items() if it is not None}) or (0, 0))
+            settings = frame.get("settings", [])
+            values = {str(it.get("name", it.get("name_bytes"))).lower(): it["value"] for it in settings}
+            self.add_limits(event, mark, limits_of(values) or (0, 0))
         elif kind is not None:
             raw = bytes_of(frame.get("raw"), event.data.get("raw"))
             section = None if raw is None else payload_of(kind, raw)
@@ -238,7 +267,7 @@ class Reader:
 
 
 def mark_of(trace: dict) -> str:
-    """Returns the mark of the end from whose side a trace was made, or which sent what a trace of the network calls sent."""
+    """Returns the mark of the end from whose side a trace was made."""
     point = trace.get("vantage_point", {})
     point = point if isinstance(point, dict) else {"type": point}
     return "<" if "server" in (point.get("type"), point.get("flow")) else ">"
@@ -252,12 +281,15 @@ def connections_of(text: str) -> List[Connection]:
         for event in events_of(trace):
             readers.setdefault(event.group, Reader(mark_of(trace))).read(event)
         for group, reader in readers.items():
-            about = {"trace": ", ".join(str(it) for it in (trace.get("title") or "a trace", group) if it)}
+            names = [str(trace.get("title") or "a trace"), group]
+            about = {"trace": ", ".join(it for it in names if it)}
             missing = list(reader.streams.gaps())
             if reader.without_bytes:
                 missing.append(f"events without their bytes, which are left out: {reader.without_bytes}")
             if reader.found or missing:
                 connections.append(Connection(len(connections), about, reader.lines(), missing))
+    if not any(it.lines for it in connections):
+        raise SourceError("the trace has no bytes of QPACK: have the program that wrote it log raw bytes")
     return connections
 
 
@@ -321,8 +353,9 @@ def line_of(it: dict) -> dict:
     literal = {"preserve_literal": bool(form.get("never_indexed"))}
     if "index" not in source:
         return {"header_field_type": "literal_without_name", **literal, **named(it)}
-    value = {key: it for key, it in named(it).items() if key.startswith("value")}
-    return {"header_field_type": "literal_with_name", **literal, **table, "name_index": source["index"], **value, **post_base}
+    rest = {key: value for key, value in named(it).items() if key.startswith("value")}
+    index = {"name_index": source["index"], **post_base}
+    return {"header_field_type": "literal_with_name", **literal, **table, **index, **rest}
 
 
 def raw_of(data: bytes) -> dict:
@@ -331,12 +364,12 @@ def raw_of(data: bytes) -> dict:
 
 
 class Writer:
-    """Makes events of what qpk shows of a recording. The side is that of the client, or of the encoder without marks."""
+    """Makes events of what qpk shows of a recording: from the side of the client, or without marks of the encoder."""
 
     def __init__(self, lines: List[str], objects: List[dict]) -> None:
         self.objects = objects
         self.sections: Dict[int, bytes] = {}  # by their line
-        self.sent: Dict[Tuple[str, str], bytearray] = {}  # the bytes of each stream of instructions, by its mark
+        self.sent: Dict[Tuple[str, str], bytearray] = {}  # the bytes of each stream of instructions
         self.waiting: Dict[Tuple[str, int], List[int]] = {}  # the lines of the sections that wait
         for number, text in enumerate(lines, 1):
             mark, kind, data = bytes_of_line(text)
@@ -344,7 +377,7 @@ class Writer:
                 self.sections[number] = data
             elif kind:
                 self.sent.setdefault((mark, kind), bytearray()).extend(data)
-        self.ends: Dict[int, int] = {}  # of the instructions, by their number among the objects: where the next one begins
+        self.ends: Dict[int, int] = {}  # where each instruction ends, by its number among the objects
         after: Dict[Tuple[str, str], int] = {}
         for at, it in reversed(list(enumerate(objects))):
             for key in ("encoder", "decoder"):
@@ -366,8 +399,9 @@ class Writer:
                     name = "qpack:instruction_created" if self.is_own(it) else "qpack:instruction_parsed"
                     yield time, name, {"instruction": instruction, "length": raw["length"], "raw": raw}
             elif "max_capacity" in it:
+                owner = "local" if it.get("from") == "client" else "remote"
                 limits = {"max_table_capacity": it["max_capacity"], "blocked_streams_count": it["max_blocked"]}
-                yield time, "http:parameters_set", {"owner": "local" if it.get("from") == "client" else "remote", **limits}
+                yield time, "http:parameters_set", {"owner": owner, **limits}
         for (end, stream), numbers in self.waiting.items():
             for number in numbers:
                 yield "", f"qpack:headers_{self.done(end)}", {"stream_id": stream, "raw": raw_of(self.sections[number])}
@@ -407,9 +441,9 @@ class Writer:
         if "lines" in it:
             required, base = it["required_insert_count"], it["base"]
             sign = int(base < required)
-            prefix = {"required_insert_count": required, "sign_bit": bool(sign), "delta_base": abs(base - required) - sign}
+            base_of = {"sign_bit": bool(sign), "delta_base": abs(base - required) - sign}
             data["headers"] = [named(line) for line in it["lines"]]
-            data["block_prefix"] = prefix
+            data["block_prefix"] = {"required_insert_count": required, **base_of}
             data["header_block"] = [line_of(line) for line in it["lines"]]
         raw = raw_of(self.sections[number])
         yield f"qpack:headers_{self.done(end)}", {**data, "length": raw["length"], "raw": raw}

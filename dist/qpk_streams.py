@@ -4,7 +4,8 @@ from dataclasses import dataclass, field
 from typing import Dict, Iterator, List, Optional, Tuple
 
 DATA, HEADERS, SETTINGS, PUSH_PROMISE = 0, 1, 4, 5  # types of frames (RFC 9114, section 7.2)
-CONTROL, PUSH, ENCODER, DECODER = 0, 1, 2, 3  # types of unidirectional streams (RFC 9114, section 6.2; RFC 9204, section 4.2)
+# Types of unidirectional streams (RFC 9114, section 6.2; RFC 9204, section 4.2).
+CONTROL, PUSH, ENCODER, DECODER = 0, 1, 2, 3
 MAX_TABLE_CAPACITY, BLOCKED_STREAMS = 1, 7  # settings (RFC 9204, section 5)
 
 

@@ -14,8 +14,9 @@ import json
 import shutil
 import subprocess
 import sys
-import traceback
 from pathlib import Path
+
+from running import run_tests
 
 TOP = Path(__file__).resolve().parent.parent
 CLIENT, SERVER = ("10.0.0.1", "50000"), ("10.0.0.2", "443")
@@ -188,20 +189,5 @@ def test_chromium():
     run(TOP / "qpk", "check", KEPT)
 
 
-def main():
-    """Runs all tests."""
-    passed = failed = 0
-    for name, test in sorted(globals().items()):
-        if name.startswith("test_"):
-            try:
-                test()
-                passed += 1
-            except Exception:  # pylint: disable=broad-except # a test may fail in any way
-                failed += 1
-                print(f"{name}:\n{traceback.format_exc()}")
-    print(f"captures: {passed} tests of dist/qpk-capture passed, {failed} failed")
-    return 1 if failed else 0
-
-
 if __name__ == "__main__":
-    sys.exit(main())
+    sys.exit(run_tests(globals(), "captures", "dist/qpk-capture"))
