@@ -103,8 +103,8 @@ def test_the_rest_is_of_the_program():
         (("inspect", "4096"), "e\t6294e7838c767f01\n"),
         (("run", "4096", "1"), "encode\t4\tfoo\tbar\n"),
         (("help",), ""),
-        (("help", "show"), ""),
-        (("show", "--help"), ""),
+        (("help", "decode"), ""),
+        (("show", "--help", "x"), ""),
         (("show",), FAULTS),
         (("show", "--json", "--table", "-"), FAULTS),
         (("show", "--max-capacity"), ""),
@@ -120,6 +120,16 @@ def test_the_rest_is_of_the_program():
         for front in FRONTS:
             assert run(front, *words, data=data) == expected, (front, words)
     assert run(INSTALLED, "--version") == run(PROGRAM, "--version")
+
+
+def test_help():
+    """The help on a command that the front reads is the program's, and then the words of the front."""
+    for words in (("help", "show"), ("show", "--help"), ("check", "-h"), ("help", "explain")):
+        expected = run(PROGRAM, *words)
+        for front in FRONTS:
+            status, output, said = run(front, *words)
+            assert (status, said) == (0, b"") and output.startswith(expected[1] + b"\n"), words
+            assert (b"--qlog" in output, b"--color=WHEN" in output) == ("show" in words, True), output
 
 
 def test_files():

@@ -1,17 +1,28 @@
-# Completion of qpk for bash.
+# Completion of qpk for bash. Where no word fits, bash completes the name of a file.
 _qpk() {
     local words=
     if [ "$COMP_CWORD" = 1 ]; then
         words='encode decode show check explain inspect run help --version'
     else
+        case ${COMP_WORDS[COMP_CWORD - 1]} in
+        --keys) COMPREPLY=() && return ;;
+        esac
         case ${COMP_WORDS[1]} in
         encode) words='--qif' ;;
         decode) words='--hex --json --qif' ;;
-        show) words='--table --json --max-capacity --max-blocked --qif' ;;
-        check) words='--json --max-capacity --max-blocked --qif' ;;
-        explain) words='--encoder-stream --decoder-stream --max-capacity' ;;
+        show)
+            words='--table --json --qlog --max-capacity --max-blocked --qif --keys --connection --stream'
+            words+=' --color=always --color=auto --color=never'
+            ;;
+        check)
+            words='--json --max-capacity --max-blocked --qif --keys --connection'
+            words+=' --color=always --color=auto --color=never'
+            ;;
+        explain)
+            words='--encoder-stream --decoder-stream --max-capacity --color=always --color=auto --color=never'
+            ;;
         esac
     fi
     mapfile -t COMPREPLY < <(compgen -W "$words" -- "${COMP_WORDS[COMP_CWORD]}")
 }
-complete -F _qpk qpk
+complete -o default -F _qpk qpk
