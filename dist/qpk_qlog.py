@@ -16,7 +16,7 @@ raw is hexadecimal, or an object whose data is. Bytes that are cut are left out,
 import json
 import re
 from dataclasses import dataclass, field
-from typing import Dict, Iterable, Iterator, List, Optional, Tuple
+from typing import Dict, Iterable, Iterator, List, Optional, Set, Tuple
 
 from qpk_streams import BLOCKED_STREAMS, HEADERS, MAX_TABLE_CAPACITY, PUSH_PROMISE, SETTINGS
 from qpk_streams import Connection, NotWhole, SourceError, Streams, read_integer
@@ -70,7 +70,9 @@ def read_records(text: str) -> List[dict]:
 
 def read_traces(text: str) -> List[dict]:
     """Returns the traces of a file, each with its events."""
-    first, *events = read_records(text)
+    first, *events = records = read_records(text)
+    if not all(isinstance(it, dict) for it in records):
+        raise SourceError("a record of the trace is no object")
     if "traces" in first:
         return [it for it in first["traces"] if "events" in it]
     trace = first.get("trace", {})
@@ -126,13 +128,10 @@ def events_of(trace: dict) -> Iterator[Event]:
     """Yields the events of a trace."""
     clock = Clock(trace)
     names = [it.lower() for it in trace.get("event_fields", [])]
-    for number, record in enumerate(trace["events"], 1):
-        try:
-            it = dict(zip(names, record)) if isinstance(record, list) else record
-            group = next((place[key] for place in (it, clock.common) for key in GROUPS if key in place), "")
-            yield Event(clock.read(it), str(group), name_of(it), it.get("data") or {})
-        except (AttributeError, TypeError, ValueError) as error:
-            raise SourceError(f"event {number} of the trace can't be read: {error}") from None
+    for record in trace["events"]:
+        it = dict(zip(names, record)) if isinstance(record, list) else record
+        group = next((place[key] for place in (it, clock.common) for key in GROUPS if key in place), "")
+        yield Event(clock.read(it), str(group), name_of(it), it.get("data") or {})
 
 
 def bytes_of(*places: object) -> Optional[bytes]:
@@ -178,22 +177,16 @@ class Reader:
     streams: Streams = field(default_factory=Streams)
     found: List[Tuple[float, str, str, str]] = field(default_factory=list)  # time, mark, words, source
     without_bytes: int = 0
+    cut: Set[Tuple[str, str]] = field(default_factory=set)  # the streams of which an instruction has no bytes
 
     def read(self, event: Event) -> None:
         """Reads an event, if it is one of those with bytes or limits."""
-        try:
-            self.read_known(event)
-        except (AttributeError, TypeError, ValueError, NotWhole) as error:
-            raise SourceError(f"an event {event.name} of the trace can't be read: {error}") from None
-
-    def read_known(self, event: Event) -> None:
-        """Reads an event of a name that is known."""
         category, _, kind = event.name.partition(":")
         mark = self.own if kind in OWN else self.peer()
         if kind in ("instruction_created", "instruction_parsed") and category == "qpack":
             self.read_instruction(event, mark)
         elif kind in ("headers_encoded", "headers_decoded") and category == "qpack":
-            self.add(event, mark, "section", f"b {event.data.get('stream_id')}", bytes_of(event.data.get("raw")))
+            self.add_section(event, mark, "section", bytes_of(event.data.get("raw")))
         elif kind in ("frame_created", "frame_parsed") and category == "http3":
             self.read_frame(event, mark)
         elif kind == "parameters_set" and category == "http3":
@@ -213,6 +206,11 @@ class Reader:
         else:
             self.found.append((event.time, mark, f"{words} {data.hex()}", source))
 
+    def add_section(self, event: Event, mark: str, source: str, data: Optional[bytes]) -> None:
+        """Adds a line of a section, or counts an event without its bytes or its stream."""
+        stream = event.data.get("stream_id")
+        self.add(event, mark, source, f"b {int(stream or 0)}", None if stream is None else data)
+
     def add_limits(self, event: Event, mark: str, limits: Optional[Tuple[int, int]]) -> None:
         """Adds a line of SETTINGS. An end sends them once."""
         if limits and not any(it[1] == mark and it[2].startswith("s ") for it in self.found):
@@ -222,10 +220,13 @@ class Reader:
         """Reads an instruction, whose type says on which stream it is."""
         kind = str(event.data.get("instruction", {}).get("instruction_type", "")).lower()
         raw = bytes_of(event.data.get("raw"), event.data.get("instruction", {}).get("raw"))
-        if kind.startswith(ENCODER_INSTRUCTIONS):
-            self.add(event, mark, "instruction", "e", raw)
-        elif kind.startswith(DECODER_INSTRUCTIONS):
-            self.add(event, mark, "instruction", "d", raw)
+        if not kind.startswith(ENCODER_INSTRUCTIONS + DECODER_INSTRUCTIONS):
+            return
+        name = "e" if kind.startswith(ENCODER_INSTRUCTIONS) else "d"
+        if raw is None:
+            self.cut.add((mark, name))
+        # After bytes that are missing nothing means what it would.
+        self.add(event, mark, "instruction", name, None if (mark, name) in self.cut else raw)
 
     def read_frame(self, event: Event, mark: str) -> None:
         """Reads a frame that has a section, or SETTINGS."""
@@ -237,19 +238,21 @@ class Reader:
             self.add_limits(event, mark, limits_of(values) or (0, 0))
         elif kind is not None:
             raw = bytes_of(frame.get("raw"), event.data.get("raw"))
-            section = None if raw is None else payload_of(kind, raw)
-            self.add(event, mark, "frame", f"b {event.data.get('stream_id')}", section)
+            self.add_section(event, mark, "frame", None if raw is None else payload_of(kind, raw))
 
     def read_stream(self, event: Event) -> None:
-        """Reads bytes of a stream, which may have been moved more than once."""
+        """Reads bytes of a stream, which may have been moved more than once, and then have their offset."""
         it = event.data
-        is_received = it.get("from") == "network" or it.get("to") in ("application", "user")
+        ends = (it.get("from"), it.get("to"))
+        is_received = ends[0] == "network" or ends[1] in ("application", "user")
         mark = self.peer() if is_received else self.own
-        raw = bytes_of(it.get("raw"), it.get("data"))
-        if raw is None or it.get("stream_id") is None:
+        raw, stream, offset = bytes_of(it.get("raw"), it.get("data")), it.get("stream_id"), it.get("offset")
+        if offset is None and {"application", "user"}.intersection(ends):
+            offset = self.streams.taken(mark, int(stream or 0))
+        if raw is None or stream is None or offset is None:
             self.without_bytes += 1
             return
-        for words in self.streams.take(mark, int(it["stream_id"]), int(it.get("offset", 0)), raw):
+        for words in self.streams.take(mark, int(stream), int(offset), raw):
             if words.startswith("s "):
                 self.add_limits(event, mark, (int(words.split()[1]), int(words.split()[2])))
             else:
@@ -258,12 +261,22 @@ class Reader:
     def lines(self) -> List[str]:
         """Returns the lines: of bytes that come from more than one source, those of the best."""
         there = {(mark, words[0], source) for _, mark, words, source in self.found}
+        there -= {(*it, "instruction") for it in self.cut if (*it, "stream") in there}
         kept = []
         for time, mark, words, source in self.found:
             best = next((it for it in SOURCES.get(words[0], ()) if (mark, words[0], it) in there), source)
             if source == best:
                 kept.append(f"@{time:.6f} {mark} {words}")
         return kept
+
+
+    def missing(self) -> Iterator[str]:
+        """Yields what is missing."""
+        yield from self.streams.gaps()
+        for mark, name in sorted(self.cut):
+            yield f"{mark} {'encoder' if name == 'e' else 'decoder'} stream: an instruction has no bytes"
+        if self.without_bytes:
+            yield f"events without their bytes, or after such, which are left out: {self.without_bytes}"
 
 
 def mark_of(trace: dict) -> str:
@@ -276,19 +289,19 @@ def mark_of(trace: dict) -> str:
 def connections_of(text: str) -> List[Connection]:
     """Returns the connections of a file of traces."""
     connections = []
-    for trace in read_traces(text):
-        readers: Dict[str, Reader] = {}
-        for event in events_of(trace):
-            readers.setdefault(event.group, Reader(mark_of(trace))).read(event)
-        for group, reader in readers.items():
-            names = [str(trace.get("title") or "a trace"), group]
-            about = {"trace": ", ".join(it for it in names if it)}
-            missing = list(reader.streams.gaps())
-            if reader.without_bytes:
-                missing.append(f"events without their bytes, which are left out: {reader.without_bytes}")
-            if reader.found or missing:
-                connections.append(Connection(len(connections), about, reader.lines(), missing))
-    if not any(it.lines for it in connections):
+    try:
+        for trace in read_traces(text):
+            readers: Dict[str, Reader] = {}
+            for event in events_of(trace):
+                readers.setdefault(event.group, Reader(mark_of(trace))).read(event)
+            for group, reader in readers.items():
+                names = ", ".join(it for it in (str(trace.get("title") or "a trace"), group) if it)
+                about = {"trace": "".join(it if it.isprintable() else " " for it in names)}
+                if reader.found:
+                    connections.append(Connection(len(connections), about, reader.lines(), list(reader.missing())))
+    except (AttributeError, KeyError, OverflowError, TypeError, ValueError, NotWhole) as error:
+        raise SourceError(f"the trace can't be read, as a value is of another kind: {error!r}") from None
+    if not connections:
         raise SourceError("the trace has no bytes of QPACK: have the program that wrote it log raw bytes")
     return connections
 
@@ -313,10 +326,9 @@ def bytes_of_line(text: str) -> Tuple[str, str, bytes]:
 
 def named(it: dict) -> dict:
     """Returns the name and the value of an object of qpk as those of a field."""
-    return {
-        (key if isinstance(it[key], str) else f"{key}_bytes"): (it[key] if isinstance(it[key], str) else it[key]["hex"])
-        for key in ("name", "value") if key in it
-    }
+    texts = {key: it[key] for key in ("name", "value") if isinstance(it.get(key), str)}
+    others = {f"{key}_bytes": it[key]["hex"] for key in ("name", "value") if isinstance(it.get(key), dict)}
+    return {**texts, **others}
 
 
 def instruction_of(it: dict) -> Optional[dict]:
@@ -353,7 +365,7 @@ def line_of(it: dict) -> dict:
     literal = {"preserve_literal": bool(form.get("never_indexed"))}
     if "index" not in source:
         return {"header_field_type": "literal_without_name", **literal, **named(it)}
-    rest = {key: value for key, value in named(it).items() if key.startswith("value")}
+    rest = named({"value": it["value"]})
     index = {"name_index": source["index"], **post_base}
     return {"header_field_type": "literal_with_name", **literal, **table, **index, **rest}
 

@@ -143,6 +143,10 @@ class Streams:
         stream = self.streams.setdefault((mark, number), Stream(number))
         yield from lines_of(stream, stream.without_head(stream.receive(offset, data)))
 
+    def taken(self, mark: str, number: int) -> int:
+        """Returns the offset up to which a stream was taken."""
+        return self.streams[mark, number].taken if (mark, number) in self.streams else 0
+
     def gaps(self) -> Iterator[str]:
         """Yields which bytes are missing."""
         for (mark, number), stream in sorted(self.streams.items()):

@@ -57,7 +57,7 @@ def sections(shown):
 
 
 def test_client():
-    """JSON of a client: limits of both ends, instructions and frames. The event of a section adds nothing to its frame."""
+    """JSON of a client: limits of both ends, instructions and frames. A section that its frame has is taken once."""
     lines, said = lines_of(QLOG / "client.qlog")
     assert lines == [
         "# connection 0, client, a1",
@@ -69,7 +69,7 @@ def test_client():
         "@0.009000 < d 84",
         "@0.010000 < b 4 0000d9",
     ]
-    assert said == ["qpk-capture: connection 0: events without their bytes, which are left out: 1"]
+    assert said == ["qpk-capture: connection 0: events without their bytes, or after such, which are left out: 1"]
 
 
 def test_server():
@@ -86,7 +86,7 @@ def test_server():
     ]
     assert said == [
         "qpk-capture: connection 1: > stream 6: bytes from 0 to 9 are missing",
-        "qpk-capture: connection 1: events without their bytes, which are left out: 1",
+        "qpk-capture: connection 1: events without their bytes, or after such, which are left out: 1",
     ]
 
 
@@ -138,6 +138,40 @@ def test_payload_of_a_frame():
             assert lines_of_events(event)[0] == ["@0.000000 > b 4 0000d1"], data
 
 
+def test_streams():
+    """Bytes of streams without an offset are the next ones, if they come from the application or go there."""
+    def moved(data, **ends):
+        return {"time": 0, "name": "transport:data_moved", "data": {"stream_id": 2, "data": data, **ends}}
+
+    sent = [moved("02", **{"from": "application"}), moved("3f", **{"from": "user"}), moved("e11f", to="network")]
+    assert lines_of_events(*sent)[0] == ["@0.000000 > e 3f"]
+    got = [moved("03", to="application"), moved("0080", **{"from": "network", "offset": 0}), moved("81", to="user")]
+    assert lines_of_events(*got)[0] == ["@0.000000 < d 80", "@0.000000 < d 81"]
+
+
+def test_instructions_that_are_cut():
+    """A stream ends before an instruction without its bytes, unless the bytes of the stream are there."""
+    def created(kind, **raw):
+        data = {"instruction": {"instruction_type": kind}, **raw}
+        return {"time": 0, "name": "qpack:instruction_created", "data": data}
+
+    events = [
+        created("set_dynamic_table_capacity", raw={"data": "3fe11f"}),
+        created("insert_with_literal_name", raw={"length": 7, "data": "62"}),
+        created("duplicate", raw="00"),
+        created("section_acknowledgment", raw="84"),
+    ]
+    lines, said = lines_of_events(*events)
+    assert lines == ["@0.000000 > e 3fe11f", "@0.000000 > d 84"]
+    assert said == [
+        "qpk-capture: connection 0: > encoder stream: an instruction has no bytes",
+        "qpk-capture: connection 0: events without their bytes, or after such, which are left out: 2",
+    ]
+    data = {"stream_id": 2, "offset": 0, "from": "application", "raw": {"data": "023fe11f6294e7838c767f00"}}
+    lines, _ = lines_of_events(*events, {"time": 0, "name": "quic:stream_data_moved", "data": data})
+    assert lines == ["@0.000000 > d 84", "@0.000000 > e 3fe11f6294e7838c767f00"]
+
+
 def test_unknown_events():
     """Events that have nothing of QPACK are passed over, and say nothing."""
     raw = {"raw": {"data": "0000d1"}, "stream_id": 0}
@@ -152,13 +186,16 @@ def test_unknown_events():
 
 
 def test_refused_files():
-    """A record that is no JSON, a value of another kind, and a trace without bytes are refused, and nothing is shown."""
+    """A record that is no JSON, a value of another kind, and a trace without bytes are refused."""
     event = {"time": "now", "name": "qpack:headers_decoded", "data": {"stream_id": 0, "raw": {"data": "0000d1"}}}
     for text, reason in (
         ('{"trace":{}}\n{"time"\n{}\n', "record 2 of the trace is no JSON: "),
-        (f'{{"trace":{{}}}}\n{json.dumps(event)}\n', "event 1 of the trace can't be read: "),
-        ('{"trace":{}}\n{"time":0,"name":"qpack:headers_decoded","data":{"raw":"0"}}', "can't be read: "),
+        (f'{{"trace":{{}}}}\n{json.dumps(event)}\n', "a value is of another kind: "),
+        ('{"trace":{}}\n{"time":0,"name":"qpack:headers_decoded","data":{"raw":"0"}}', "a value is of another kind: "),
+        ('{"trace":{}}\n[]\n{}\n', "a record of the trace is no object"),
+        ('{"traces":[7]}', "a value is of another kind: "),
         ('{"trace":{}}\n{"time":0,"name":"qpack:headers_decoded","data":{"stream_id":0}}', "has no bytes of QPACK: "),
+        ('{"trace":{}}\n{"time":0,"name":"qpack:headers_decoded","data":{"raw":"0000"}}', "has no bytes of QPACK: "),
         ('{"qlog_version":"0.3","traces":[]}', "has no bytes of QPACK: "),
     ):
         status, output, said = run(TOP / "dist" / "qpk-capture", "show", "-", data=text)
@@ -215,10 +252,10 @@ def test_written_events():
 
 
 def test_words():
-    """A trace is written of show alone, and of no recording of the interop."""
-    for words in (("check", "--qlog", CHROMIUM), ("show", "--qlog", "--qif", CHROMIUM)):
-        status, output, said = run(TOP / "qpk", *words)
-        assert (status, output) == (1, "") and "--qlog is a word of show" in said, said
+    """Words that are of show alone; a trace is written of no recording of the interop."""
+    for words in (("check", "--qlog"), ("show", "--qlog", "--qif"), ("check", "--stream", 4)):
+        status, output, said = run(TOP / "qpk", *words, CHROMIUM)
+        assert (status, output) == (1, "") and f"{words[1]} is a word of show" in said, said
 
 
 if __name__ == "__main__":
