@@ -4,7 +4,8 @@
     tests/front.py
 
 It installs dist/ in a folder for temporary files, by make and a C compiler. Without these nothing is tested, and the
-last line says so. Else it ends with a line 'front: N tests .. passed', and with status 1 if a test failed.
+last line says so. ./qpk is left out if the sources were changed. Else it ends with a line 'front: N tests .. passed', and
+with status 1 if a test failed.
 """
 import os
 import pty
@@ -17,13 +18,12 @@ import tempfile
 import time
 from pathlib import Path
 
-from running import run_tests
+from running import TOP, answers_at_once, install, missing_tool, run_tests
 
-TOP = Path(__file__).resolve().parent.parent
 ROOM = Path(tempfile.mkdtemp(prefix="h3-qpack-front-"))
 INSTALLED = ROOM / "usr" / "bin" / "qpk"
 PROGRAM = ROOM / "usr" / "lib" / "h3_qpack" / "qpk"
-FRONTS = (TOP / "qpk", INSTALLED)
+FRONTS = (TOP / "qpk", INSTALLED) if answers_at_once() else (INSTALLED,)
 CHROMIUM = TOP / "tests" / "captured" / "chromium.txt"
 BOLD, DIM, RED, YELLOW, PLAIN = (f"\x1b[{it}m" for it in (1, 2, 31, 33, 0))
 MARKS = re.compile(rb"\x1b\[\d+m")
@@ -153,7 +153,7 @@ def test_captures_and_traces():
     link = ROOM / "link"
     link.symlink_to(INSTALLED)
     trace = TOP / "tests" / "qlog" / "client.qlog"
-    assert run(INSTALLED, "show", trace) == run(link, "show", trace) == run(TOP / "qpk", "show", trace)
+    assert run(INSTALLED, "show", trace) == run(link, "show", trace) == run(FRONTS[0], "show", trace)
     assert b"foo: bar" in run(INSTALLED, "show", trace)[1]
     capture = TOP / "tests" / "captured" / "chromium.pcapng"
     if shutil.which("tshark"):
@@ -244,18 +244,18 @@ def test_a_word_of_colours():
 def test_signals():
     """A signal ends the program itself, which takes the place of the scripts."""
     for front in FRONTS:
-        with subprocess.Popen([front, "encode"], stdin=subprocess.PIPE) as running:
-            end = time.time() + 20
-            while b"qpk-front" in Path(f"/proc/{running.pid}/cmdline").read_bytes() or not is_program(running.pid):
-                assert time.time() < end
-                time.sleep(0.01)
-            running.send_signal(signal.SIGTERM)
-        assert running.returncode == -signal.SIGTERM
+        for words in (("encode",), ("show",), ("check", "-")):
+            with subprocess.Popen([front, *words], stdin=subprocess.PIPE, stdout=subprocess.PIPE) as running:
+                end = time.time() + 20
+                while not is_program(running.pid) and time.time() < end:
+                    time.sleep(0.01)
+                running.send_signal(signal.SIGTERM)
+            assert running.returncode == -signal.SIGTERM, words
 
 
 def is_program(pid):
-    """Whether a process runs no script."""
-    return not os.readlink(f"/proc/{pid}/exe").endswith(("/dash", "/bash", "/busybox", "/sh", "/env"))
+    """Whether a process is the program, and no shell."""
+    return Path(os.readlink(f"/proc/{pid}/exe")).name.startswith("qpk")
 
 
 def test_a_command_that_is_a_script():
@@ -279,20 +279,21 @@ def test_no_program():
     """Without its program the front says so."""
     status, output, said = run(TOP / "dist" / "qpk-front", "help", env={"PATH": os.environ["PATH"]})
     assert (status, output) == (3, b"") and b"in a clone run ./qpk" in said
+    alone = ROOM / "alone" / "qpk"
+    alone.parent.mkdir()
+    shutil.copy(TOP / "dist" / "qpk-front", alone)
+    assert run(alone, "help", timeout=60)[0] == 3
+    assert run(alone, "help", env={**os.environ, "QPK_PROGRAM": str(INSTALLED)}) == run(INSTALLED, "help")
     status, _, said = run(INSTALLED, "show", "--qlog", CHROMIUM, env={"PATH": str(ROOM)})
     assert status == 3, said
 
 
 def main():
     """Installs the program, and runs all tests over it."""
-    for name in ("make", "cc", "objcopy"):
-        if not shutil.which(name):
-            print(f"front: nothing was tested, as {name} is not installed")
-            return 0
-    ran = run("make", "-s", "-C", TOP / "dist", f"BUILD={ROOM}/build", f"PREFIX={ROOM}/usr", "install")
-    if ran[0]:
-        print(ran[2].decode(errors="replace"), "front: 0 tests passed, 1 failed: make install", sep="\n")
-        return 1
+    if missing_tool():
+        print(f"front: nothing was tested, as {missing_tool()} is not installed")
+        return 0
+    install(ROOM)
     return run_tests(globals(), "front", "dist/qpk-front")
 
 

@@ -8,17 +8,20 @@ JSON-SEQ, and in the form of the first drafts. It ends with a line 'traces: N te
 test failed.
 """
 import json
+import shutil
 import subprocess
 import sys
 import tempfile
 from pathlib import Path
 
-from running import run_tests
+from running import TOP, answers_at_once, install, missing_tool, run_tests
 
-TOP = Path(__file__).resolve().parent.parent
 QLOG = TOP / "tests" / "qlog"
 CHROMIUM = TOP / "tests" / "captured" / "chromium.txt"
 RECORD = "\x1e"
+ROOM = Path(tempfile.mkdtemp(prefix="h3-qpack-traces-"))
+IS_QUICK = answers_at_once()
+QPK = TOP / "qpk" if IS_QUICK else ROOM / "usr" / "bin" / "qpk"
 
 
 def run(*words, data=""):
@@ -46,7 +49,7 @@ def lines_of_events(*events, **trace):
 
 def objects(*words, data=""):
     """Returns the objects that qpk show --json prints."""
-    status, output, said = run(TOP / "qpk", "show", "--json", *words, data=data)
+    status, output, said = run(QPK, "show", "--json", *words, data=data)
     assert status == 0, said
     return [json.loads(it) for it in output.splitlines()]
 
@@ -112,7 +115,7 @@ def test_fields():
     for name, expected in cases.items():
         shown = [[(it["name"], it["value"]) for it in lines] for *_, lines in sections(objects(QLOG / name))]
         assert shown == expected, shown
-        assert run(TOP / "qpk", "check", QLOG / name)[0] == 0
+        assert run(QPK, "check", QLOG / name)[0] == 0
 
 
 def test_times():
@@ -204,16 +207,16 @@ def test_refused_files():
 
 def test_chromium_and_back():
     """A trace of the capture of Chromium, read back, is the capture, with each instruction and each section."""
-    status, trace, said = run(TOP / "qpk", "show", "--qlog", CHROMIUM)
+    status, trace, said = run(QPK, "show", "--qlog", CHROMIUM)
     assert (status, said) == (0, "")
     records = [json.loads(it) for it in trace.split(RECORD)[1:]]
     assert records[0]["qlog_format"] == "JSON-SEQ" and all("time" in it for it in records[1:])
     with tempfile.NamedTemporaryFile("w", suffix=".sqlog", encoding="utf-8") as file:
         file.write(trace)
         file.flush()
-        head, *shown = run(TOP / "qpk", "show", file.name)[1].splitlines()
+        head, *shown = run(QPK, "show", file.name)[1].splitlines()
         assert head == "connection 0, qpk show --qlog"
-        assert shown == run(TOP / "qpk", "show", CHROMIUM)[1].splitlines()
+        assert shown == run(QPK, "show", CHROMIUM)[1].splitlines()
         assert sections(objects(file.name)) == sections(objects(CHROMIUM)) and len(sections(objects(CHROMIUM))) == 18
 
 
@@ -223,7 +226,7 @@ def test_written_events():
         "@1.5 < s 4096 16\n@2 > b 4 028010\n> e 3fe11f 62\n@3 > e 94e7838c767f\n< d 84\n"
         "> b 8 0481\n> b 12 0000ff24\n> e ff\n"
     )
-    status, trace, _ = run(TOP / "qpk", "show", "--qlog", data=recording)
+    status, trace, _ = run(QPK, "show", "--qlog", data=recording)
     events = [json.loads(it) for it in trace.split(RECORD)[2:]]
     assert status == 2
     raw = [(it["time"], it["name"], it["data"].get("raw", {}).get("data")) for it in events]
@@ -254,9 +257,23 @@ def test_written_events():
 def test_words():
     """Words that are of show alone; a trace is written of no recording of the interop."""
     for words in (("check", "--qlog"), ("show", "--qlog", "--qif"), ("check", "--stream", 4)):
-        status, output, said = run(TOP / "qpk", *words, CHROMIUM)
+        status, output, said = run(QPK, *words, CHROMIUM)
         assert (status, output) == (1, "") and f"{words[1]} is a word of show" in said, said
 
 
+def main():
+    """Runs all tests over ./qpk, or if the sources were changed over dist/."""
+    if not IS_QUICK and missing_tool():
+        print(f"traces: nothing was tested, as {missing_tool()} is not installed")
+        return 0
+    if not IS_QUICK:
+        install(ROOM)
+    return run_tests(globals(), "traces", "dist/qpk-capture")
+
+
 if __name__ == "__main__":
-    sys.exit(run_tests(globals(), "traces", "dist/qpk-capture"))
+    try:
+        STATUS = main()
+    finally:
+        shutil.rmtree(ROOM)
+    sys.exit(STATUS)
