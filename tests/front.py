@@ -249,8 +249,9 @@ def test_signals():
                 end = time.time() + 20
                 while not is_program(running.pid) and time.time() < end:
                     time.sleep(0.01)
+                is_there = is_program(running.pid)
                 running.send_signal(signal.SIGTERM)
-            assert running.returncode == -signal.SIGTERM, words
+            assert (is_there, running.returncode) == (True, -signal.SIGTERM), words
 
 
 def is_program(pid):
