@@ -148,6 +148,16 @@ def test_files():
             assert run(front, "show", name) == (1, b"", f"qpk: {name} is not a file that can be read\n".encode())
 
 
+def test_recordings_of_the_interop():
+    """A recording of bytes is read as one, even if it begins as a trace does."""
+    recording = b"\x1e" + bytes(7) + (3).to_bytes(4, "big") + b"\x00\x00\xd1"
+    (ROOM / "interop").write_bytes(recording)
+    for front in FRONTS:
+        for words in (("show", "--qif"), ("show", "--stream", 0x1E << 56, "--qif")):
+            status, output, _ = run(front, *words, ROOM / "interop")
+            assert (status, output.splitlines()[1]) == (0, b"  2 static 17, :method: GET"), words
+
+
 def test_captures_and_traces():
     """What is no recording of lines is read by the script, in an install as in a clone, and through a link."""
     link = ROOM / "link"
