@@ -14,8 +14,9 @@ import json
 import shutil
 import subprocess
 import sys
-import traceback
 from pathlib import Path
+
+from running import run_tests
 
 TOP = Path(__file__).resolve().parent.parent
 CLIENT, SERVER = ("10.0.0.1", "50000"), ("10.0.0.2", "443")
@@ -27,6 +28,7 @@ SETTINGS = "00 04 05 01 50 00 07 10"  # a control stream: capacity 4096, and 16 
 def load():
     """Returns the script as a module."""
     sys.dont_write_bytecode = True
+    sys.path.insert(0, str(TOP / "dist"))
     loader = importlib.machinery.SourceFileLoader("qpk_capture", str(TOP / "dist" / "qpk-capture"))
     module = importlib.util.module_from_spec(importlib.util.spec_from_loader(loader.name, loader))
     sys.modules[loader.name] = module
@@ -120,7 +122,7 @@ def test_what_is_missing_is_reported():
     """A stream ends at bytes that the capture does not contain."""
     (connection,) = connections(packet("1", CLIENT, SERVER, (6, 0, "02 3f"), (6, 4, "62 94")))
     assert connection.lines == ["@1 > e 3f"]
-    assert list(connection.gaps()) == ["> stream 6: bytes from 2 to 4 are not in the capture"]
+    assert connection.missing == ["> stream 6: bytes from 2 to 4 are missing"]
 
 
 def test_connections():
@@ -130,7 +132,7 @@ def test_connections():
         packet("2", SERVER, CLIENT, (7, 0, "02 20"), connection=5),
         packet("3", CLIENT, SERVER, (2, 0, SETTINGS), connection=5),
     )
-    assert (first.number, first.client, first.server) == (0, CLIENT, SERVER)
+    assert (first.number, first.about) == (0, {"client": "10.0.0.1:50000", "server": "10.0.0.2:443"})
     assert second.name() == "connection 5, 10.0.0.1:50000 > 10.0.0.2:443"
     assert second.lines == ["@2 < e 20", "@3 > s 4096 16"]
 
@@ -139,7 +141,7 @@ def test_a_frame_that_ends_within_an_integer_is_refused():
     """SETTINGS that are cut are named."""
     try:
         lines(packet("1", SERVER, CLIENT, (3, 0, "00 04 01 41")))
-    except capture.CaptureError as error:
+    except capture.SourceError as error:
         assert str(error) == "stream 3 has a frame of type 4 that ends within an integer"
     else:
         raise AssertionError("it was read")
@@ -187,20 +189,5 @@ def test_chromium():
     run(TOP / "qpk", "check", KEPT)
 
 
-def main():
-    """Runs all tests."""
-    passed = failed = 0
-    for name, test in sorted(globals().items()):
-        if name.startswith("test_"):
-            try:
-                test()
-                passed += 1
-            except Exception:  # pylint: disable=broad-except # a test may fail in any way
-                failed += 1
-                print(f"{name}:\n{traceback.format_exc()}")
-    print(f"captures: {passed} tests of dist/qpk-capture passed, {failed} failed")
-    return 1 if failed else 0
-
-
 if __name__ == "__main__":
-    sys.exit(main())
+    sys.exit(run_tests(globals(), "captures", "dist/qpk-capture"))

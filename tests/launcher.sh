@@ -1,7 +1,7 @@
 #!/bin/sh
 # Holds what ./qpk answers against what is written below: tests/launcher.sh [KIND..]. The kinds are
 #   generated  the program of dist/, in a copy without rt, a build or a proof; ten seconds
-#   unproved   a build by rt try, in a copy without dist/; ten minutes, since each call compiles it
+#   unproved   a build by rt try, in a copy without dist/SUMS; ten minutes, since each call compiles it
 #   proved     the proved program, if it is built here
 # Without a kind all are tried. Those that are tried are compared with each other.
 # shellcheck disable=SC2317 # the cases are called by their names
@@ -148,6 +148,11 @@ try_choices() {
     echo '// edited' >>"$copy/crates/qpk/src/lib.rt"
     try_choice "an edited source" 0 0000d1 '^qpk: this answer is of version [0-9.]*, as dist/ has it: the sources' ./qpk encode
     (cd "$copy" && ./qpk --version 2>&1) | grep -qx 'the sources here were changed since' || complain "--version of an edited source"
+    # Help of an edited source needs no build by rt, which is there and fails.
+    help=$("$copy/qpk" help 2>/dev/null)
+    try_choice "help of an edited source" 0 "$help" '^qpk: this answer is of version [0-9.]*, as dist/ has it: .* since$' \
+        env PATH="$room/rt:$PATH" ./qpk help
+    try_choice "an edited source with rt" 3 '' '^qpk: no answer without a proof' env PATH="$room/rt:$PATH" ./qpk encode
     cp "$here/crates/qpk/src/lib.rt" "$copy/crates/qpk/src/lib.rt"
     mv "$copy/crates/qpk/proofs" "$room"
     try_choice "no proofs" 0 0000d1 '^qpk: this answer is of version ' ./qpk encode
@@ -187,7 +192,9 @@ try_generated() {
     copy generated
     copy=$room/generated
     printf '#!/bin/sh\necho this compiler fails\nexit 1\n' >"$room/failing"
-    chmod +x "$room/failing"
+    mkdir "$room/rt"
+    printf '#!/bin/sh\nexit 1\n' >"$room/rt/rt"
+    chmod +x "$room/failing" "$room/rt/rt"
     PATH=$without_rt
     command -v rt >/dev/null && { complain "rt is in $without_rt, so nothing is tried without it"; return; }
     [ "$("$copy/dist/sources" qpk_program)" = "$(sed -n 's/^sources qpk_program //p' "$copy/dist/SUMS")" ] ||
@@ -201,7 +208,7 @@ try_generated() {
 
 try_unproved() {
     copy unproved
-    rm -r "$room/unproved/dist"
+    rm "$room/unproved/dist/SUMS"
     kind=unproved qpk=$room/unproved/qpk
     try_all
     try_too_much

@@ -1,20 +1,31 @@
-# Completion of qpk for bash.
+# Completion of qpk for bash. Where no word fits, bash completes the name of a file.
 _qpk() {
     local words='' source='--keys --connection --pdml --max-capacity --max-blocked --qif'
     if [ "$COMP_CWORD" = 1 ]; then
         words='encode decode show check explain report stats table inspect run help --version'
     else
+        case ${COMP_WORDS[COMP_CWORD - 1]} in
+        --keys) COMPREPLY=() && return ;;
+        esac
         case ${COMP_WORDS[1]} in
         encode) words='--qif' ;;
         decode) words='--hex --json --qif' ;;
-        show) words='--table --json --max-capacity --max-blocked --qif' ;;
-        check) words='--json --max-capacity --max-blocked --qif' ;;
+        show)
+            words='--table --json --qlog --max-capacity --max-blocked --qif --keys --connection --stream'
+            words+=' --color=always --color=auto --color=never'
+            ;;
+        check)
+            words='--json --max-capacity --max-blocked --qif --keys --connection'
+            words+=' --color=always --color=auto --color=never'
+            ;;
+        explain)
+            words='--encoder-stream --decoder-stream --max-capacity --color=always --color=auto --color=never'
+            ;;
         report) words="-o $source" ;;
         stats) words="--json --try $source" ;;
         table) words="--at --entry --from --json $source" ;;
-        explain) words='--encoder-stream --decoder-stream --max-capacity' ;;
         esac
     fi
     mapfile -t COMPREPLY < <(compgen -W "$words" -- "${COMP_WORDS[COMP_CWORD]}")
 }
-complete -F _qpk qpk
+complete -o default -F _qpk qpk

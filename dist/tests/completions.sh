@@ -10,7 +10,8 @@ trap 'rm -rf "$room"' EXIT
 
 # Prints the commands of the manual page, and the options of each, a line each: "decode", "decode --hex".
 list_manual() {
-    awk '$1 == ".It" && $2 == "Fl" { print "-" $3 }
+    awk '{ while (sub(/\\$/, "")) { getline rest; $0 = $0 rest } } # a line that goes on
+        $1 == ".It" && $2 == "Fl" { print "-" $3 }
         $1 == ".It" && $2 == "Cm" {
             print $3
             for (at = 4; at < NF; at++) if ($at == "Fl") print $3 " -" $(at + 1)
@@ -32,17 +33,18 @@ ask_zsh() {
     zsh -fc 'fpath=(completions)
         autoload -Uz _qpk
         _describe() { local name=${@[-1]}; print -l -- ${${(P)name}%%:*} }
+        _files() { [[ $words[2] == (show|check) ]] || print no file is due }
         words=(qpk "$@" "") CURRENT=$(($# + 2))
         _qpk' zsh "$@"
 }
 
-# Compares what a shell completes, asked by a function, with the manual page.
+# Compares what a shell completes, asked by a function, with the manual page. The values of an option are left out.
 compare() {
     local command option
     for command in $("$1"); do
         echo "$command"
-        for option in $("$1" "$command"); do echo "$command $option"; done
-    done | sort >"$room/completed"
+        for option in $("$1" "$command"); do echo "$command ${option%%=*}"; done
+    done | sort -u >"$room/completed"
     list_manual | diff - "$room/completed" && [ -s "$room/completed" ]
 }
 

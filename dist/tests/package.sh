@@ -65,8 +65,10 @@ try_statically() {
         ! readelf -d "$root/main" | grep h3_qpack && [ "$(run_there /main)" = 0000d1 ]
 }
 
+# The program, and the script that runs it, which reads a word of its own.
 try_qpk() {
-    [ "$(printf ':method\tGET\n' | run_there /usr/bin/qpk encode)" = 0000d1 ]
+    [ "$(printf ':method\tGET\n' | run_there /usr/bin/qpk encode)" = 0000d1 ] &&
+        printf 'b 4 0000d1\n' | run_there /usr/bin/qpk show --color=never - | grep -x '  2 static 17, :method: GET'
 }
 
 # The manual page and the completions are where man, bash and zsh look.

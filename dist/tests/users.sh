@@ -29,6 +29,20 @@ use_pkg_config() {
         make -C "$room/make.users/pkg-config" && run_main make make.users/pkg-config
 }
 
+# Moves what was installed, and runs qpk from a link, on a file.
+use_qpk() {
+    cp -R "$room/make" "$room/moved" && ln -s "$room/moved/bin/qpk" "$room/linked" && echo 'b 4 0000d1' >"$room/recording" &&
+        [ "$(printf ':method\tGET\n' | "$room/linked" encode)" = 0000d1 ] &&
+        "$room/linked" show "$room/recording" | grep -x '  2 static 17, :method: GET'
+}
+
+# The same with other folders, installed in a folder for packages first.
+use_qpk_elsewhere() {
+    make -s -C "$dist" BUILD="$room/make.build" DESTDIR="$room/package" PREFIX="$room/p" BINDIR="$room/p/b" LIBEXECDIR="$room/p/x" \
+        install && mv "$room/package$room/p" "$room/p" && [ "$("$room/p/b/qpk" explain 84 --decoder-stream)" ] &&
+        readlink "$room/p/b/qpk-capture" | grep -x "$room/p/x/qpk-capture"
+}
+
 # The same with the static library alone.
 use_pkg_config_statically() {
     rm "$room"/make/lib/*.so* "$room/make.users/pkg-config/main" && make -C "$room/make.users/pkg-config" &&
@@ -78,6 +92,8 @@ if has cc make pkg-config; then
     export PKG_CONFIG_PATH=$room/make/lib/pkgconfig
     try "pkg-config, shared" use_pkg_config
     try "pkg-config, static" use_pkg_config_statically
+    try "qpk, moved" use_qpk
+    try "qpk, in other folders" use_qpk_elsewhere
 fi
 if has cc make cmake; then
     for shared in OFF ON; do

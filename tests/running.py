@@ -1,0 +1,40 @@
+"""Runs the functions of a script whose names begin with test_, and finds the qpk that they try."""
+import shutil
+import subprocess
+import traceback
+from pathlib import Path
+
+TOP = Path(__file__).resolve().parent.parent
+
+
+def run_tests(functions, name, subject):
+    """Runs all tests among functions, prints those that failed and a last line, and returns the status."""
+    passed = failed = 0
+    for title, test in sorted(functions.items()):
+        if title.startswith("test_"):
+            try:
+                test()
+                passed += 1
+            except Exception:  # pylint: disable=broad-except # a test may fail in any way
+                failed += 1
+                print(f"{title}:\n{traceback.format_exc()}")
+    print(f"{name}: {passed} tests of {subject} passed, {failed} failed")
+    return 1 if failed else 0
+
+
+def answers_at_once():
+    """Whether ./qpk answers by a program of these sources. It compiles changed ones for each call, in half a minute."""
+    ran = subprocess.run([TOP / "qpk", "--version"], capture_output=True, encoding="utf-8", check=False)
+    return ran.returncode == 0 and "not proved" not in ran.stdout and "were changed since" not in ran.stdout
+
+
+def missing_tool():
+    """Returns a program that make needs to install dist/ and that is not there, or nothing."""
+    return next((it for it in ("make", "cc", "objcopy") if not shutil.which(it)), "")
+
+
+def install(room):
+    """Installs dist/ below a folder by make, and returns qpk there."""
+    words = ["make", "-s", "-C", TOP / "dist", f"BUILD={room}/build", f"PREFIX={room}/usr", "install"]
+    subprocess.run([*map(str, words)], check=True, stdout=subprocess.DEVNULL)
+    return room / "usr" / "bin" / "qpk"
