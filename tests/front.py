@@ -112,7 +112,7 @@ def test_the_rest_is_of_the_program():
         (("check", "--max-blocked", "7"), FAULTS),
         (("explain", "--max-capacity", "64", "0380", "d1"), ""),
         (("explain",), "0000d1"),
-        (("report",), ""),
+        (("reports",), ""),
         (("it's \"one\"", "", "a\nb"), ""),
     ]
     for words, data in cases:
@@ -272,7 +272,8 @@ def is_program(pid):
 def test_a_command_that_is_a_script():
     """report, stats and table go to their script, which has the program in a variable."""
     script = PROGRAM.parent / "qpk-report"
-    before = script.read_bytes() if script.exists() else None
+    kept = script.with_suffix(".kept")
+    script.rename(kept)
     script.write_text('#!/bin/sh\necho "$QPK" "$@"\nexit 7\n')
     script.chmod(0o755)
     try:
@@ -280,10 +281,11 @@ def test_a_command_that_is_a_script():
             status, output, _ = run(INSTALLED, command, "x y", "--color=always")
             program, words = output.decode().split(" ", 1)
             assert (status, words) == (7, f"{command} x y --color=always\n") and os.path.samefile(program, PROGRAM)
+            assert run(INSTALLED, "help", command)[1].endswith(f" {command} --help\n".encode())
     finally:
-        script.unlink()
-        if before is not None:
-            script.write_bytes(before)
+        kept.rename(script)
+    status, output, _ = run(INSTALLED, "table", "--at", "end", CHROMIUM)
+    assert status == 0 and b" of 4096 bytes" in output, output
 
 
 def test_no_program():
