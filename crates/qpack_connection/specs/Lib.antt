@@ -27,3 +27,4 @@ pub mod LawfulRows
 pub mod LawfulEnds
 pub mod LateSettings
 pub mod RecordedRows
+pub mod LawfulVerdicts

@@ -3,6 +3,7 @@
 ghost use Rattle.qpack_connection.specs.LawfulDecoders.{EncodersAreCareful, LawfulDecodersAreUnderstood};
 ghost use Rattle.qpack_connection.specs.LawfulEncoders.{LawfulEncodersAreUnderstood};
 ghost use Rattle.qpack_connection.specs.ArrivedSections.{SectionsArrive};
+ghost use Rattle.qpack_connection.specs.LawfulVerdicts.{TakenStreamsAreLawful, ReadSectionsAreLawful};
 ghost use Rattle.qpack_connection.specs.RecordedRows.{OtherEncodersAreLawful};
 ghost use Rattle.qpack_connection.specs.LateSettings.{NewEndsAreUnused, EndsWithoutATableStayUnused};
 ghost use Rattle.qpack_connection.specs.LateSettings.{LateSettingsAreAsEarly};
@@ -115,10 +116,19 @@ pub fn ends_of_the_standard_are_lawful()
 {}
 
 /// What the laws ask of a peer is met by what other encoders wrote, as it was recorded: the encoder streams of Chromium
-/// and Firefox as they begin, a section of Chromium's that references all of its insertions, and the encoder stream of
-/// nghttp3, which evicts entries.
+/// and Firefox as they begin, a section of each that references all of its insertions, below its base and above it, and
+/// the encoder stream of nghttp3, which evicts entries.
 pub fn other_encoders_are_lawful()
     ensures { OtherEncodersAreLawful }
+{}
+
+/// What a strict decoder takes and reads is what an encoder that keeps to the standard may have written. So what
+/// [`ConnectionDecoder`](crate::ConnectionDecoder) answers of a recording is the verdict of the definitions. Instructions
+/// that are taken are lawful for an encoder that knows the evicted insertions to be received. A section that is read is
+/// lawful, if the last insertion that it requires is not evicted (RFC 9204, sections 2.1, 3.2 and 4.5).
+pub fn what_is_read_is_lawful()
+    ensures streams { TakenStreamsAreLawful }
+    ensures sections { ReadSectionsAreLawful }
 {}
 
 /// What [`ConnectionEncoder`](crate::ConnectionEncoder) writes is what the laws of a decoder ask of its peer, whatever
