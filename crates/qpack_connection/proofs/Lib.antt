@@ -46,3 +46,4 @@ pub mod RecordedRows
 pub mod ReadLines
 pub mod ReadPrefixes
 pub mod LawfulVerdicts
+pub mod RecordedDecoders

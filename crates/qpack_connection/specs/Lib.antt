@@ -28,3 +28,4 @@ pub mod LawfulEnds
 pub mod LateSettings
 pub mod RecordedRows
 pub mod LawfulVerdicts
+pub mod RecordedDecoders

@@ -5,6 +5,7 @@ ghost use Rattle.qpack_connection.specs.LawfulEncoders.{LawfulEncodersAreUnderst
 ghost use Rattle.qpack_connection.specs.ArrivedSections.{SectionsArrive};
 ghost use Rattle.qpack_connection.specs.LawfulVerdicts.{TakenStreamsAreLawful, ReadSectionsAreLawful};
 ghost use Rattle.qpack_connection.specs.RecordedRows.{OtherEncodersAreLawful};
+ghost use Rattle.qpack_connection.specs.RecordedDecoders.{OtherDecodersAreLawful};
 ghost use Rattle.qpack_connection.specs.LateSettings.{NewEndsAreUnused, EndsWithoutATableStayUnused};
 ghost use Rattle.qpack_connection.specs.LateSettings.{LateSettingsAreAsEarly};
 ghost use Rattle.qpack_connection.specs.LawfulEnds.{EncodersKeepToTheStandard, DecodersWriteWhatTheyMay};
@@ -120,6 +121,13 @@ pub fn ends_of_the_standard_are_lawful()
 /// the encoder stream of nghttp3, which evicts entries.
 pub fn other_encoders_are_lawful()
     ensures { OtherEncodersAreLawful }
+{}
+
+/// What the law of an encoder asks of a peer is met by what other decoders wrote, as it was recorded, however it is cut:
+/// the decoder streams of Chromium, Firefox and nghttp3 as they begin, with acknowledgments, increments and the
+/// cancellation of a stream (RFC 9204, section 4.4).
+pub fn other_decoders_are_lawful()
+    ensures { OtherDecodersAreLawful }
 {}
 
 /// What a strict decoder takes and reads is what an encoder that keeps to the standard may have written. So what
