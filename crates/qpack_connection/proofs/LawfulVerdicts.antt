@@ -1,5 +1,5 @@
 -- What a strict decoder takes and reads is lawful.
-use Rattle.std.proofs.Common.{ℕ, ◌+◌, ◌-◌, ◌*◌, ◌%◌, ◌<◌, ◌≤◌, ◌≡◌, false, List, length, Result, Ok, Err, inl, inr}
+use Rattle.std.proofs.Common.{ℕ, ◌+◌, ◌*◌, ◌%◌, ◌<◌, ◌≤◌, ◌≡◌, false, List, length, Result, Ok, Err, inl, inr}
 use Rattle.std.proofs.Common.{refl, sym, ap, ◌∙◌, subst, arith}
 use Rattle.std.specs.Prelude.{IsOk, nat_lt, nat_eq, ◌&&◌}
 use Rattle.std.proofs.lemmas.Bool.{ltb-false, eq-eqb, and_cases}
@@ -21,7 +21,7 @@ use Rattle.qpack_spec.specs.Table.{Table, table_of}
 use Rattle.qpack_spec.specs.Taking.{apply_in_turn}
 use Rattle.qpack_connection.specs.LawfulVerdicts.{TakenStreamsAreLawful, ReadSectionsAreLawful}
 use Rattle.qpack_connection.proofs.ReadLines.{lines_lawful, lines_from}
-use Rattle.qpack_connection.proofs.ReadPrefixes.{spelled_small, based, TellsCount, count_told, TellsBase, base_told}
+use Rattle.qpack_connection.proofs.ReadPrefixes.{spelled_small, based, count_told, base_told}
 
 -- ---- a section
 

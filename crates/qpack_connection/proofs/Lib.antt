@@ -47,3 +47,4 @@ pub mod ReadLines
 pub mod ReadPrefixes
 pub mod LawfulVerdicts
 pub mod RecordedDecoders
+pub mod HeardVerdicts

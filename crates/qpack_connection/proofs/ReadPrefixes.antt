@@ -1,7 +1,7 @@
 -- The prefix that a strict decoder reads tells the count and the base that it reads.
 use Rattle.std.proofs.Common.{ℕ, zero, suc, ◌+◌, ◌-◌, ◌*◌, ◌%◌, ◌^◌, ◌<◌, ◌≤◌, ◌≡◌, Bool, true, false, List, [], ◌∷◌}
 use Rattle.std.proofs.Common.{length, Result, Ok, Err, inl, inr, refl, sym, ap, ◌∙◌, subst, arith}
-use Rattle.std.specs.Prelude.{nat_lt, nat_le, nat_eq, ◌||◌, not}
+use Rattle.std.specs.Prelude.{nat_lt, nat_le, nat_eq, ◌||◌}
 use Rattle.std.proofs.lemmas.Bool.{ltb-true, ltb-false, eqb-true, ne_eqb, or_parts, or_cases}
 use Rattle.qpack_spec.specs.Integer.{SpellsInteger, groups_sum}
 use Rattle.qpack_spec.proofs.Results.{chosen, ok_is, ok_pair}
@@ -39,7 +39,7 @@ based base_of (Ok n) required base e = go (base_of n) refl
         let p = ok_pair n required b base (sym x ∙ e) in
         (ap done p.0, subst (λ (m : ℕ). base_of m ≡ Ok base) p.0 (q ∙ ap done p.1))
 
-positive_of : (n : ℕ) → nat_eq n 0 ≡ false → 0 < n
+pub positive_of : (n : ℕ) → nat_eq n 0 ≡ false → 0 < n
 positive_of zero e = absurd cc
 positive_of (suc n) e = omega arith
 

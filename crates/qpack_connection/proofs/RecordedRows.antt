@@ -1,5 +1,5 @@
 -- What other encoders wrote is lawful.
-use Rattle.std.proofs.Common.{ℕ, ◌≡◌, ◌<◌, List, [], ◌∷◌, refl, lit≤}
+use Rattle.std.proofs.Common.{ℕ, refl, lit≤}
 use Rattle.qpack_spec.specs.Instruction.{encoder_instruction_form, SpellsEncoderInstruction}
 use Rattle.qpack_spec.specs.LawfulEncoders.{IsLawfulEncoder, IsLawfulSection}
 use Rattle.qpack_spec.specs.Stream.{SpellsAll}

@@ -4,6 +4,7 @@ ghost use Rattle.qpack_connection.specs.LawfulDecoders.{EncodersAreCareful, Lawf
 ghost use Rattle.qpack_connection.specs.LawfulEncoders.{LawfulEncodersAreUnderstood};
 ghost use Rattle.qpack_connection.specs.ArrivedSections.{SectionsArrive};
 ghost use Rattle.qpack_connection.specs.LawfulVerdicts.{TakenStreamsAreLawful, ReadSectionsAreLawful};
+ghost use Rattle.qpack_connection.specs.LawfulVerdicts.{HeardStreamsAreLawful};
 ghost use Rattle.qpack_connection.specs.RecordedRows.{OtherEncodersAreLawful};
 ghost use Rattle.qpack_connection.specs.RecordedDecoders.{OtherDecodersAreLawful};
 ghost use Rattle.qpack_connection.specs.LateSettings.{NewEndsAreUnused, EndsWithoutATableStayUnused};
@@ -130,13 +131,15 @@ pub fn other_decoders_are_lawful()
     ensures { OtherDecodersAreLawful }
 {}
 
-/// What a strict decoder takes and reads is what an encoder that keeps to the standard may have written. So what
-/// [`ConnectionDecoder`](crate::ConnectionDecoder) answers of a recording is the verdict of the definitions. Instructions
-/// that are taken are lawful for an encoder that knows the evicted insertions to be received. A section that is read is
-/// lawful, if the last insertion that it requires is not evicted (RFC 9204, sections 2.1, 3.2 and 4.5).
+/// What a strict end takes is what a peer that keeps to the standard may have written. So what an end answers of a
+/// recording is the verdict of the definitions. An encoder stream that is taken is lawful for an encoder that knows the
+/// evicted insertions to be received. A section that is read is lawful, if the last insertion that it requires is not
+/// evicted. A decoder stream that is heard is one of a decoder that has received all insertions (RFC 9204, sections 2.1,
+/// 3.2, 4.4 and 4.5).
 pub fn what_is_read_is_lawful()
-    ensures streams { TakenStreamsAreLawful }
+    ensures encoder_stream { TakenStreamsAreLawful }
     ensures sections { ReadSectionsAreLawful }
+    ensures decoder_stream { HeardStreamsAreLawful }
 {}
 
 /// What [`ConnectionEncoder`](crate::ConnectionEncoder) writes is what the laws of a decoder ask of its peer, whatever
