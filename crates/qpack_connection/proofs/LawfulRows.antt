@@ -181,12 +181,12 @@ appendix_encoder many = (
 -- ---- lines
 
 -- one byte that is an integer
-pub number : (n b : ℕ) → b % 2 ^ n < full n → SpellsInteger n (b ∷ []) (b / 2 ^ n) (b % 2 ^ n)
+number : (n b : ℕ) → b % 2 ^ n < full n → SpellsInteger n (b ∷ []) (b / 2 ^ n) (b % 2 ^ n)
 number n b low =
     record { stands = (refl, inl (record { alone = refl; below = low; is = refl })); few = lit≤ tt }
 
 -- the prefix of two bytes
-unfoldable pub prefix : (c d : ℕ) → Prefix
+unfoldable prefix : (c d : ℕ) → Prefix
 prefix c d = record { count = c % 2 ^ 8; sign = nat_eq (d / 2 ^ 7) 1; delta = d % 2 ^ 7 }
 
 prefix_spelled : (c d : ℕ) → c % 2 ^ 8 < full 8 → d % 2 ^ 7 < full 7 → SpellsPrefix (c ∷ d ∷ []) (prefix c d)
@@ -287,7 +287,7 @@ above_line made required base b f names low is may free =
       references = (may, tt);
     }
 
-pub below_line : (made : History) (required base b : ℕ) (f : Field) → line_form b ≡ Some (Index 6 IndexedDynamic)
+below_line : (made : History) (required base b : ℕ) (f : Field) → line_form b ≡ Some (Index 6 IndexedDynamic)
     → b % 2 ^ 6 < full 6 → IsInsertion made.inserted (base - b % 2 ^ 6) f
     → MayBeReferenced made required (base - b % 2 ^ 6) → is_never_indexed b ≡ false
     → SpellsField made required base (b ∷ []) (unmarked f)
@@ -429,7 +429,7 @@ name_marked =
 -- ---- sections
 
 -- a section whose prefix is two bytes
-pub section : (maximum : ℕ) (made : History) (required base c d : ℕ) (fields : List FieldLine) (tail : List ℕ) → base < 2 ^ 64
+section : (maximum : ℕ) (made : History) (required base c d : ℕ) (fields : List FieldLine) (tail : List ℕ) → base < 2 ^ 64
     → c % 2 ^ 8 < full 8 → d % 2 ^ 7 < full 7 → TellsPrefix maximum required base (prefix c d)
     → SpellsAll (SpellsField made required base) tail fields → required ≤ length made.inserted
     → (0 < required → made.dropped < required) → IsLawfulSection maximum made required fields (c ∷ d ∷ tail)
@@ -674,7 +674,7 @@ unfolding rows
 none_cut = (reads_form_truncation decoder_instruction_form []).0 (BadInteger UnexpectedEnd, refl, refl)
 
 -- these bytes are these instructions, and nothing waits
-all_heard : (heard : List DecoderInstruction) (bytes : List ℕ) → SpellsAll SpellsDecoderInstruction bytes heard
+pub all_heard : (heard : List DecoderInstruction) (bytes : List ℕ) → SpellsAll SpellsDecoderInstruction bytes heard
     → Receives heard bytes (record { pending = []; place = behind heard bytes })
 all_heard heard bytes spelled =
     record {

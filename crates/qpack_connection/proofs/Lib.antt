@@ -43,3 +43,8 @@ pub mod WrittenReports
 pub mod HeardFronts
 pub mod LateSettings
 pub mod RecordedRows
+pub mod ReadLines
+pub mod ReadPrefixes
+pub mod LawfulVerdicts
+pub mod RecordedDecoders
+pub mod HeardVerdicts

@@ -27,3 +27,5 @@ pub mod LawfulRows
 pub mod LawfulEnds
 pub mod LateSettings
 pub mod RecordedRows
+pub mod LawfulVerdicts
+pub mod RecordedDecoders

@@ -1,5 +1,5 @@
 -- What other encoders wrote, as it was recorded: the encoder streams of Chromium 156 and Firefox 153 as they begin, to a
--- server that allows a table of 4,096 bytes, and Chromium's second section; and that of nghttp3 0.8.0 at 256 bytes, which
+-- server that allows a table of 4,096 bytes, and the second section of each; and that of nghttp3 0.8.0 at 256 bytes, which
 -- evicts. They are what the laws of a decoder ask of a peer.
 use Rattle.std.specs.Prelude.{ℕ, List, [], ◌∷◌, codes, Some}
 use Rattle.qpack_spec.specs.Field.{Field, FieldLine, unmarked}
@@ -47,6 +47,36 @@ firefox_4 = field (codes "sec-fetch-site") (codes "same-origin")
 abbrev pub firefox_made : History
 firefox_made = made_of 4096 0 (
     firefox_1 ∷ firefox_2 ∷ firefox_3 ∷ firefox_4 ∷ [])
+
+-- the section on stream 4, which requires all four insertions: its base is 0, so that it references them above the
+-- base, and its other lines spell values out
+abbrev pub firefox_section : List ℕ
+firefox_section =
+    0x05 ∷ 0x83 ∷ 0xd1 ∷ 0xd7 ∷ 0x50 ∷ 0x8b ∷ 0xa0 ∷ 0xe4 ∷ 0x1d ∷ 0x13 ∷ 0x9d ∷ 0x09 ∷ 0xb8 ∷ 0xdb ∷ 0x4e ∷ 0xb2 ∷
+    0x0f ∷ 0x51 ∷ 0x86 ∷ 0x62 ∷ 0xb1 ∷ 0xcc ∷ 0x55 ∷ 0xfa ∷ 0x23 ∷ 0x5f ∷ 0x50 ∷ 0xb5 ∷ 0xd0 ∷ 0x7f ∷ 0x66 ∷ 0xa2 ∷
+    0x81 ∷ 0xb0 ∷ 0xda ∷ 0xe0 ∷ 0x53 ∷ 0xfa ∷ 0xfc ∷ 0x08 ∷ 0x7e ∷ 0xd4 ∷ 0xce ∷ 0x6a ∷ 0xad ∷ 0xf2 ∷ 0xa7 ∷ 0x97 ∷
+    0x9c ∷ 0x89 ∷ 0xc6 ∷ 0xbe ∷ 0xd4 ∷ 0xb3 ∷ 0xbd ∷ 0xc0 ∷ 0xb6 ∷ 0xca ∷ 0xe0 ∷ 0xfe ∷ 0xd4 ∷ 0xc4 ∷ 0x52 ∷ 0x75 ∷
+    0x3b ∷ 0x02 ∷ 0x00 ∷ 0x40 ∷ 0x00 ∷ 0x80 ∷ 0x2a ∷ 0x61 ∷ 0x35 ∷ 0x85 ∷ 0x94 ∷ 0xfe ∷ 0x58 ∷ 0x0b ∷ 0x6c ∷ 0xae ∷
+    0x0f ∷ 0xdd ∷ 0x5f ∷ 0x39 ∷ 0x8b ∷ 0x2d ∷ 0x4b ∷ 0x70 ∷ 0xdd ∷ 0xf4 ∷ 0x5a ∷ 0xbe ∷ 0xfb ∷ 0x40 ∷ 0x05 ∷ 0xdf ∷
+    0x5f ∷ 0x10 ∷ 0x92 ∷ 0x9b ∷ 0xd9 ∷ 0xab ∷ 0xfa ∷ 0x52 ∷ 0x42 ∷ 0xcb ∷ 0x40 ∷ 0xd2 ∷ 0x5f ∷ 0xa5 ∷ 0x23 ∷ 0xb3 ∷
+    0xe9 ∷ 0x4f ∷ 0x68 ∷ 0x4c ∷ 0x9f ∷ 0x5d ∷ 0xab ∷ 0x9d ∷ 0x29 ∷ 0xad ∷ 0x17 ∷ 0x18 ∷ 0x62 ∷ 0x83 ∷ 0x90 ∷ 0x74 ∷
+    0x4e ∷ 0x74 ∷ 0x26 ∷ 0xe3 ∷ 0x6d ∷ 0x3a ∷ 0xc8 ∷ 0x18 ∷ 0xff ∷ 0x0d ∷ 0x48 ∷ 0xe6 ∷ 0x2a ∷ 0x20 ∷ 0x68 ∷ 0x1f ∷
+    0x15 ∷ 0x9d ∷ 0x09 ∷ 0x44 ∷ 0x01 ∷ 0x07 ∷ 0xc4 ∷ 0xc5 ∷ 0x4a ∷ 0x20 ∷ 0x08 ∷ 0x3e ∷ 0x2c ∷ 0x3d ∷ 0xb5 ∷ 0x48 ∷
+    0x88 ∷ 0x03 ∷ 0x10 ∷ 0x55 ∷ 0x91 ∷ 0x41 ∷ 0x50 ∷ 0x83 ∷ 0x1e ∷ 0xa8 ∷ 0x19 ∷ 0x95 ∷ 0xe1 ∷ 0x84 ∷ 0x8d ∷ 0x95 ∷
+    0xf8 ∷ 0xdd ∷ 0x90 ∷ 0x40 ∷ 0x69 ∷ 0xcf ∷ 0x11 ∷ 0x12 ∷ 0x13 ∷ []
+
+abbrev pub firefox_fields : List FieldLine
+firefox_fields =
+    unmarked (field (codes ":method") (codes "GET")) ∷ unmarked (field (codes ":scheme") (codes "https")) ∷
+    unmarked (field (codes ":authority") (codes "localhost:54730")) ∷
+    unmarked (field (codes ":path") (codes "/page.js")) ∷
+    unmarked (field (codes "user-agent") (codes "Mozilla/5.0 (X11; Linux x86_64; rv:153.0) Gecko/20100101 Firefox/153.0")) ∷
+    unmarked (field (codes "accept") (codes "*/*")) ∷
+    unmarked (field (codes "accept-language") (codes "en-US,en;q=0.9")) ∷
+    unmarked (field (codes "accept-encoding") (codes "gzip, deflate, br, zstd")) ∷
+    unmarked (field (codes "referer") (codes "https://localhost:54730/?images=40&posts=10&gets=10&rounds=1")) ∷
+    unmarked firefox_1 ∷ unmarked (field (codes "cookie") (codes "session=3f8a1c5e9b7d2046")) ∷ unmarked firefox_2 ∷
+    unmarked firefox_3 ∷ unmarked firefox_4 ∷ []
 
 -- ---- Chromium
 
@@ -233,6 +263,7 @@ chromium_fields =
 abbrev pub OtherEncodersAreLawful : Type 0
 OtherEncodersAreLawful =
     IsLawfulEncoder 4096 0 firefox_sent firefox_made × SpellsAll SpellsEncoderInstruction firefox_bytes firefox_sent
+    × IsLawfulSection 4096 firefox_made 4 firefox_fields firefox_section
     × IsLawfulEncoder 4096 0 chromium_sent chromium_made × SpellsAll SpellsEncoderInstruction chromium_bytes chromium_sent
     × IsLawfulSection 4096 chromium_made 14 chromium_fields chromium_section
     × IsLawfulEncoder 256 7 nghttp3_sent nghttp3_made × SpellsAll SpellsEncoderInstruction nghttp3_bytes nghttp3_sent

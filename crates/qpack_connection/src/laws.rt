@@ -3,7 +3,10 @@
 ghost use Rattle.qpack_connection.specs.LawfulDecoders.{EncodersAreCareful, LawfulDecodersAreUnderstood};
 ghost use Rattle.qpack_connection.specs.LawfulEncoders.{LawfulEncodersAreUnderstood};
 ghost use Rattle.qpack_connection.specs.ArrivedSections.{SectionsArrive};
+ghost use Rattle.qpack_connection.specs.LawfulVerdicts.{TakenStreamsAreLawful, ReadSectionsAreLawful};
+ghost use Rattle.qpack_connection.specs.LawfulVerdicts.{HeardStreamsAreLawful};
 ghost use Rattle.qpack_connection.specs.RecordedRows.{OtherEncodersAreLawful};
+ghost use Rattle.qpack_connection.specs.RecordedDecoders.{OtherDecodersAreLawful};
 ghost use Rattle.qpack_connection.specs.LateSettings.{NewEndsAreUnused, EndsWithoutATableStayUnused};
 ghost use Rattle.qpack_connection.specs.LateSettings.{LateSettingsAreAsEarly};
 ghost use Rattle.qpack_connection.specs.LawfulEnds.{EncodersKeepToTheStandard, DecodersWriteWhatTheyMay};
@@ -116,10 +119,28 @@ pub fn ends_of_the_standard_are_lawful()
 {}
 
 /// What the laws ask of a peer is met by what other encoders wrote, as it was recorded: the encoder streams of Chromium
-/// and Firefox as they begin, a section of Chromium's that references all of its insertions, and the encoder stream of
-/// nghttp3, which evicts entries.
+/// and Firefox as they begin, a section of each that references all of its insertions, below its base and above it, and
+/// the encoder stream of nghttp3, which evicts entries.
 pub fn other_encoders_are_lawful()
     ensures { OtherEncodersAreLawful }
+{}
+
+/// What the law of an encoder asks of a peer is met by what other decoders wrote, as it was recorded, however it is cut:
+/// the decoder streams of Chromium, Firefox and nghttp3 as they begin, with acknowledgments, increments and the
+/// cancellation of a stream (RFC 9204, section 4.4).
+pub fn other_decoders_are_lawful()
+    ensures { OtherDecodersAreLawful }
+{}
+
+/// What a strict end takes is what a peer that keeps to the standard may have written. So what an end answers of a
+/// recording is the verdict of the definitions. An encoder stream that is taken is lawful for an encoder that knows the
+/// evicted insertions to be received. A section that is read is lawful, if the last insertion that it requires is not
+/// evicted. A decoder stream that is heard is one of a decoder that has received all insertions (RFC 9204, sections 2.1,
+/// 3.2, 4.4 and 4.5).
+pub fn what_is_read_is_lawful()
+    ensures encoder_stream { TakenStreamsAreLawful }
+    ensures sections { ReadSectionsAreLawful }
+    ensures decoder_stream { HeardStreamsAreLawful }
 {}
 
 /// What [`ConnectionEncoder`](crate::ConnectionEncoder) writes is what the laws of a decoder ask of its peer, whatever

@@ -8,12 +8,32 @@ use std::mem;
 /// Why a file of the corpus is malformed.
 pub(crate) const UNREADABLE: &str = "a file of the corpus can't be read";
 
-/// Bytes of an encoder stream, or the field section of a list.
+/// What the bytes of a line are.
+#[derive(Clone, Copy, PartialEq)]
+pub(crate) enum Kind {
+    /// Bytes of the encoder stream.
+    Encoder,
+    /// The field section of this stream.
+    Section(u64),
+    /// Bytes of the decoder stream, which went back to the encoder.
+    Decoder,
+}
+
+/// A line of a recording.
 #[derive(Drop)]
 pub(crate) struct Line {
-    /// The number of the list, where it is a section.
-    pub(crate) list: Option<usize>,
+    pub(crate) kind: Kind,
     pub(crate) bytes: Vec<u8>,
+}
+
+impl Line {
+    /// The number of the list of a section, where list i was sent on stream 4 i.
+    pub(crate) fn list(&self) -> Option<usize> {
+        match self.kind {
+            Kind::Section(stream) => usize::try_from(stream / 4).ok(),
+            Kind::Encoder | Kind::Decoder => None,
+        }
+    }
 }
 
 /// Reads header lists: a field a line, its name and its value parted by a TAB; an empty line ends a list.
@@ -33,27 +53,26 @@ pub(crate) fn read_lists(alloc: Global, text: &str) -> Result<Vec<Vec<HeaderFiel
     Ok(lists)
 }
 
-/// Splits a line of a recording at its TABs: the stream's number, where it is a section, and the digits of its bytes.
-/// List i was sent on stream 4 i.
-fn parts_of(line: &str) -> Result<(Option<usize>, &str)> {
+/// Splits a line of a recording at its TABs: what it is, and the digits of its bytes.
+fn parts_of(line: &str) -> Result<(Kind, &str)> {
     let (kind, rest) = line.split_once('\t').context(UNREADABLE)?;
-    if kind == "e" {
-        return Ok((None, rest));
+    match kind {
+        "e" => Ok((Kind::Encoder, rest)),
+        "d" => Ok((Kind::Decoder, rest)),
+        _ => {
+            let (stream, digits) = rest.split_once('\t').context(UNREADABLE)?;
+            Ok((Kind::Section(stream.parse()?), digits))
+        }
     }
-    let (stream, digits) = rest.split_once('\t').context(UNREADABLE)?;
-    Ok((Some(stream.parse()?), digits))
 }
 
 /// Reads the lines of a recording.
 pub(crate) fn read_lines(alloc: Global, text: &str) -> Result<Vec<Line>> {
     let mut lines = Vec::new(alloc);
     for line in text.lines() {
-        let (stream, digits) = parts_of(line)?;
+        let (kind, digits) = parts_of(line)?;
         let bytes = hex::decode(alloc, digits)?;
-        lines.push(Line {
-            list: stream.map(|stream| stream / 4),
-            bytes,
-        })?;
+        lines.push(Line { kind, bytes })?;
     }
     Ok(lines)
 }

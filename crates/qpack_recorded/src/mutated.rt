@@ -97,7 +97,7 @@ fn give_bytes(
     receiver: &mut Receiver,
     answers: &mut Answers,
 ) -> Result<bool> {
-    if line.list.is_some() {
+    if line.list().is_some() {
         answers.count(decode(alloc, receiver, bytes)?)?;
         return Ok(false);
     }

@@ -17,7 +17,7 @@ pub(crate) fn hold(
         let mut receiver = Receiver::new(alloc, max_capacity)?;
         replay(alloc, lists, lines, piece, &mut receiver)?;
     }
-    Ok(lines.iter().filter(|line| line.list.is_some()).count())
+    Ok(lines.iter().filter(|line| line.list().is_some()).count())
 }
 
 /// Replays a recording in pieces of this size.
@@ -46,7 +46,7 @@ fn hold_line(
     piece: usize,
     receiver: &mut Receiver,
 ) -> Result<()> {
-    let Some(number) = line.list else {
+    let Some(number) = line.list() else {
         let refused = receiver.deliver(&line.bytes, piece)?;
         ensure!(refused.is_none(), "an instruction is refused");
         return Ok(());
