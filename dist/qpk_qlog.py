@@ -15,6 +15,7 @@ raw is hexadecimal, or an object whose data is. Bytes that are cut are left out,
 
 import json
 import re
+from collections import Counter
 from dataclasses import dataclass, field
 from typing import Dict, Iterable, Iterator, List, Optional, Set, Tuple
 
@@ -35,8 +36,7 @@ OWN = ("instruction_created", "headers_encoded", "frame_created")
 DECODER_INSTRUCTIONS = ("section_ack", "header_ack", "stream_cancellation", "insert_count_increment")
 ENCODER_INSTRUCTIONS = ("set_dynamic_table_capacity", "insert_with", "duplicate")
 FRAMES = {"headers": HEADERS, "push_promise": PUSH_PROMISE, "settings": SETTINGS}
-# Sources of bytes, the best first: an event of the bytes themselves, and of streams what they carry.
-SOURCES = {"e": ("instruction", "stream"), "d": ("instruction", "stream"), "b": ("frame", "section", "stream")}
+SECTIONS = ("frame", "section", "stream")  # where a section may come from, the best first
 # Names of the two settings, the last by its number.
 CAPACITY_NAMES = ("settings_qpack_max_table_capacity", "max_table_capacity", str(MAX_TABLE_CAPACITY))
 BLOCKED_NAMES = ("settings_qpack_blocked_streams", "blocked_streams_count", str(BLOCKED_STREAMS))
@@ -259,15 +259,34 @@ class Reader:
                 self.found.append((event.time, mark, words, "stream"))
 
     def lines(self) -> List[str]:
-        """Returns the lines: of bytes that come from more than one source, those of the best."""
+        """Returns the lines, each once, though events of several kinds have its bytes."""
+        left_out = self.sections_twice() | self.instructions_twice()
+        kept = (it for at, it in enumerate(self.found) if at not in left_out)
+        return [f"@{time:.6f} {mark} {words}" for time, mark, words, _ in kept]
+
+    def sections_twice(self) -> Set[int]:
+        """Returns the numbers of sections that a better source has too."""
+        twice: Set[int] = set()
+        before: Counter = Counter()  # how often the better sources have each section
+        for source in SECTIONS:
+            now: Counter = Counter()
+            for at, (_, mark, words, it) in enumerate(self.found):
+                if it == source and words.startswith("b "):
+                    now[mark, words] += 1
+                    if now[mark, words] <= before[mark, words]:
+                        twice.add(at)
+            before |= now
+        return twice
+
+    def instructions_twice(self) -> Set[int]:
+        """Returns the numbers of instructions that the bytes of their stream have too, or the other way round."""
         there = {(mark, words[0], source) for _, mark, words, source in self.found}
-        there -= {(*it, "instruction") for it in self.cut if (*it, "stream") in there}
-        kept = []
-        for time, mark, words, source in self.found:
-            best = next((it for it in SOURCES.get(words[0], ()) if (mark, words[0], it) in there), source)
-            if source == best:
-                kept.append(f"@{time:.6f} {mark} {words}")
-        return kept
+        worse = {}
+        for mark, name, _ in there:
+            is_both = {(mark, name, "instruction"), (mark, name, "stream")} <= there
+            if name in ("e", "d") and is_both:
+                worse[mark, name] = "instruction" if (mark, name) in self.cut else "stream"
+        return {at for at, (_, mark, words, it) in enumerate(self.found) if worse.get((mark, words[0])) == it}
 
 
     def missing(self) -> Iterator[str]:
