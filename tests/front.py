@@ -4,8 +4,8 @@
     tests/front.py
 
 It installs dist/ in a folder for temporary files, by make and a C compiler. Without these nothing is tested, and the
-last line says so. ./qpk is left out if the sources were changed. Else it ends with a line 'front: N tests .. passed', and
-with status 1 if a test failed.
+last line says so. ./qpk is left out if the sources were changed. Else it ends with a line 'front: N tests .. passed',
+and with status 1 if a test failed.
 """
 import os
 import pty

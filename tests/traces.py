@@ -175,6 +175,24 @@ def test_instructions_that_are_cut():
     assert lines == ["@0.000000 > d 84", "@0.000000 > e 3fe11f6294e7838c767f00"]
 
 
+def test_sections_twice():
+    """A section that a frame has is not taken again, and one that only its own event has is taken."""
+    def event(name, data, **raw):
+        return {"time": 0, "name": name, "data": {"stream_id": 4, **data, **raw}}
+
+    frame = {"frame": {"frame_type": "headers"}}
+    events = [
+        event("http:frame_parsed", frame, raw="01030000d1"),
+        event("qpack:headers_decoded", {}, raw="0000d1"),
+        event("http:frame_parsed", frame, raw={"length": 900, "data": "0103"}),
+        event("qpack:headers_decoded", {}, raw="0000d1"),
+        event("qpack:headers_decoded", {}, raw="0000d9"),
+        event("qpack:headers_encoded", {}, raw="0000d1"),
+    ]
+    lines, _ = lines_of_events(*events)
+    assert [it.split(" ", 1)[1] for it in lines] == ["< b 4 0000d1", "< b 4 0000d1", "< b 4 0000d9", "> b 4 0000d1"]
+
+
 def test_unknown_events():
     """Events that have nothing of QPACK are passed over, and say nothing."""
     raw = {"raw": {"data": "0000d1"}, "stream_id": 0}
