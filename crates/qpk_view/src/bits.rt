@@ -15,6 +15,8 @@ const WIDTH: usize = 12;
 pub(crate) struct Rows<'a> {
     pub(crate) text: String,
     pub(crate) alloc: Global,
+    /// Whether a byte can't mean anything with any connection.
+    pub(crate) has_fault: bool,
     /// Where the next byte is, from 0.
     at: usize,
     rest: &'a [u8],
@@ -26,6 +28,7 @@ impl<'a> Rows<'a> {
         Rows {
             text: String::new(alloc),
             alloc,
+            has_fault: false,
             at: 0,
             rest: bytes,
         }

@@ -48,7 +48,7 @@ pub fn explain(alloc: Global, options: ExplainOptions, text: &[u8]) -> Result<Vi
     };
     Ok(View {
         text: rows.text,
-        has_found: !is_whole,
+        has_found: rows.has_fault || !is_whole,
     })
 }
 
@@ -164,7 +164,7 @@ fn explain_line(rows: &mut Rows<'_>, line: &BlockLine) -> Result<(), Fault> {
 /// Explains an indexed field line.
 fn explain_indexed(rows: &mut Rows<'_>, line: &Indexed) -> Result<(), Fault> {
     let meaning = match line {
-        Indexed::Static(index) => static_field(rows.alloc, *index)?,
+        Indexed::Static(index) => static_field(rows, *index)?,
         Indexed::Dynamic(index) => dynamic(rows.alloc, "indexed, ", *index)?,
     };
     Ok(rows.push_integer(6, 0b1100_0000, meaning.as_str())?)
@@ -178,7 +178,7 @@ fn explain_literal_with_name_ref(
     let literal = literal(rows);
     match line {
         LiteralWithNameRef::Static { index, value } => {
-            let meaning = static_name(rows.alloc, literal, *index)?;
+            let meaning = static_name(rows, literal, *index)?;
             rows.push_integer(4, 0b0111_0000, meaning.as_str())?;
             push_value(rows, value)
         }
@@ -233,28 +233,31 @@ fn post_base(alloc: Global, before: &str, index: usize) -> Result<String, AllocE
     format!(in alloc; "{before}post-base {index}: entry base + {index} + 1")
 }
 
-/// Returns what an index of the static table means in an indexed field line.
-fn static_field(alloc: Global, index: usize) -> Result<String, Fault> {
-    let mut text = format!(in alloc; "indexed, static {index}: ")?;
+/// Returns what an index of the static table means in an indexed field line. An index past it is a fault.
+fn static_field(rows: &mut Rows<'_>, index: usize) -> Result<String, Fault> {
+    let mut text = format!(in rows.alloc; "indexed, static {index}: ")?;
     match StaticTable::get(index) {
         Ok(field) => push_field(&mut text, &field)?,
-        Err(_) => text.push_str(PAST_STATIC)?,
+        Err(_) => push_past_static(rows, &mut text)?,
     }
     Ok(text)
 }
 
-/// Returns what an index of the static table that has the name means, after a text.
-fn static_name(alloc: Global, before: &str, index: usize) -> Result<String, Fault> {
-    let mut text = format!(in alloc; "{before}static {index}: ")?;
+/// Returns what an index of the static table that has the name means, after a text. An index past it is a fault.
+fn static_name(rows: &mut Rows<'_>, before: &str, index: usize) -> Result<String, Fault> {
+    let mut text = format!(in rows.alloc; "{before}static {index}: ")?;
     match StaticTable::get(index) {
         Ok(field) => push_name(&mut text, &field)?,
-        Err(_) => text.push_str(PAST_STATIC)?,
+        Err(_) => push_past_static(rows, &mut text)?,
     }
     Ok(text)
 }
 
-/// No field of the static table has an index.
-const PAST_STATIC: &str = "past the static table, which ends at 98";
+/// Appends that no field of the static table has an index, and keeps that this is a fault.
+fn push_past_static(rows: &mut Rows<'_>, text: &mut String) -> Result<(), AllocError> {
+    rows.has_fault = true;
+    text.push_str("past the static table, which ends at 98")
+}
 
 /// Explains bytes of an encoder stream. Returns whether all of them can be read.
 fn explain_encoder_stream(rows: &mut Rows<'_>) -> Result<bool, Fault> {
@@ -300,7 +303,7 @@ fn explain_instruction(rows: &mut Rows<'_>, line: &EncoderLine) -> Result<(), Fa
 fn explain_insert(rows: &mut Rows<'_>, line: &InsertWithNameRef) -> Result<(), Fault> {
     match line {
         InsertWithNameRef::Static { index, value } => {
-            let meaning = static_name(rows.alloc, "insert with the name of ", *index)?;
+            let meaning = static_name(rows, "insert with the name of ", *index)?;
             rows.push_integer(6, 0b1100_0000, meaning.as_str())?;
             push_value(rows, value)
         }
