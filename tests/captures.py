@@ -170,6 +170,16 @@ def logged(fields):
     return sorted(f"{field['name']}: {field['value']}" for field in fields)
 
 
+def test_files_that_are_missing():
+    """A capture or a key log that is not there gets one line, which names it."""
+    for words in (["nowhere.pcapng", "--keys", KEPT], [CAPTURED / "chromium.pcapng", "--keys", "nowhere.log"]):
+        command = [TOP / "dist" / "qpk-capture", "show", *words]
+        ran = subprocess.run([*map(str, command)], stdout=subprocess.PIPE, stderr=subprocess.PIPE, encoding="utf-8")
+        name = next(it for it in map(str, words) if it.startswith("nowhere"))
+        assert (ran.returncode, ran.stdout) == (1, "")
+        assert ran.stderr == f"qpk-capture: {name} is not a file that can be read\n"
+
+
 def test_chromium_by_tshark():
     """The lines of the capture are those that are kept."""
     if shutil.which("tshark"):
