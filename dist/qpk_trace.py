@@ -6,26 +6,11 @@ of the first drafts after it.
 """
 
 import json
-import re
 from typing import Dict, Iterable, Iterator, List, Optional, Tuple
 
+from qpk_lines import pieces_of_lines
 from qpk_qlog import SEPARATOR
 from qpk_streams import Connection
-
-
-def bytes_of_line(text: str) -> Tuple[str, str, bytes]:
-    """Returns the mark of a line of a recording, what it is, and its bytes."""
-    words = text.split()
-    if words and words[0].startswith("@"):
-        words.pop(0)
-    mark = words[0][0] if words and words[0][0] in "<>" else ""
-    if words and mark:
-        words[0] = words[0][1:]
-    words = [it for it in words if it]
-    if not words or words[0] not in ("e", "d", "b"):
-        return mark, "", b""
-    digits = "".join(re.sub("^0[xX]", "", it).replace(":", "") for it in words[2 if words[0] == "b" else 1 :])
-    return mark, words[0], bytes.fromhex(digits[: len(digits) // 2 * 2])
 
 
 def named(it: dict) -> dict:
@@ -87,12 +72,11 @@ class Writer:
         self.sections: Dict[int, bytes] = {}  # by their line
         self.sent: Dict[Tuple[str, str], bytearray] = {}  # the bytes of each stream of instructions
         self.waiting: Dict[Tuple[str, int], List[int]] = {}  # the lines of the sections that wait
-        for number, text in enumerate(lines, 1):
-            mark, kind, data = bytes_of_line(text)
-            if kind == "b":
-                self.sections[number] = data
-            elif kind:
-                self.sent.setdefault((mark, kind), bytearray()).extend(data)
+        for piece in pieces_of_lines(lines):
+            if piece.kind == "b":
+                self.sections[piece.line] = piece.data
+            else:
+                self.sent.setdefault((piece.end, piece.kind), bytearray()).extend(piece.data)
         self.ends: Dict[int, int] = {}  # where each instruction ends, by its number among the objects
         after: Dict[Tuple[str, str], int] = {}
         for at, it in reversed(list(enumerate(objects))):
@@ -134,8 +118,7 @@ class Writer:
 
     def sent_on(self, it: dict) -> bytearray:
         """Returns the bytes of the stream of an instruction."""
-        mark = {"client": ">", "server": "<"}.get(it.get("from", ""), "")
-        return self.sent.get((mark, "e" if "encoder" in it else "d"), bytearray())
+        return self.sent.get((it.get("from", ""), "e" if "encoder" in it else "d"), bytearray())
 
     def bytes_of_instruction(self, at: int) -> bytes:
         """Returns the bytes of an instruction."""

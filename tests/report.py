@@ -19,6 +19,8 @@ import traceback
 from concurrent.futures import ThreadPoolExecutor
 from pathlib import Path
 
+from running import FORMED, PLAIN
+
 TOP = Path(__file__).resolve().parent.parent
 CAPTURED = TOP / "tests" / "captured"
 RECORDING = CAPTURED / "chromium.txt"
@@ -248,6 +250,14 @@ def test_the_bytes_of_the_page():
     hows = ["static", "dynamic", "static-name", "dynamic-name", "literal", "literal"]
     assert [it["how"] for it in section["lines"]] == hows
     assert section["lines"][4]["form"] == "literal" and section["lines"][5]["form"] == "literal never indexed"
+
+
+def test_each_form_of_a_line():
+    """A mark may be joined to its kind, and bytes may have blanks, colons and 0x: all is as of plain lines."""
+    plain, formed = (page_of("-", text=it.encode().decode("latin-1"))[1] for it in (PLAIN, FORMED))
+    assert plain == formed
+    hexes = [it["hex"] for it in plain["connections"][0]["events"]]
+    assert hexes == ["3f2d", "6294e7838c767f", "0200", "0200", "84", "0000", "88", "0200", ""]
 
 
 def test_text():

@@ -14,7 +14,7 @@ import sys
 import tempfile
 from pathlib import Path
 
-from running import TOP, answers_at_once, install, missing_tool, run_tests
+from running import FORMED, PLAIN, TOP, answers_at_once, install, missing_tool, run_tests
 
 QLOG = TOP / "tests" / "qlog"
 CHROMIUM = TOP / "tests" / "captured" / "chromium.txt"
@@ -270,6 +270,14 @@ def test_written_events():
         ("qpack:headers_encoded", "0000ff24"),
         ("qpack:headers_encoded", "0481"),
     ]
+
+
+def test_each_form_of_a_line():
+    """A mark may be joined to its kind, and bytes may have blanks, colons and 0x: all is as of plain lines."""
+    plain, formed = (run(QPK, "show", "--qlog", data=it) for it in (PLAIN, FORMED))
+    assert plain == formed and plain[0] == 0, formed
+    raw = [json.loads(it)["data"]["raw"]["data"] for it in plain[1].split(RECORD)[2:]]
+    assert raw == ["3f2d", "6294e7838c767f", "020080", "020080", "84", "0000d1", "88", "0200d1"]
 
 
 def test_words():

@@ -7,13 +7,14 @@ import subprocess
 import sys
 from dataclasses import dataclass
 from pathlib import Path
-from typing import Any, Dict, Iterator, List, NamedTuple, Optional, Sequence
+from typing import Any, Dict, Iterator, List, Optional, Sequence
+
+from qpk_lines import Piece, pieces_of_lines
 
 from . import ReportError
 
 SCRIPTS = Path(__file__).resolve().parent.parent  # where qpk-report is
 CAPTURES = {bytes.fromhex(it) for it in ("0a0d0d0a", "d4c3b2a1", "a1b2c3d4", "4d3cb2a1", "a1b23c4d")}
-ENDS = {b">": "client", b"<": "server"}
 HEAD_OF_RECORD = 12  # bytes before those of a record of the offline interop: 8 for the stream, 4 for the length
 Object = Dict[str, Any]
 
@@ -34,15 +35,6 @@ class Source:
         """Returns the words of qpk that have the limits."""
         given = {"--max-capacity": self.max_capacity, "--max-blocked": self.max_blocked}
         return [word for name, number in given.items() if number is not None for word in (name, str(number))]
-
-
-class Piece(NamedTuple):
-    """A line of a recording that has bytes, or a record."""
-
-    line: int
-    end: str  # client, server, or nothing if the recording has one direction
-    kind: str  # e, d or b
-    data: bytes
 
 
 @dataclass(frozen=True)
@@ -68,7 +60,9 @@ class Recording:
 
     def pieces(self) -> Iterator[Piece]:
         """Yields the lines that have bytes. Which lines there may be is checked by qpk."""
-        return pieces_of_records(self.data) if "--qif" in self.words else pieces_of_lines(self.data)
+        if "--qif" in self.words:
+            return pieces_of_records(self.data)
+        return pieces_of_lines(self.data.decode(errors="replace").split("\n"))
 
 
 def find_program(name: str) -> str:
@@ -90,27 +84,7 @@ def run_qpk(words: Sequence[str], data: bytes, statuses: Sequence[int] = (0,)) -
     return ran.stdout
 
 
-# ---- The bytes of a recording
-
-
-def pieces_of_lines(data: bytes) -> Iterator[Piece]:
-    """Yields the pieces of lines (docs/QPK.md, Lines of a recording)."""
-    for number, line in enumerate(data.split(b"\n"), 1):
-        words = line.split()
-        if not words or words[0].startswith(b"#"):
-            continue
-        if words[0].startswith(b"@"):
-            words = words[1:]
-        end = ENDS.get(words[0], "")
-        kind, *rest = words[1:] if end else words
-        if kind in (b"e", b"d", b"b"):
-            yield Piece(number, end, kind.decode(), bytes_of(rest[1:] if kind == b"b" else rest))
-
-
-def bytes_of(words: Sequence[bytes]) -> bytes:
-    """Returns the bytes that words of hexadecimal have. Half a byte at the end is left out."""
-    digits = b"".join(re.sub(rb"\b0[xX]|:", b"", it) for it in words).decode()
-    return bytes.fromhex(digits[: len(digits) // 2 * 2])
+# ---- The bytes of a recording of the interop
 
 
 def pieces_of_records(data: bytes) -> Iterator[Piece]:

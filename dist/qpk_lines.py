@@ -1,0 +1,35 @@
+"""The lines of a recording that have bytes (docs/QPK.md, Lines of a recording). qpk-capture and qpk-report read it.
+
+Which lines there may be is checked by qpk, before they are read here.
+"""
+
+import re
+from typing import Iterable, Iterator, NamedTuple
+
+ENDS = {">": "client", "<": "server", "": ""}
+# A time; a mark, which the kind may follow at once; the kind; of a section its stream; and words of hexadecimal.
+LINE = re.compile(r"\s*(?:@\S*\s+)?([<>]?)\s*([edb])(?:(?<=b)\s+\S+)?(?!\S)(.*)")
+
+
+class Piece(NamedTuple):
+    """A line of a recording that has bytes, or a record."""
+
+    line: int
+    end: str  # client, server, or nothing if the recording has one direction
+    kind: str  # e, d or b
+    data: bytes
+
+
+def pieces_of_lines(lines: Iterable[str]) -> Iterator[Piece]:
+    """Yields the pieces of lines."""
+    for number, line in enumerate(lines, 1):
+        found = LINE.match(line)
+        if found:
+            mark, kind, digits = found.groups()
+            yield Piece(number, ENDS[mark], kind, bytes_of(digits))
+
+
+def bytes_of(text: str) -> bytes:
+    """Returns the bytes that words of hexadecimal have. Half a byte at the end is left out."""
+    digits = re.sub(r"\b0[xX]|[:\s]", "", text)
+    return bytes.fromhex(digits[: len(digits) // 2 * 2])
