@@ -280,6 +280,22 @@ def test_each_form_of_a_line():
     assert raw == ["3f2d", "6294e7838c767f", "020080", "020080", "84", "0000d1", "88", "0200d1"]
 
 
+def test_no_trace():
+    """Where qpk refuses its words or its input there is no trace, and its status and its message are its own."""
+    for words, data in (
+        (("--max-capacity", "x"), "b 4 0000d1\n"),
+        (("--foo",), "b 4 0000d1\n"),
+        ((), "x 1\n"),
+        ((), "e 3f2\n"),
+        ((), "b 4 0000d1\ne 0g\n"),
+        ((), "> b 4 0000d1\nb 4 0000d1\n"),
+        (("--max-capacity", "1073741824"), "e 3f\n"),
+    ):
+        expected = run(QPK, "show", "--json", *words, data=data)
+        assert expected[:2] == (1, "") and expected[2], expected
+        assert run(QPK, "show", "--qlog", *words, data=data) == expected, words
+
+
 def test_words():
     """Words that are of show alone; a trace is written of no recording of the interop."""
     for words in (("check", "--qlog"), ("show", "--qlog", "--qif"), ("check", "--stream", 4)):
