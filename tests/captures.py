@@ -171,8 +171,9 @@ def logged(fields):
 
 
 def test_files_that_are_missing():
-    """A capture or a key log that is not there gets one line, which names it."""
-    for words in (["nowhere.pcapng", "--keys", KEPT], [CAPTURED / "chromium.pcapng", "--keys", "nowhere.log"]):
+    """A capture, a key log or a file of tshark that is not there gets one line, which names it."""
+    keys = [CAPTURED / "chromium.pcapng", "--keys", "nowhere.log"]
+    for words in (["nowhere.pcapng", "--keys", KEPT], keys, ["--pdml", "nowhere.pdml"]):
         command = [TOP / "dist" / "qpk-capture", "show", *words]
         ran = subprocess.run([*map(str, command)], stdout=subprocess.PIPE, stderr=subprocess.PIPE, encoding="utf-8")
         name = next(it for it in map(str, words) if it.startswith("nowhere"))
