@@ -15,13 +15,10 @@ import shutil
 import subprocess
 import sys
 import tempfile
-import traceback
-from concurrent.futures import ThreadPoolExecutor
 from pathlib import Path
 
-from running import FORMED, PLAIN
+from running import FORMED, PLAIN, TOP, run_tests
 
-TOP = Path(__file__).resolve().parent.parent
 CAPTURED = TOP / "tests" / "captured"
 RECORDING = CAPTURED / "chromium.txt"
 BUILT = tempfile.TemporaryDirectory()  # the program and the library of dist/, which tests ask often
@@ -353,25 +350,11 @@ def test_no_field_ends_the_page():
     assert event["time"] == "</script>"
 
 
-def attempt(test):
-    """Runs a test, and returns why it failed, or nothing."""
-    try:
-        test()
-        return None
-    except Exception:  # pylint: disable=broad-except # a test may fail in any way
-        return f"{test.__name__}:\n{traceback.format_exc()}"
-
-
 def main():
     """Runs all tests, three at once: most of their time programs are started."""
     if QPK.startswith(BUILT.name):
         subprocess.run(["make", "-s", "-C", str(TOP / "dist"), f"BUILD={BUILT.name}"], check=True)
-    tests = [test for name, test in sorted(globals().items()) if name.startswith("test_")]
-    with ThreadPoolExecutor(3) as pool:
-        faults = [it for it in pool.map(attempt, tests) if it]
-    print(*faults, sep="\n", end="")
-    print(f"report: {len(tests) - len(faults)} tests of dist/qpk-report passed, {len(faults)} failed")
-    return 1 if faults else 0
+    return run_tests(globals(), "report", "dist/qpk-report", at_once=3)
 
 
 if __name__ == "__main__":

@@ -2,6 +2,7 @@
 import shutil
 import subprocess
 import traceback
+from concurrent.futures import ThreadPoolExecutor
 from pathlib import Path
 
 TOP = Path(__file__).resolve().parent.parent
@@ -16,19 +17,28 @@ FORMED = (
 )
 
 
-def run_tests(functions, name, subject):
-    """Runs all tests among functions, prints those that failed and a last line, and returns the status."""
-    passed = failed = 0
-    for title, test in sorted(functions.items()):
-        if title.startswith("test_"):
-            try:
-                test()
-                passed += 1
-            except Exception:  # pylint: disable=broad-except # a test may fail in any way
-                failed += 1
-                print(f"{title}:\n{traceback.format_exc()}")
-    print(f"{name}: {passed} tests of {subject} passed, {failed} failed")
+def run_tests(functions, name, subject, at_once=1):
+    """Runs all tests among functions, a number of them at once, prints those that failed and a last line.
+
+    Returns the status.
+    """
+    tests = [test for title, test in sorted(functions.items()) if title.startswith("test_")]
+    failed = 0
+    with ThreadPoolExecutor(at_once) as pool:
+        for fault in filter(None, pool.map(attempt, tests)):
+            failed += 1
+            print(fault)
+    print(f"{name}: {len(tests) - failed} tests of {subject} passed, {failed} failed")
     return 1 if failed else 0
+
+
+def attempt(test):
+    """Runs a test, and returns why it failed, or nothing."""
+    try:
+        test()
+        return ""
+    except Exception:  # pylint: disable=broad-except # a test may fail in any way
+        return f"{test.__name__}:\n{traceback.format_exc()}"
 
 
 def answers_at_once():
