@@ -20,7 +20,8 @@ from pathlib import Path
 
 from running import TOP, answers_at_once, install, missing_tool, run_tests
 
-ROOM = Path(tempfile.mkdtemp(prefix="h3-qpack-front-"))
+FOLDER = tempfile.TemporaryDirectory(prefix="h3-qpack-front-")  # which ends with the script
+ROOM = Path(FOLDER.name)
 INSTALLED = ROOM / "usr" / "bin" / "qpk"
 PROGRAM = ROOM / "usr" / "lib" / "h3_qpack" / "qpk"
 FRONTS = (TOP / "qpk", INSTALLED) if answers_at_once() else (INSTALLED,)
@@ -311,8 +312,4 @@ def main():
 
 
 if __name__ == "__main__":
-    try:
-        STATUS = main()
-    finally:
-        shutil.rmtree(ROOM)
-    sys.exit(STATUS)
+    sys.exit(main())

@@ -8,7 +8,6 @@ JSON-SEQ, and in the form of the first drafts. It ends with a line 'traces: N te
 test failed.
 """
 import json
-import shutil
 import subprocess
 import sys
 import tempfile
@@ -19,7 +18,8 @@ from running import FORMED, PLAIN, TOP, answers_at_once, install, missing_tool, 
 QLOG = TOP / "tests" / "qlog"
 CHROMIUM = TOP / "tests" / "captured" / "chromium.txt"
 RECORD = "\x1e"
-ROOM = Path(tempfile.mkdtemp(prefix="h3-qpack-traces-"))
+FOLDER = tempfile.TemporaryDirectory(prefix="h3-qpack-traces-")  # which ends with the script
+ROOM = Path(FOLDER.name)
 IS_QUICK = answers_at_once()
 QPK = TOP / "qpk" if IS_QUICK else ROOM / "usr" / "bin" / "qpk"
 
@@ -314,8 +314,4 @@ def main():
 
 
 if __name__ == "__main__":
-    try:
-        STATUS = main()
-    finally:
-        shutil.rmtree(ROOM)
-    sys.exit(STATUS)
+    sys.exit(main())
