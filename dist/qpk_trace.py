@@ -11,6 +11,7 @@ from typing import Dict, Iterable, Iterator, List, Optional, Tuple
 from qpk_lines import pieces_of_lines
 from qpk_qlog import SEPARATOR
 from qpk_streams import Connection
+from report.connection import Event, events_of
 
 
 def named(it: dict) -> dict:
@@ -64,106 +65,93 @@ def raw_of(data: bytes) -> dict:
     return {"length": len(data), "data": data.hex()}
 
 
-class Writer:
-    """Makes events of what qpk shows of a recording: from the side of the client, or without marks of the encoder."""
+def written(events: List[Event]) -> Iterator[Tuple[Event, Optional[float], str, dict]]:
+    """Yields what a trace has of events, each with its event, its time if that is known, its name and its data.
 
-    def __init__(self, lines: List[str], objects: List[dict]) -> None:
-        self.objects = objects
-        self.sections: Dict[int, bytes] = {}  # by their line
-        self.sent: Dict[Tuple[str, str], bytearray] = {}  # the bytes of each stream of instructions
-        self.waiting: Dict[Tuple[str, int], List[int]] = {}  # the lines of the sections that wait
-        for piece in pieces_of_lines(lines):
-            if piece.kind == "b":
-                self.sections[piece.line] = piece.data
-            else:
-                self.sent.setdefault((piece.end, piece.kind), bytearray()).extend(piece.data)
-        self.ends: Dict[int, int] = {}  # where each instruction ends, by its number among the objects
-        after: Dict[Tuple[str, str], int] = {}
-        for at, it in reversed(list(enumerate(objects))):
-            for key in ("encoder", "decoder"):
-                if key in it:
-                    self.ends[at] = after.get((it.get("from", ""), key), len(self.sent_on(it)))
-                    after[it.get("from", ""), key] = it[key]
-
-    def events(self) -> Iterator[Tuple[str, str, dict]]:
-        """Yields the time, the name and the data of each event."""
-        for at, it in enumerate(self.objects):
-            time = it.get("time", "")
-            if "section" in it:
-                for name, data in self.events_of_section(it):
-                    yield time, name, data
-            elif "encoder" in it or "decoder" in it:
-                instruction = None if "cut" in it else instruction_of(it)
-                if instruction:
-                    raw = raw_of(self.bytes_of_instruction(at))
-                    name = "qpack:instruction_created" if self.is_own(it) else "qpack:instruction_parsed"
-                    yield time, name, {"instruction": instruction, "length": raw["length"], "raw": raw}
-            elif "max_capacity" in it:
-                owner = "local" if it.get("from") == "client" else "remote"
-                limits = {"max_table_capacity": it["max_capacity"], "blocked_streams_count": it["max_blocked"]}
-                yield time, "http:parameters_set", {"owner": owner, **limits}
-        for (end, stream), numbers in self.waiting.items():
-            for number in numbers:
-                yield "", f"qpack:headers_{self.done(end)}", {"stream_id": stream, "raw": raw_of(self.sections[number])}
-
-    @staticmethod
-    def is_own(it: dict) -> bool:
-        """Whether the client sent it, or without marks the encoder."""
-        return it["from"] == "client" if "from" in it else "decoder" not in it
-
-    @staticmethod
-    def done(end: str) -> str:
-        """Returns what was done with the sections of an end."""
-        return "decoded" if end == "server" else "encoded"
-
-    def sent_on(self, it: dict) -> bytearray:
-        """Returns the bytes of the stream of an instruction."""
-        return self.sent.get((it.get("from", ""), "e" if "encoder" in it else "d"), bytearray())
-
-    def bytes_of_instruction(self, at: int) -> bytes:
-        """Returns the bytes of an instruction."""
-        it = self.objects[at]
-        return bytes(self.sent_on(it)[it.get("encoder", it.get("decoder")) : self.ends[at]])
-
-    def events_of_section(self, it: dict) -> Iterator[Tuple[str, dict]]:
-        """Yields the events of a section: that it waits, that it waits no longer, and what it has."""
-        end, stream = it.get("from", ""), it["section"]
-        if "blocked_until" in it:
-            self.waiting.setdefault((end, stream), []).append(it["line"])
-            yield "qpack:stream_state_updated", {"stream_id": stream, "state": "blocked"}
-            return
-        number = it["line"]
-        if it.get("was_blocked"):
-            number = self.waiting[end, stream].pop(0)
-            yield "qpack:stream_state_updated", {"stream_id": stream, "state": "unblocked"}
-        data = {"stream_id": stream}
-        if "lines" in it:
-            required, base = it["required_insert_count"], it["base"]
-            sign = int(base < required)
-            base_of = {"sign_bit": bool(sign), "delta_base": abs(base - required) - sign}
-            data["headers"] = [named(line) for line in it["lines"]]
-            data["block_prefix"] = {"required_insert_count": required, **base_of}
-            data["header_block"] = [line_of(line) for line in it["lines"]]
-        raw = raw_of(self.sections[number])
-        yield f"qpack:headers_{self.done(end)}", {**data, "length": raw["length"], "raw": raw}
+    It is from the side of the client, or without marks of the encoder. The sections that wait at the end come last.
+    """
+    for event in events:
+        for name, data in written_of(event):
+            yield event, event.seconds, name, data
+    for event in still_waiting(events):
+        yield event, None, name_of_section(event), {"stream_id": event.said["section"], "raw": raw_of(event.data)}
 
 
-def write_trace(shown: Iterable[Tuple[Connection, str]]) -> Iterator[str]:
-    """Yields the records of a trace of connections, each with the objects that qpk printed, a line each."""
+def written_of(event: Event) -> Iterator[Tuple[str, dict]]:
+    """Yields the names and the data that a trace has of an event."""
+    said = event.said
+    instruction = instruction_of(said) if event.stream and "cut" not in said else None
+    if "section" in said:
+        yield from written_of_section(event)
+    elif instruction:
+        is_own = event.end == "client" if event.end else event.stream == "encoder"
+        raw = raw_of(event.data)
+        data = {"instruction": instruction, "length": raw["length"], "raw": raw}
+        yield f"qpack:instruction_{'created' if is_own else 'parsed'}", data
+    elif "max_capacity" in said:
+        owner = "local" if event.end == "client" else "remote"
+        limits = {"max_table_capacity": said["max_capacity"], "blocked_streams_count": said["max_blocked"]}
+        yield "http:parameters_set", {"owner": owner, **limits}
+
+
+def written_of_section(event: Event) -> Iterator[Tuple[str, dict]]:
+    """Yields what a trace has of a section: that it waits, that it waits no longer, and its fields."""
+    said = event.said
+    data = {"stream_id": said["section"]}
+    if "blocked_until" in said:
+        yield "qpack:stream_state_updated", {**data, "state": "blocked"}
+        return
+    if event.arrival:
+        yield "qpack:stream_state_updated", {**data, "state": "unblocked"}
+    if "lines" in said:
+        required, base = said["required_insert_count"], said["base"]
+        sign = int(base < required)
+        base_of = {"sign_bit": bool(sign), "delta_base": abs(base - required) - sign}
+        data["headers"] = [named(line) for line in said["lines"]]
+        data["block_prefix"] = {"required_insert_count": required, **base_of}
+        data["header_block"] = [line_of(line) for line in said["lines"]]
+    raw = raw_of(event.data)
+    yield name_of_section(event), {**data, "length": raw["length"], "raw": raw}
+
+
+def name_of_section(event: Event) -> str:
+    """Returns what a trace calls a section."""
+    return f"qpack:headers_{'decoded' if event.end == 'server' else 'encoded'}"
+
+
+def still_waiting(events: List[Event]) -> List[Event]:
+    """Returns the sections that were blocked, and read no more, by their streams."""
+    blocked: Dict[Tuple[str, int], List[Event]] = {}
+    for event in events:
+        if "blocked_until" in event.said:
+            blocked.setdefault((event.end, event.said["section"]), []).append(event)
+    ended = {it.arrival.number for it in events if it.arrival}
+    return [event for of_stream in blocked.values() for event in of_stream if event.number not in ended]
+
+
+def is_about(said: dict, stream: int) -> bool:
+    """Whether an object of qpk is about a stream."""
+    return stream in (said.get("section"), said.get("stream"), said.get("given_up"))
+
+
+def write_trace(shown: Iterable[Tuple[Connection, str]], stream: Optional[int] = None) -> Iterator[str]:
+    """Yields the records of a trace of connections, each with the objects that qpk printed, a line each.
+
+    If there is a stream, the trace has only what is about it.
+    """
     trace = {
         "vantage_point": {"name": "qpk", "type": "network", "flow": "client"},
         "common_fields": {"time_format": "relative", "reference_time": 0, "protocol_type": ["QUIC", "HTTP3"]},
     }
     yield record_of({"qlog_version": "0.3", "qlog_format": "JSON-SEQ", "title": "qpk show --qlog", "trace": trace})
     for connection, text in shown:
-        last = 0.0
-        for time, name, data in Writer(connection.lines, [json.loads(it) for it in text.split("\n")[:-1]]).events():
-            try:
-                last = float(time) * 1000
-            except ValueError:
-                pass  # no time, or a word that is none: that of the event before it
-            group = {"group_id": connection.name()} if connection.about else {}
-            yield record_of({"time": round(last, 6), "name": name, **group, "data": data})
+        group = {"group_id": connection.name()} if connection.about else {}
+        events = events_of([json.loads(it) for it in text.split("\n")[:-1]], list(pieces_of_lines(connection.lines)))
+        last = 0.0  # the time of what has none
+        for event, seconds, name, data in written(events):
+            if stream is None or is_about(event.said, stream):
+                last = last if seconds is None else seconds * 1000
+                yield record_of({"time": round(last, 6), "name": name, **group, "data": data})
 
 
 def record_of(it: dict) -> str:

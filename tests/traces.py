@@ -280,6 +280,24 @@ def test_each_form_of_a_line():
     assert raw == ["3f2d", "6294e7838c767f", "020080", "020080", "84", "0000d1", "88", "0200d1"]
 
 
+def test_bytes_of_sections():
+    """After a section that was given up, or refused where it would wait, the next of its stream has its own bytes."""
+    insertion = "e 6294e7838c767f\n"
+    given_up = "b 4 028010\nc 4\nb 4 028010d1\ne 3fe11f\n" + insertion
+    refused = "s 4096 1\nb 8 028010\nb 4 028010d1\ne 3fe11f\n" + insertion + "b 4 038110\n" + insertion
+    for data, expected in ((given_up, ["028010d1", "028010"]), (refused, ["028010", "038110", "028010d1"])):
+        events = [json.loads(it) for it in run(QPK, "show", "--qlog", data=data)[1].split(RECORD)[2:]]
+        assert [it["data"]["raw"]["data"] for it in events if "headers" in it["name"]] == expected, events
+
+
+def test_a_stream():
+    """With --stream an instruction has its own bytes, and a section that waits is there at the end."""
+    data = "e 3fe11f6294e7838c767f\nb 4 0200 80\nb 8 020080\nb 4 0480 10\nb 8 048010\nd 848801\n"
+    _, trace, _ = run(QPK, "show", "--qlog", "--stream", 4, data=data)
+    events = [json.loads(it)["data"] for it in trace.split(RECORD)[2:]]
+    assert [it.get("raw", {}).get("data") for it in events] == ["020080", None, "84", "048010"], events
+
+
 def test_no_trace():
     """Where qpk refuses its words or its input there is no trace, and its status and its message are its own."""
     for words, data in (

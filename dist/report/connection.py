@@ -210,21 +210,23 @@ class Connection:
 
 def read_connection(recording: Recording) -> Connection:
     """Has qpk read a recording, and puts together what it says."""
-    shown = recording.show()
-    pieces = list(recording.pieces())
+    shown, pieces = recording.show(), list(recording.pieces())
     ends = ["client", "server"] if any("from" in it for it in shown) or any(it.end for it in pieces) else [""]
     directions = {end: Direction(end) for end in ends}
-    streams: Dict[Tuple[str, str], bytes] = {}
-    for (end, kind), data in join(pieces).items():
-        stream = {"e": "encoder", "d": "decoder"}[kind]
-        owner = end if kind == "e" else OTHER[end]
-        streams[owner, stream] = data
+    for (owner, stream), data in join(pieces).items():
         directions[owner].stream_bytes[stream] = len(data)
-    events = [Event(number, said, owner_of(said)) for number, said in enumerate(shown)]
-    give_bytes(events, streams, {it.line: it.data for it in pieces if it.kind == "b"})
+    events = events_of(shown, pieces)
     for event in events:
         directions[event.of].apply(event)
     return Connection(recording, events, list(directions.values()))
+
+
+def events_of(shown: List[Object], pieces: List[Piece]) -> List[Event]:
+    """Returns what qpk showed of a recording as events, with their bytes."""
+    events = [Event(number, said, owner_of(said)) for number, said in enumerate(shown)]
+    give_instructions(events, join(pieces))
+    give_sections(events, {it.line: it.data for it in pieces if it.kind == "b"})
+    return events
 
 
 def owner_of(said: Object) -> str:
@@ -234,20 +236,25 @@ def owner_of(said: Object) -> str:
 
 
 def join(pieces: List[Piece]) -> Dict[Tuple[str, str], bytes]:
-    """Returns the bytes of each stream of instructions, by the end that sent it and the kind of its lines."""
+    """Returns the bytes of each stream of instructions, by the end whose encoder it is about, and what it is called."""
     parts: Dict[Tuple[str, str], List[bytes]] = {}
     for it in pieces:
         if it.kind != "b":
-            parts.setdefault((it.end, it.kind), []).append(it.data)
+            key = (it.end, "encoder") if it.kind == "e" else (OTHER[it.end], "decoder")
+            parts.setdefault(key, []).append(it.data)
     return {key: b"".join(data) for key, data in parts.items()}
 
 
-def give_bytes(events: List[Event], streams: Dict[Tuple[str, str], bytes], sections: Dict[int, bytes]) -> None:
-    """Gives each event its bytes. An instruction, and a line of a section, ends where the next begins."""
+def give_instructions(events: List[Event], streams: Dict[Tuple[str, str], bytes]) -> None:
+    """Gives each instruction its bytes. It ends where the next begins."""
     for (owner, stream), data in streams.items():
         own = [it for it in events if it.of == owner and it.stream == stream]
         for event, (begin, end) in zip(own, spans([it.said[stream] for it in own], len(data))):
             event.data = data[begin:end]
+
+
+def give_sections(events: List[Event], sections: Dict[int, bytes]) -> None:
+    """Gives each section its bytes, its lines, and when it came if it was blocked."""
     waiting: Dict[Tuple[str, int], List[Event]] = {}
     for event in events:
         said = event.said
