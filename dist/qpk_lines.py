@@ -1,11 +1,14 @@
-"""The lines of a recording that have bytes (docs/QPK.md, Lines of a recording). qpk-capture and qpk-report read it.
+"""What a capture is, and the lines of a recording that have bytes. qpk-capture and qpk-report read it.
 
-Which lines there may be is checked by qpk, before they are read here.
+Which lines there may be (docs/QPK.md, Lines of a recording) is checked by qpk, before they are read here.
 """
 
 import re
 from typing import Iterable, Iterator, NamedTuple
 
+# What a file begins with that tshark reads: pcapng, pcap in either order of bytes with either unit of time, and gzip
+# around them. dist/qpk-front has the same list.
+CAPTURES = tuple(bytes.fromhex(it) for it in ("0a0d0d0a", "d4c3b2a1", "a1b2c3d4", "4d3cb2a1", "a1b23c4d", "1f8b08"))
 ENDS = {">": "client", "<": "server", "": ""}
 # A time; a mark, which the kind may follow at once; the kind; of a section its stream; and words of hexadecimal.
 LINE = re.compile(r"\s*(?:@\S*\s+)?([<>]?)\s*([edb])(?:(?<=b)\s+\S+)?(?!\S)(.*)")
@@ -18,6 +21,11 @@ class Piece(NamedTuple):
     end: str  # client, server, or nothing if the recording has one direction
     kind: str  # e, d or b
     data: bytes
+
+
+def is_capture(head: bytes) -> bool:
+    """Whether a file that begins with these bytes is a capture."""
+    return head.startswith(CAPTURES)
 
 
 def pieces_of_lines(lines: Iterable[str]) -> Iterator[Piece]:

@@ -176,6 +176,18 @@ def test_captures_and_traces():
     assert (status, output) == (1, b"") and b"expected one argument" in said, said
 
 
+def test_what_a_capture_is():
+    """By its first bytes a file is a capture for each script, which has tshark read it; other bytes are no text."""
+    captures = ("0a0d0d0a", "d4c3b2a1", "a1b2c3d4", "4d3cb2a1", "a1b23c4d", "1f8b0800")
+    variables = {**os.environ, "TSHARK": "false", "QPK": str(PROGRAM)}
+    for head in (*captures, "0a0d0d0b", "1f8b0000", "00000000"):
+        (ROOM / "head").write_bytes(bytes.fromhex(head) + b"\0\xff")
+        said = b"what tshark printed " if head in captures else b"the input is no text; --qif reads a recording "
+        for words in (*((it, "show") for it in FRONTS), (INSTALLED, "stats"), (f"{INSTALLED}-capture", "show")):
+            status, output, faults = run(*words, ROOM / "head", env=variables)
+            assert (status, output) == (1, b"") and said in faults, (head, words, faults)
+
+
 def test_colours_take_nothing_away():
     """Without its colours the text is that without colours, byte for byte, and so is the status."""
     faults = write("faults", FAULTS)

@@ -9,12 +9,12 @@ from dataclasses import dataclass
 from pathlib import Path
 from typing import Any, Dict, Iterator, List, Optional, Sequence
 
-from qpk_lines import Piece, pieces_of_lines
+from qpk_lines import Piece, is_capture, pieces_of_lines
+from qpk_qlog import is_trace
 
 from . import ReportError
 
 SCRIPTS = Path(__file__).resolve().parent.parent  # where qpk-report is
-CAPTURES = {bytes.fromhex(it) for it in ("0a0d0d0a", "d4c3b2a1", "a1b2c3d4", "4d3cb2a1", "a1b23c4d")}
 HEAD_OF_RECORD = 12  # bytes before those of a record of the offline interop: 8 for the stream, 4 for the length
 Object = Dict[str, Any]
 
@@ -107,16 +107,16 @@ def read_recordings(source: Source) -> List[Recording]:
     if source.file != "-" and not os.path.isfile(source.file):
         raise ReportError(f"{source.file} is not a file that can be read")
     data = sys.stdin.buffer.read() if source.file == "-" else Path(source.file).read_bytes()
-    if source.keys is not None or source.connection is not None or not source.is_qif and needs_script(data):
+    if source.keys is not None or source.connection is not None or not source.is_qif and is_scripted(data[:64]):
         return read_capture(source, [source.file], data if source.file == "-" else None)
     words = [*source.limits(), *(["--qif"] if source.is_qif else [])]
     name = "standard input" if source.file == "-" else os.path.basename(source.file)
     return [Recording(name.encode(errors="replace").decode(), data, words)]
 
 
-def needs_script(data: bytes) -> bool:
-    """Whether data is read by qpk-capture: a capture, or a trace of JSON."""
-    return data[:4] in CAPTURES or data[:1] in (b"{", b"\x1e")
+def is_scripted(head: bytes) -> bool:
+    """Whether a file that begins with these bytes is read by qpk-capture: a capture or a trace."""
+    return is_capture(head) or is_trace(head)
 
 
 def read_capture(source: Source, words: List[str], data: Optional[bytes]) -> List[Recording]:
