@@ -1,8 +1,8 @@
 """A recorded connection as a page, in numbers, and by its tables: the modules of qpk-report.
 
 What bytes mean is read by qpk alone. recording runs it, and connection puts together what it printed, for the traces of
-qpk-capture too. page, stats, again and table make the answers of the commands, whose words are in words. The stylesheet
-qpack.css is also that of examples/http3-server.
+qpk-capture too. page, stats, again and table make the answers of the commands, whose words are in words. qpack.css and
+element.js are also those of examples/http3-server.
 """
 
 

@@ -36,15 +36,20 @@ PAGE = """<!doctype html>
 
 def write_page(connections: List[Connection]) -> str:
     """Returns the page of connections."""
-    script = "\n" + (FOLDER / "report.js").read_text("utf-8")
+    script = "\n" + read_all("element.js", "report.js")
     data = {"legend": LEGEND, "connections": [connection_data(it) for it in connections]}
     return PAGE.format(
         name=html.escape(", ".join(it.recording.name for it in connections)),
-        style=(FOLDER / "qpack.css").read_text("utf-8") + (FOLDER / "report.css").read_text("utf-8"),
+        style=read_all("qpack.css", "report.css"),
         hashes=f"'sha256-{base64.b64encode(hashlib.sha256(script.encode()).digest()).decode()}'",
         data=as_text(data),
         script=script,
     )
+
+
+def read_all(*names: str) -> str:
+    """Returns the text of files of this folder, one after another."""
+    return "".join((FOLDER / it).read_text("utf-8") for it in names)
 
 
 def as_text(data: Dict[str, Any]) -> str:

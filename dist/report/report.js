@@ -8,13 +8,6 @@ const MOST_BARS = 240;
 const SVG = 'http://www.w3.org/2000/svg';
 const {legend, connections} = JSON.parse(document.getElementById('data').textContent);
 
-function element(tag, className = '', ...parts) {
-  const made = document.createElement(tag);
-  if (className) made.className = className;
-  made.append(...parts);
-  return made;
-}
-
 function link(to, text) {
   const made = element('a', '', text);
   made.href = '#e' + to;

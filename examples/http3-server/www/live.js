@@ -85,13 +85,6 @@ function take(event) {
   }
 }
 
-function element(tag, className = '', text = '') {
-  const made = document.createElement(tag);
-  made.className = className;
-  made.textContent = text;
-  return made;
-}
-
 function row(tag, cells) {
   const made = element('tr');
   cells.forEach((cell, i) => made.append(element(tag, i < 2 ? 'number' : '', cell)));

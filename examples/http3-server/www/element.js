@@ -1,0 +1,1 @@
+../../../dist/report/element.js
