@@ -281,13 +281,20 @@ def test_each_form_of_a_line():
 
 
 def test_bytes_of_sections():
-    """After a section that was given up, or refused where it would wait, the next of its stream has its own bytes."""
+    """Sections of a stream have their own bytes: two that wait, or the next after one that was given up or refused."""
     insertion = "e 6294e7838c767f\n"
+    two = "b 4 028010\nb 8 0481\nb 4 028010d1\nb 4 0481\ne 3fe11f\n" + insertion
     given_up = "b 4 028010\nc 4\nb 4 028010d1\ne 3fe11f\n" + insertion
     refused = "s 4096 1\nb 8 028010\nb 4 028010d1\ne 3fe11f\n" + insertion + "b 4 038110\n" + insertion
-    for data, expected in ((given_up, ["028010d1", "028010"]), (refused, ["028010", "038110", "028010d1"])):
+    for data, streams, expected in (
+        (two, [4, 4, 4, 8], ["028010", "028010d1", "0481", "0481"]),
+        (given_up, [4, 4], ["028010d1", "028010"]),
+        (refused, [8, 4, 4], ["028010", "038110", "028010d1"]),
+    ):
         events = [json.loads(it) for it in run(QPK, "show", "--qlog", data=data)[1].split(RECORD)[2:]]
-        assert [it["data"]["raw"]["data"] for it in events if "headers" in it["name"]] == expected, events
+        sections = [it["data"] for it in events if "headers" in it["name"]]
+        assert [it["raw"]["data"] for it in sections] == expected, events
+        assert [it["stream_id"] for it in sections] == streams, events
 
 
 def test_a_stream():
