@@ -8,12 +8,12 @@ from pathlib import Path
 TOP = Path(__file__).resolve().parent.parent
 # A recording in plain lines, and the same in the other forms of a line that qpk takes (docs/QPK.md).
 PLAIN = (
-    "\n\n\n> e 3f2d\n@1.5 > e 6294e7838c767f\n@<b < d\n@\xe9 > b 4 020080\n> b 8 020080\n< d 84\n> b 12 0000d1\n"
+    "\n\n\n> e 3f2d\n@1.5 > e 6294e7838c767f\n@<b < d\n@\xe9 > b 4 020080\n> b 8 020080\n@<e < d 84\n> b 12 0000d1\n"
     "< d 88\n> b 16 0200d1f"
 )
 FORMED = (
     "# e ff\r\n#>b 4 ff\n \t\r\n>e 3f2d\r\n@1.5 > e 0x6294E7:838c:767f\n \t@<b\t<d 0x\n@\xe9\u2003>\vb\u3000+4\x85020080\n"
-    ">\rb 08 0X 02:00 8 0 \r\r\n<d 84\n@ >b 12 0 0x0 00:\fd 0X1\n  <  d 88:\n>b 16 0x02 00D1 f\r"
+    ">\rb 08 0X 02:00 8 0 \r\r\n@<e\t<d 84\n@ >b 12 0 0x0 00:\fd 0X1\n  <  d 88:\n>b 16 0x02 00D1 f\r"
 )
 
 

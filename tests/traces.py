@@ -301,8 +301,26 @@ def test_a_stream():
     """With --stream an instruction has its own bytes, and a section that waits is there at the end."""
     data = "e 3fe11f6294e7838c767f\nb 4 0200 80\nb 8 020080\nb 4 0480 10\nb 8 048010\nd 848801\n"
     _, trace, _ = run(QPK, "show", "--qlog", "--stream", 4, data=data)
-    events = [json.loads(it)["data"] for it in trace.split(RECORD)[2:]]
-    assert [it.get("raw", {}).get("data") for it in events] == ["020080", None, "84", "048010"], events
+    events = [json.loads(it) for it in trace.split(RECORD)[2:]]
+    assert [(it["name"].split(":")[1], it["data"].get("raw", {}).get("data")) for it in events] == [
+        ("headers_encoded", "020080"),
+        ("stream_state_updated", None),
+        ("instruction_parsed", "84"),
+        ("headers_encoded", "048010"),
+    ]
+
+
+def test_statuses_of_connections():
+    """The status is the greatest of the connections."""
+    raw = {"refused": "0000ff24", "read": "0000d1"}
+    name = "qpack:headers_encoded"
+    events = [
+        {"time": 0, "name": name, "group_id": it, "data": {"stream_id": 0, "raw": {"data": raw[it]}}} for it in raw
+    ]
+    for it in (events, events[::-1]):
+        data = "".join(f"{json.dumps(record)}\n" for record in [{"trace": {}}, *it])
+        status, trace, said = run(QPK, "show", "--qlog", "-", data=data)
+        assert (status, said, trace.count(RECORD)) == (2, "", 3), (status, said, trace)
 
 
 def test_no_trace():
