@@ -1,4 +1,4 @@
-"""Runs the functions of a script whose names begin with test_, and has what several try: qpk, and lines of a recording."""
+"""Runs the functions of a script whose names begin with test_, and has what several try: qpk, and a recording."""
 import shutil
 import subprocess
 import traceback
@@ -12,7 +12,8 @@ PLAIN = (
     "< d 88\n> b 16 0200d1f"
 )
 FORMED = (
-    "# e ff\r\n#>b 4 ff\n \t\r\n>e 3f2d\r\n@1.5 > e 0x6294E7:838c:767f\n \t@<b\t<d 0x\n@\xe9\u2003>\vb\u3000+4\x85020080\n"
+    "# e ff\r\n#>b 4 ff\n \t\r\n>e 3f2d\r\n@1.5 > e 0x6294E7:838c:767f\n \t@<b\t<d 0x\n"
+    "@\xe9\u2003>\vb\u3000+4\x85020080\n"
     ">\rb 08 0X 02:00 8 0 \r\r\n@<e\t<d 84\n@ >b 12 0 0x0 00:\fd 0X1\n  <  d 88:\n>b 16 0x02 00D1 f\r"
 )
 
