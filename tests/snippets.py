@@ -40,12 +40,12 @@ NOT_RUN = {
 REPLACED = [(" && ldconfig", ""), ("PREFIX=/usr/local", "PREFIX=$ROOM/usr")]
 # Snippets by their first line. Each has a frame of tests/snippets/, or the source that has its lines.
 SNIPPETS = {
-    "h3_qpack_decoder_settings settings;": "tests/snippets/main.c",
+    "h3_qpack_encoder_settings theirs;": "tests/snippets/main.c",
     "uint64_t id;": "tests/snippets/server.c",
     "use h3_qpack::connection::{ConnectionDecoder, ConnectionEncoder, DecoderSettings, EncoderSettings, Reading};": (
         "tests/snippets/main.rs"
     ),
-    "encoder.encode(4, &fields, section)?;": "crates/qpack_example/src/main.rt",
+    "use qpack_ends::{": "crates/qpack_example/src/main.rt",
 }
 # A block of code: between fences, which name its language, or indented by four after an empty line.
 BLOCK = re.compile(r"^```(\w*)\n((?:.*\n)*?)```$|(?<=\n\n)((?:    .*\n)+)", re.M)

@@ -6,21 +6,14 @@ use qpack_ends::{
     ConnectionDecoder, ConnectionEncoder, Cursor, DecoderSettings, EncoderSettings, FieldLine,
     FieldSection, Reading,
 };
-use std::alloc::Global;
 use std::str;
 
-/// What the decoding end sends as its settings.
+/// What the decoding end sends as its settings: the encoder is made from the first two.
 const SETTINGS: DecoderSettings = DecoderSettings {
     max_capacity: 4096,
     max_blocked: 16,
     max_section_size: 65_536,
 };
-
-/// The encoding end for a peer that sent these settings.
-fn new_encoder(alloc: Global) -> Result<ConnectionEncoder> {
-    let settings = EncoderSettings::new(SETTINGS.max_capacity, SETTINGS.max_blocked);
-    Ok(ConnectionEncoder::new(alloc, settings)?)
-}
 
 /// Encodes a request for stream 4.
 fn encode(encoder: &mut ConnectionEncoder, section: &mut Vec<u8>) -> Result<()> {
@@ -80,7 +73,7 @@ fn connect(
 }
 
 fn main(rt: HostRuntime) -> Result<()> {
-    let mut encoder = new_encoder(rt.alloc())?;
+    let mut encoder = ConnectionEncoder::new(rt.alloc(), EncoderSettings::new(4096, 16))?;
     let mut decoder = ConnectionDecoder::new(rt.alloc(), SETTINGS)?;
     connect(&rt, &mut encoder, &mut decoder)
 }
