@@ -11,9 +11,11 @@ import importlib.machinery
 import importlib.util
 import io
 import json
+import os
 import shutil
 import subprocess
 import sys
+import tempfile
 from pathlib import Path
 
 from running import run_tests
@@ -179,6 +181,30 @@ def test_files_that_are_missing():
         name = next(it for it in map(str, words) if it.startswith("nowhere"))
         assert (ran.returncode, ran.stdout) == (1, "")
         assert ran.stderr == f"qpk-capture: {name} is not a file that can be read\n"
+
+
+def show_by(tshark):
+    """Has qpk-capture show a capture by a script in the place of tshark, and returns its status and what it says."""
+    with tempfile.TemporaryDirectory() as room:
+        program, capture = Path(room) / "tshark", Path(room) / "a.pcapng"
+        program.write_text(f"#!/bin/sh\n{tshark}\n", encoding="utf-8")
+        program.chmod(0o755)
+        capture.write_bytes(bytes.fromhex("0a0d0d0a"))
+        command, variables = [str(TOP / "dist" / "qpk-capture"), "show", str(capture)], {"TSHARK": str(program)}
+        pipes = {"stdout": subprocess.PIPE, "stderr": subprocess.PIPE, "encoding": "utf-8"}
+        ran = subprocess.run(command, env={**os.environ, **variables}, timeout=60, check=False, **pipes)
+        return ran.returncode, ran.stderr.replace(room, "")
+
+
+def test_what_tshark_says():
+    """It may be more than a pipe takes. Its last line is passed on if tshark can't read the capture."""
+    much = "yes 'a warning' | head -n 100000 >&2"
+    none = "it has no stream that can be read: are the secrets of its connections in the key log?"
+    assert show_by(f"{much}; echo '<pdml></pdml>'") == (1, f"qpk-capture: {none}\n")
+    said = "qpk-capture: tshark can't read /a.pcapng: it is cut short\n"
+    assert show_by(f"{much}; echo 'it is cut short' >&2; exit 2") == (1, said)
+    assert show_by("echo '<pdml></pdml>'; echo 'it is cut short' >&2; exit 2") == (1, said)
+    assert show_by("echo '<pdml>'")[1].startswith("qpk-capture: what tshark printed is no PDML: ")
 
 
 def test_chromium_by_tshark():
