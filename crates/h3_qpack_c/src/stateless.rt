@@ -1,6 +1,11 @@
 //! Sections without a dynamic table, and without an end.
 
-ghost use Rattle.std.specs.Prelude.{◌≡◌, ◌⊎◌, [], map};
+ghost use Rattle.std.specs.Prelude.{◌≡◌, ◌⊎◌, ◌≤◌, ◌*◌, ◌/◌, None, Err, [], length, map, max, min};
+ghost use Rattle.qpack_spec.specs.StrictReading.{strict_reading};
+ghost use Rattle.qpack_spec.specs.Table.{empty_table, window};
+ghost use Rattle.qpack_wire.specs.Memory.{AsksSectionForMemory};
+ghost use Rattle.qpack_ends.specs.Sections.{ReadsSection};
+ghost use Rattle.qpack_ends.specs.declared.section.SectionError.TheVariants.{Memory};
 ghost use Rattle.h3_qpack_c.specs.Alone.{DecodesAlone, GivesAlone, told_of_refusal};
 ghost use Rattle.qpack_ends.specs.Encoders.{written_alone};
 ghost use Rattle.h3_qpack_c.specs.Crossing.{line_of_lent, copied, told_of_copy};
@@ -62,12 +67,31 @@ pub extern "C" fn h3q_decode_stateless(
 ) -> DecodedAlone
     ensures { DecodesAlone section.now max_section_size told.old told.new out.old out.new result }
 {
-    let table = DynamicTable::new(alloc);
     let mut fields = FieldSection::new(alloc);
-    let (lines, bytes) = (section.len() / LINE_LEN, section.len().saturating_mul(2));
-    fields.expect(lines.min(told.len()), bytes.min(out.len()));
-    let answer = read_section(&table, section, max_section_size, &mut fields);
+    let (places, room) = (told.len(), out.len());
+    let answer = read_alone(alloc, section, max_section_size, places, room, &mut fields);
     tell(&answer, &fields, told, out)
+}
+
+/// Reads a section without a dynamic table into a field section that has no memory yet. Before, it makes room for as many
+/// fields and bytes as the section may have, but for no more than the caller has room for.
+fn read_alone(
+    alloc: Global,
+    section: &[u8],
+    limit: u64,
+    most_fields: usize,
+    most_bytes: usize,
+    fields: &mut FieldSection,
+) -> Result<Reading, SectionError>
+    requires { fields.old ≡ record { fields = []; text_room = 0; fields_room = 0 } }
+    ensures exact { ReadsSection result fields.new.fields (strict_reading (window (empty_table 0 None 0)) limit section.now) }
+    ensures memory { result ≡ Err Memory → AsksSectionForMemory section.now }
+    ensures text { fields.new.text_room ≤ max (min (2 * length section.now) most_bytes) limit }
+    ensures fields { fields.new.fields_room ≤ max (min (length section.now / 4) most_fields) (limit / 32) }
+{
+    let (lines, bytes) = (section.len() / LINE_LEN, section.len().saturating_mul(2));
+    fields.expect(lines.min(most_fields), bytes.min(most_bytes));
+    read_section(&DynamicTable::new(alloc), section, limit, fields)
 }
 
 /// Returns the result for a section that was read, and copies its fields; or the result for one that is rejected.
