@@ -29,9 +29,9 @@ use std::collections::VecDeque;
 /// The least number of rows, once there are any.
 const LEAST_ROWS: usize = 32;
 
-/// How many times as many rows are made where they would be fewer than the entries. With 32 rows first, a table of 4,096
-/// bytes, which has at most 128 entries, makes more rows once.
-const GROWTH: usize = 4;
+/// How many times as many rows are made where they would be fewer than the entries: 32 rows at first, 64 for the 33rd
+/// entry, 128 for the 65th.
+const GROWTH: usize = 2;
 
 /// The newest live entry of each different field, and of each different name. There are at least as many rows of
 /// either as entries.
@@ -151,8 +151,8 @@ impl Index {
         self.names.newest(entries, dropped, &sought, steps)
     }
 
-    /// Makes room for one entry more, with such hashes. Where the rows would be fewer than the entries, it makes four
-    /// times as many, and at least 32. On error the index is as before.
+    /// Makes room for one entry more, with such hashes. Where the rows would be fewer than the entries, it makes twice
+    /// as many, and at least 32. On error the index is as before.
     #[inline(always)]
     pub(super) fn reserve(
         &mut self,
