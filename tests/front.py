@@ -182,7 +182,7 @@ def test_what_a_capture_is():
     variables = {**os.environ, "TSHARK": "false", "QPK": str(PROGRAM)}
     for head in (*captures, "0a0d0d0b", "1f8b0000", "00000000"):
         (ROOM / "head").write_bytes(bytes.fromhex(head) + b"\0\xff")
-        said = b"what tshark printed " if head in captures else b"the input is no text; --qif reads a recording "
+        said = b"tshark can't read " if head in captures else b"the input is no text; --qif reads a recording "
         for words in (*((it, "show") for it in FRONTS), (INSTALLED, "stats"), (f"{INSTALLED}-capture", "show")):
             status, output, faults = run(*words, ROOM / "head", env=variables)
             assert (status, output) == (1, b"") and said in faults, (head, words, faults)
