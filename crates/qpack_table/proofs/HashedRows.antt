@@ -1,18 +1,14 @@
 -- The row of a part among the rows.
-use Rattle.std.proofs.Common.{◌≡◌, ℕ, ◌<◌, [], List, length, get_or, set, refl, sym, ap}
+use Rattle.std.proofs.Common.{◌≡◌, ℕ, ◌<◌, List, length, get_or, set, refl, sym, ap}
 use Rattle.std.proofs.Common.{subst, ◌∙◌, inl, inr, ◌⊎◌, arith}
-use Rattle.std.specs.Prelude.{Contains}
 use Rattle.std.proofs.lemmas.Bool.{cases_eq}
-use Rattle.std.specs.List.{All}
 use Rattle.std.proofs.lemmas.List.{length-set, get_or-set_other, get_or-set_same}
-use Rattle.std.proofs.lemmas.List.Elements.{All-get_or}
 use Rattle.qpack_spec.specs.Field.{Field}
 use Rattle.qpack_table.specs.Hashes.{position_among}
 use Rattle.qpack_table.specs.Rows.{hash_of, part_of, IsRow, HasRoom}
 use Rattle.qpack_table.specs.Indexes.{home, AreRowsOf, HasRoomFor}
 use Rattle.qpack_table.specs.declared.dynamic.index.row.Part.{Part}
 use Rattle.qpack_table.specs.declared.dynamic.index.row.Row.{Row}
-use Rattle.qpack_table.specs.declared.dynamic.index.row.Slot.{Slot}
 use Rattle.qpack_table.proofs.RowOrder.{same_hash}
 
 -- the row that the code chooses
@@ -57,27 +53,3 @@ room_left rows k r new hash within read keeps has = record {
     pick j d at (inr ne) =
         subst HasRoom (sym (get_or-set_other rows k j new d ne))
         (subst (λ (i : ℕ). HasRoom (get_or rows i d)) at (has.room d))
-
--- ---- rows with no slot
-
-nothing_in : (row : List Slot) (s : Slot) → row ≡ [] → Contains row s → ⊥
-nothing_in row s e c = omega (arith, c.1, ap (λ (xs : List Slot). length xs) e)
-
-empty_row : (part : Part) (dropped : ℕ) (live : List Field) (row : List Slot) → row ≡ []
-    → IsRow part dropped live row
-empty_row part dropped live row e = record {
-  slots = λ s c. absurd (nothing_in row s e c);
-  rises = λ i j d lt within. absurd (omega (arith, within, ap (λ (xs : List Slot). length xs) e));
-}
-
-pub empty_rows : (part : Part) (dropped : ℕ) (live : List Field) (rows : List Row)
-    → All (λ r. r.slots.items ≡ []) rows → AreRowsOf part dropped live 0 rows
-empty_rows part dropped live rows none = record {
-  some = λ h. absurd (omega (arith, h));
-  are_rows = λ k d h. empty_row part dropped live ((get_or rows k d).slots.items) (at k d h);
-  at_home = λ k d s h c. absurd (nothing_in ((get_or rows k d).slots.items) s (at k d h) c);
-  complete = λ index d g h. absurd (omega (arith, g, h));
-}
-  where
-    at : (k : ℕ) (d : Row) → k < length rows → (get_or rows k d).slots.items ≡ []
-    at k d h = All-get_or (λ (r : Row). r.slots.items ≡ []) rows k d h none

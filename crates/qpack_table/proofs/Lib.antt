@@ -22,6 +22,7 @@ pub mod NewestEntries
 pub mod RowChanges
 pub mod HashedRows
 pub mod RowsChanges
+pub mod GrownRows
 pub mod WholeIndexes
 pub mod Released
 pub mod Products

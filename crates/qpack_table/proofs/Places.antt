@@ -25,7 +25,7 @@ some_here slot rest some =
 pub some_of : (n : ℕ) (none : Bool) → none ≡ (n == 0) → none ≡ false → n ≡ 0 → ⊥
 some_of n none is h = eqb-false n 0 (sym is ∙ h)
 
-less_hash : (part : Part) (dropped : ℕ) (live : List Field) (slot : Slot) (k : Key) → slot.hash < k.hash
+pub less_hash : (part : Part) (dropped : ℕ) (live : List Field) (slot : Slot) (k : Key) → slot.hash < k.hash
     → key_cmp (key_at part dropped live slot) k ≡ Less
 less_hash part dropped live slot k h =
     sym (decided_by_hash (key_at part dropped live slot) k Less (nat_cmp_is slot.hash k.hash Less h) (λ q. cc))

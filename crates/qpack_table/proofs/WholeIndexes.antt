@@ -23,21 +23,6 @@ use Rattle.qpack_table.proofs.Lookups.{fields_long}
 
 -- ---- the hashes of all entries
 
-pub no_hashes : (dropped : ℕ) (live : List Field) (hashes : List Hashes) → hashes ≡ []
-    → AreAllHashesOf dropped live 0 hashes
-no_hashes dropped live hashes e = record {
-  counted = ap (λ (l : List Hashes). length l) e;
-  hashed = λ k d h. absurd (omega (arith, h));
-}
-
-pub hashes_read : (dropped : ℕ) (live : List Field) (entered position index : ℕ) (hashes : List Hashes) (h : Hashes)
-    → AreAllHashesOf dropped live entered hashes → position < entered → dropped + position + 1 ≡ index
-    → h ≡ get_or hashes position h → AreHashesOf h (field_at dropped live index)
-hashes_read dropped live entered position index hashes h are within is read =
-    subst (λ (a : ℕ). AreHashesOf h (field_at dropped live a)) is
-    (subst (λ (x : Hashes). AreHashesOf x (field_at dropped live (dropped + position + 1))) (sym read)
-    (are.hashed position h within))
-
 hashes_pushed : (dropped : ℕ) (live : List Field) (f : Field) (hashes : List Hashes)
     → AreAllHashesOf dropped live (length live) hashes → AreAllHashesOf dropped (live ++ f ∷ []) (length live) hashes
 hashes_pushed dropped live f hashes are = record {

@@ -68,7 +68,7 @@ pub record IsIndexOf (dropped : ℕ) (live : List Field) (entered : ℕ) (index 
 -- an index of so many entries that makes room for one more keeps its rows; or it makes more where they would be fewer than
 -- the entries: twice as many, and 32 at least
 abbrev pub GrowsRows : (entries old new : ℕ) → Type 0
-GrowsRows entries old new = (new ≡ old) ⊎ ((old ≤ entries) × (new ≤ max (2 * old) 32))
+GrowsRows entries old new = (new ≡ old) ⊎ ((old ≤ entries) × (new ≡ max (2 * old) 32))
 
 -- there is room for one more entry with such hashes
 pub record HasRoomForEntry (hashes : Hashes) (index : Index) : Type 0 where

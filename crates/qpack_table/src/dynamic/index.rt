@@ -1,7 +1,7 @@
 //! The index of the live entries, by which the newest entry with a field, or with a name, is found. It keeps hashes and
 //! absolute indexes alone: each call is lent the entries, and is told how many were dropped.
 
-ghost use Rattle.std.specs.Prelude.{◌≡◌, ◌+◌, ◌-◌, ◌^◌, ◌<◌, ◌≤◌, ℕ, List, [], IfOk, OnOk, length, drop};
+ghost use Rattle.std.specs.Prelude.{◌≡◌, ◌+◌, ◌-◌, ◌^◌, ◌<◌, ◌≤◌, ℕ, List, [], OnOk, OnErr, length, drop};
 ghost use Rattle.qpack_base.specs.HeaderFields.{line_of};
 ghost use Rattle.qpack_spec.specs.Field.{Field, is_field, has_name};
 ghost use Rattle.qpack_table.specs.Rows.{field_at, Counts};
@@ -55,19 +55,6 @@ impl Index {
             hashes: VecDeque::new(alloc),
             alloc,
         }
-    }
-
-    /// The index of no entry, with so many rows of either kind.
-    fn with_count(alloc: Global, count: usize) -> Result<Index, AllocError>
-        ensures empty { IfOk result (λ index. (dropped : ℕ) (live : List Field) → IsIndexOf dropped live 0 index) }
-        ensures rows { IfOk result (λ index. length index.fields.rows.items ≡ count) }
-    {
-        Ok(Index {
-            fields: Rows::with_count(alloc, count)?,
-            names: Rows::with_count(alloc, count)?,
-            hashes: VecDeque::with_capacity(alloc, count)?,
-            alloc,
-        })
     }
 
     /// The newest entry with the field. Where there is no entry, nothing is hashed.
@@ -171,14 +158,7 @@ impl Index {
         if entries.len() < count {
             return self.make_room(hashes);
         }
-        let mut grown = self.with_rows(
-            entries,
-            dropped,
-            count.saturating_mul(GROWTH).max(LEAST_ROWS),
-        )?;
-        grown.make_room(hashes)?;
-        *self = grown;
-        Ok(())
+        self.grow((count * GROWTH).max(LEAST_ROWS), hashes)
     }
 
     /// Makes room for one entry more in its rows and among the hashes.
@@ -195,27 +175,27 @@ impl Index {
         self.fields.reserve(self.alloc, hashes.field)
     }
 
-    /// The same entries in an index of so many rows of either kind. Nothing is hashed again.
-    fn with_rows(
-        &self,
-        entries: &VecDeque<Entry>,
-        dropped: usize,
-        count: usize,
-    ) -> Result<Index, AllocError>
-        requires index { IsIndexOf dropped (live_fields entries.now.items) (length entries.now.items) self.now }
-        requires few { dropped + length entries.now.items ≤ 2 ^ 62 }
+    /// Makes that many rows of either kind for the same entries, and room for one entry more. It hashes nothing again.
+    /// On error the rows are as before.
+    #[inline(never)]
+    fn grow(&mut self, count: usize, hashes: Hashes) -> Result<(), AllocError>
         requires some { 0 < count }
-        ensures index { IfOk result (λ index.
-            IsIndexOf dropped (live_fields entries.now.items) (length entries.now.items) index) }
-        ensures rows { IfOk result (λ index. length index.fields.rows.items ≡ count) }
+        requires index { (dropped : ℕ) × (live : List Field) × (entered : ℕ) × IsIndexOf dropped live entered self.old }
+        ensures index { (dropped entered : ℕ) (live : List Field) → IsIndexOf dropped live entered self.old
+            → IsIndexOf dropped live entered self.new }
+        ensures rows { OnOk result (length self.new.fields.rows.items ≡ count) }
+        ensures fields { OnErr result (self.new.fields ≡ self.old.fields) }
+        ensures names { OnErr result (self.new.names ≡ self.old.names) }
+        ensures room { OnOk result (HasRoomForEntry hashes self.new) }
     {
-        let mut index = Index::with_count(self.alloc, count)?;
-        for position in 0..entries.len() {
-            let hashes = self.hashes[position];
-            index.make_room(hashes)?;
-            index.enter(entries, dropped, dropped + position + 1, hashes);
-        }
-        Ok(index)
+        let mut fields = self.fields.grown(self.alloc, count)?;
+        let mut names = self.names.grown(self.alloc, count)?;
+        fields.reserve(self.alloc, hashes.field)?;
+        names.reserve(self.alloc, hashes.name)?;
+        self.hashes.reserve(1)?;
+        self.fields = fields;
+        self.names = names;
+        Ok(())
     }
 
     /// An entry comes in behind all that are in, of which it is the next newer one. There is room.

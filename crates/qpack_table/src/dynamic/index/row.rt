@@ -1,7 +1,8 @@
 //! A row of the index: slots that rise by the hash of a part of their entries' fields, then by that part. It is
 //! searched by halving.
 
-ghost use Rattle.std.specs.Prelude.{◌≡◌, ◌≢◌, ◌==◌, ◌+◌, ◌-◌, ◌^◌, ◌<◌, ◌≤◌, [], min, length, OnOk, IfSome, IfNone};
+ghost use Rattle.std.specs.Prelude.{◌≡◌, ◌≢◌, ◌==◌, ◌+◌, ◌-◌, ◌^◌, ◌<◌, ◌≤◌, [], ◌∷◌, ◌++◌, min, length, IfSome};
+ghost use Rattle.std.specs.Prelude.{IfNone, OnOk, OnErr};
 ghost use Rattle.std.specs.Cmp.Lexicographic.{slice_cmp};
 ghost use Rattle.std.specs.Ordering.{nat_cmp};
 ghost use Rattle.qpack_base.specs.HeaderFields.{field_of, field_cmp};
@@ -42,7 +43,7 @@ pub(super) struct Sought<'a> {
 /// The absolute index of an entry, counted from 1, and the hash of its part; or none, where the index is 0.
 #[derive(Debug, Clone, Copy, Default)]
 pub(super) struct Slot {
-    hash: u32,
+    pub(super) hash: u32,
     index: usize,
 }
 
@@ -265,6 +266,22 @@ impl Row {
         ensures ok { OnOk result (HasRoom self.new) }
     {
         self.slots.reserve(alloc)
+    }
+
+    /// Returns its slots, in order.
+    pub(super) fn as_slice(&self) -> &[Slot]
+        ensures { result.now ≡ self.now.slots.items }
+    {
+        self.slots.as_slice()
+    }
+
+    /// Adds a slot after the others. On error the row is as before.
+    pub(super) fn push(&mut self, alloc: Global, slot: Slot) -> Result<(), AllocError>
+        requires slot { 0 < slot.index }
+        ensures ok { OnOk result (self.new.slots.items ≡ self.old.slots.items ++ slot ∷ []) }
+        ensures err { OnErr result (self.new.slots.items ≡ self.old.slots.items) }
+    {
+        self.slots.push(alloc, slot)
     }
 
     /// Where the slot with what is sought is, or where it would stand.

@@ -1,7 +1,8 @@
 //! Rows by a hash: for each different part of the live entries' fields, the newest index that has it stands in the row
 //! of the part's hash. Where every hash is the same, one row has all of them, and is searched by halving as ever.
 
-ghost use Rattle.std.specs.Prelude.{◌≡◌, ◌+◌, ◌-◌, ◌^◌, ◌<◌, ◌≤◌, ℕ, List, [], IfOk, OnOk, length, drop};
+ghost use Rattle.std.specs.Prelude.{◌≡◌, ◌+◌, ◌-◌, ◌^◌, ◌<◌, ◌≤◌, ℕ, List, [], IfOk, OnOk, length, drop, vec_capacity};
+ghost use Rattle.std.specs.List.{All};
 ghost use Rattle.qpack_spec.specs.Field.{Field};
 ghost use Rattle.qpack_table.specs.Rows.{part_at, field_of_sought, IsHashed, Counts};
 ghost use Rattle.qpack_table.specs.Tables.{live_fields};
@@ -31,17 +32,39 @@ impl Rows {
         }
     }
 
-    /// So many empty rows.
-    pub(super) fn with_count(alloc: Global, count: usize) -> Result<Rows, AllocError>
+    /// Makes that many empty rows.
+    fn with_count(alloc: Global, count: usize) -> Result<Rows, AllocError>
         ensures count { IfOk result (λ rows. length rows.rows.items ≡ count) }
-        ensures empty { IfOk result (λ rows. (part : Part) (dropped : ℕ) (live : List Field)
-            → AreRowsOf part dropped live 0 rows.rows.items) }
+        ensures room { IfOk result (λ rows. vec_capacity rows.rows ≡ count) }
+        ensures empty { IfOk result (λ rows. All (λ row. row.slots.items ≡ []) rows.rows.items) }
     {
         let mut rows = Vec::with_capacity(alloc, count)?;
         for _ in 0..count {
             rows.push_reserved(Row::new());
         }
         Ok(Rows { rows })
+    }
+
+    /// Spreads the slots over that many rows. It walks them in order, and a greater hash has no lesser position, so each
+    /// goes after those of its new row. It compares no entries and moves no slots.
+    pub(super) fn grown(&self, alloc: Global, count: usize) -> Result<Rows, AllocError>
+        requires some { 0 < count }
+        requires rows { (part : Part) × (dropped : ℕ) × (live : List Field) × (entered : ℕ)
+            × AreRowsOf part dropped live entered self.now.rows.items }
+        ensures count { IfOk result (λ grown. length grown.rows.items ≡ count) }
+        ensures room { IfOk result (λ grown. vec_capacity grown.rows ≡ count) }
+        ensures rows { IfOk result (λ grown. (part : Part) (dropped entered : ℕ) (live : List Field)
+            → AreRowsOf part dropped live entered self.now.rows.items
+            → AreRowsOf part dropped live entered grown.rows.items) }
+    {
+        let mut grown = Rows::with_count(alloc, count)?;
+        for row in &self.rows {
+            for slot in row.as_slice() {
+                let home = position_of(slot.hash, count);
+                grown.rows[home].push(alloc, *slot)?;
+            }
+        }
+        Ok(grown)
     }
 
     /// How many rows there are.

@@ -1,6 +1,6 @@
 //! The slots of a row, in order: two in the row itself, more in a vector.
 
-ghost use Rattle.std.specs.Prelude.{◌≡◌, ◌<◌, ◌≤◌, [], length, take, IfSome, OnOk, slice_set};
+ghost use Rattle.std.specs.Prelude.{◌≡◌, ◌<◌, ◌≤◌, [], ◌∷◌, ◌++◌, length, take, IfSome, OnOk, OnErr, slice_set};
 ghost use Rattle.std.specs.List.{insert, remove};
 ghost use Rattle.qpack_table.specs.SlotLists.{HasRoomIn, slots_here, ArePlaces};
 
@@ -133,6 +133,18 @@ impl Slots {
             }
             Kept::Outside(slots) => if let Err(_full) = slots.insert(position, slot) {},
         }
+    }
+
+    /// Adds a slot after the others. On error the slots are as before.
+    pub(super) fn push(&mut self, alloc: Global, slot: Slot) -> Result<(), AllocError>
+        requires slot { 0 < slot.index }
+        ensures ok { OnOk result (self.new.items ≡ self.old.items ++ slot ∷ []) }
+        ensures err { OnErr result (self.new.items ≡ self.old.items) }
+    {
+        self.reserve(alloc)?;
+        let end = self.as_slice().len();
+        self.insert(end, slot);
+        Ok(())
     }
 
     /// Removes the slot at a position, and moves those after it.

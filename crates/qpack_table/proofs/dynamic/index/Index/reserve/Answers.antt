@@ -2,6 +2,3 @@ use Rattle.qpack_table.proofs.dynamic.index.Index.reserve.Goals as goal
 
 pub returns-then-len-count-clause-index : goal.returns-then-len-count-clause-index
 returns-then-len-count-clause-index c = c.make_room.ensures.index _ _ _ c.requires.index
-
-pub returns-clause-index : goal.returns-clause-index
-returns-clause-index c = c.make_room-2.ensures.index _ _ _ c.in_ok-grown.ensures.index
