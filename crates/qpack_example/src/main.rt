@@ -17,12 +17,12 @@ const SETTINGS: DecoderSettings = DecoderSettings {
 
 /// Encodes a request for stream 4.
 fn encode(encoder: &mut ConnectionEncoder, section: &mut Vec<u8>) -> Result<()> {
-    let fields = [
+    let request = [
         FieldLine::new(b":method", b"GET"),
         FieldLine::new(b"user-agent", b"curl/8"),
         FieldLine::never_indexed(b"authorization", b"Basic Og=="),
     ];
-    encoder.encode(4, &fields, section)?;
+    encoder.encode(4, &request, section)?;
     Ok(())
 }
 
