@@ -1,24 +1,30 @@
 #!/usr/bin/env python3
-"""Makes inputs of the fuzz target from recordings: fuzz/seeds.py FOLDER RECORDING..
+"""Makes inputs of the fuzz targets: fuzz/seeds.py decoder|encoder FOLDER FILE..
 
-A recording is of an encoder, a line each: 'e' and bytes of the encoder stream, or 'b', a stream and a section. Its name
-has the capacity: nghttp3_4096_16_ack.txt.
+For the decoder the files are recordings of an encoder, a line each: 'e' and bytes of the encoder stream, or 'b', a stream
+and a section. Their names have the capacity: nghttp3_4096_16_ack.txt. For the encoder they are lists of fields, as QIF: a
+name, a TAB and a value on a line, and an empty line after each list.
 """
 import os
 import re
 import sys
 
 CAPACITIES = [0, 31, 32, 64, 100, 256, 4096, 65536]
-# The settings' bytes after the capacity: 16 streams may be blocked, and the limit on sections is 512 KB.
-SETTINGS = bytes([16, 13])
-# An input has at most so many bytes.
-MOST = 8192
+# A decoder's settings after the capacity: 16 streams may be blocked, and the limit on sections is 512 KB.
+DECODER = bytes([16, 13])
+# An encoder's: how many streams may be blocked, how many sections may wait, and that the settings are known at once.
+ENCODERS = [bytes([6, 15, 31, 1]), bytes([6, 0, 31, 1]), bytes([5, 2, 4, 1]), bytes([6, 15, 31, 0])]
+# An input has at most so many bytes. Those of an encoder take longer.
+MOST, MOST_OF_ENCODER = 8192, 2048
+# Calls of an encoder's input, as `run` reads them: the instructions arrive, a section is decoded, the answers arrive, the
+# settings arrive.
+DELIVER, DECODE, HEAR, SETTINGS = 2, 3, 5, 0x16
 
 
-def inputs_of(path):
+def decoder_inputs(path):
     """Yields inputs of the front of a recording, with its bytes whole and in pieces."""
     capacity = int(re.search(r'_(\d+)_', os.path.basename(path))[1])
-    head = bytes([CAPACITIES.index(capacity)]) + SETTINGS
+    head = bytes([CAPACITIES.index(capacity)]) + DECODER
     for piece in (None, 7):
         calls = head
         with open(path, encoding='ascii') as lines:
@@ -42,9 +48,43 @@ def call_of(words, number, piece):
     return b''.join(b'\x00' + len(part).to_bytes(2, 'big') + part for part in pieces)
 
 
+def encoder_inputs(path):
+    """Yields inputs of the front of lists, each decoded at once, or four lists late."""
+    with open(path, 'rb') as file:
+        lists = [it.split(b'\n') for it in file.read().strip(b'\n').split(b'\n\n')]
+    for head in ENCODERS:
+        for late in (0, 4):
+            calls = head
+            for number, fields in enumerate(lists):
+                calls += encode_of(fields, number) + bytes([DELIVER])
+                if number >= late:
+                    calls += bytes([DECODE | (number - late) % 32 << 3, HEAR])
+                if number == 2:
+                    calls += bytes([SETTINGS])
+                if len(calls) > MOST_OF_ENCODER:
+                    break
+            yield calls[:MOST_OF_ENCODER]
+
+
+def encode_of(fields, number):
+    """Returns the call that encodes the first of these fields."""
+    texts = [line.split(b'\t', 1) for line in fields[:16]]
+    call = bytes([number % 32 << 3, len(texts)])
+    for name, value in texts:
+        call += b'\x00' + string_of(name) + string_of(value)
+    return call + b'\x00'
+
+
+def string_of(text):
+    """Returns a string as `read_string` reads it, of at most 63 bytes."""
+    text = text[:63]
+    return bytes([0x80 | len(text)]) + text
+
+
 def main():
-    folder = sys.argv[1]
-    for path in sys.argv[2:]:
+    target, folder, files = sys.argv[1], sys.argv[2], sys.argv[3:]
+    inputs_of = {'decoder': decoder_inputs, 'encoder': encoder_inputs}[target]
+    for path in files:
         for number, data in enumerate(inputs_of(path)):
             with open(f'{folder}/{os.path.basename(path)}.{number}', 'wb') as file:
                 file.write(data)

@@ -375,3 +375,84 @@ strict_section strict_decode(const strict_decoder *d, const uint8_t *p, size_t l
   }
   return s;
 }
+
+/* ---- The decoder stream (section 4.4) */
+
+void strict_new_encoder(strict_encoder *e) {
+  *e = (strict_encoder){.number = 1};
+}
+
+void strict_del_encoder(strict_encoder *e) {
+  free(e->sent);
+}
+
+void strict_send(strict_encoder *e, uint64_t stream, uint64_t required, uint64_t insert_count) {
+  e->insert_count = insert_count;
+  if (!required) return;
+  if (e->len == e->room) {
+    e->room = 2 * e->room + 8;
+    e->sent = claim(realloc(e->sent, e->room * sizeof *e->sent));
+  }
+  e->sent[e->len++] = (strict_sent){stream, required};
+}
+
+/* Releases sections of a stream, all or only the oldest. Returns how many, and stores what the last one requires. */
+static size_t release(strict_encoder *e, uint64_t stream, int are_all, uint64_t *required) {
+  size_t kept = 0, released = 0;
+  for (size_t i = 0; i < e->len; i++) {
+    if (e->sent[i].stream == stream && (are_all || !released)) {
+      *required = e->sent[i].required;
+      released++;
+    } else {
+      e->sent[kept++] = e->sent[i];
+    }
+  }
+  e->len = kept;
+  return released;
+}
+
+static outcome hear_instruction(strict_encoder *e, reader *r) {
+  uint64_t value, required = 0;
+  if (r->at == r->len) return CUT;
+  uint8_t first = r->p[r->at];
+  outcome done = read_integer(r, first & 0x80 ? 7 : 6, &value);
+  if (done != WHOLE) return done;
+  if (first & 0x80) {
+    if (!release(e, value, 0, &required)) return BAD;
+    if (required > e->known_received) e->known_received = required;
+  } else if (first & 0x40) {
+    release(e, value, 1, &required);
+  } else {
+    if (!value || value > e->insert_count - e->known_received) return BAD;
+    e->known_received += value;
+  }
+  return WHOLE;
+}
+
+strict_status strict_hear(strict_encoder *e, const uint8_t *p, size_t len) {
+  if (e->is_refused) return STRICT_REFUSED;
+  for (size_t i = 0; i < len; i++) {
+    if (e->pendinglen == sizeof e->pending) abort(); /* an integer has at most ten bytes */
+    e->pending[e->pendinglen++] = p[i];
+    reader r = {e->pending, e->pendinglen, 0};
+    outcome done = hear_instruction(e, &r);
+    e->is_refused = done == BAD;
+    if (done == BAD) return STRICT_REFUSED;
+    if (done == CUT) continue;
+    e->number++;
+    e->offset += e->pendinglen;
+    e->pendinglen = 0;
+  }
+  return STRICT_OK;
+}
+
+size_t strict_count_blocked(const strict_encoder *e) {
+  size_t blocked = 0;
+  for (size_t i = 0; i < e->len; i++) {
+    int is_first = e->sent[i].required > e->known_received;
+    for (size_t j = 0; j < i && is_first; j++)
+      is_first = e->sent[j].stream != e->sent[i].stream || e->sent[j].required <= e->known_received;
+    blocked += (size_t)is_first;
+  }
+  return blocked;
+}

@@ -1,5 +1,5 @@
-/* A strict reader of QPACK (RFC 9204), written from the standard to hold the library's decoder against: slow, plain, and
- * with nothing of the library in it. */
+/* A strict reader of QPACK (RFC 9204), written from the standard to hold the library against: slow, plain, and with nothing
+ * of the library in it. */
 #ifndef STRICT_H
 #define STRICT_H
 
@@ -48,5 +48,33 @@ typedef struct strict_section {
 
 /* Reads a section whose fields take at most |limit| bytes, 32 more for each field (RFC 9114, section 4.2.2). */
 strict_section strict_decode(const strict_decoder *d, const uint8_t *p, size_t len, uint64_t limit);
+
+/* A section that an encoder sent, and whose acknowledgment it waits for. */
+typedef struct strict_sent {
+  uint64_t stream, required;
+} strict_sent;
+
+/* What an encoder of a connection keeps of its sections. */
+typedef struct strict_encoder {
+  uint64_t insert_count, known_received;
+  strict_sent *sent; /* the oldest first */
+  size_t len, room;
+  uint8_t pending[16]; /* bytes of the decoder stream that are no whole instruction yet */
+  size_t pendinglen;
+  uint64_t number, offset; /* of the instruction at the front of |pending|, or of the one that is refused */
+  int is_refused;
+} strict_encoder;
+
+void strict_new_encoder(strict_encoder *e);
+void strict_del_encoder(strict_encoder *e);
+
+/* Keeps a section of this Required Insert Count, unless that is 0. So many insertions were made by then. */
+void strict_send(strict_encoder *e, uint64_t stream, uint64_t required, uint64_t insert_count);
+
+/* Reads more bytes of the decoder stream (section 4.4). Returns STRICT_OK or STRICT_REFUSED. */
+strict_status strict_hear(strict_encoder *e, const uint8_t *p, size_t len);
+
+/* Returns how many streams may be blocked (section 2.1.2). */
+size_t strict_count_blocked(const strict_encoder *e);
 
 #endif
