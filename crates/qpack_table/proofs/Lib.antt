@@ -17,12 +17,14 @@ pub mod Halvings
 pub mod Places
 pub mod RowOrder
 pub mod RowSearches
+pub mod Lists
 pub mod RowSlots
 pub mod NewestEntries
 pub mod RowChanges
 pub mod HashedRows
 pub mod RowsChanges
-pub mod GrownRows
+pub mod Widths
+pub mod SplitRows
 pub mod WholeIndexes
 pub mod Released
 pub mod Products

@@ -1,105 +1,27 @@
 -- A row that takes a slot in, or lets one go.
-use Rattle.std.proofs.Common.{◌≡◌, ℕ, zero, suc, ◌+◌, ◌-◌, ◌<◌, ◌≤◌, ◌∷◌, List, length, get_or, set, refl, sym}
+use Rattle.std.proofs.Common.{◌≡◌, ℕ, ◌+◌, ◌<◌, ◌≤◌, ◌∷◌, List, length, get_or, set, refl, sym}
 use Rattle.std.proofs.Common.{ap, subst, ◌∙◌, inl, inr, ◌⊎◌, arith}
 use Rattle.std.specs.Prelude.{Contains}
 use Rattle.std.specs.declared.cmp.Ordering.TheVariants.{Less, Equal}
-use Rattle.std.specs.List.{AllPairs, insert, remove}
+use Rattle.std.specs.List.{insert, remove}
 use Rattle.std.specs.List.Sorted.{IsPermutation}
 use Rattle.std.proofs.lemmas.Bool.{cases_lt, cases_eq}
 use Rattle.std.proofs.lemmas.List.{get_or_default, length-set, get_or-set_other, get_or-set_same}
 use Rattle.std.proofs.lemmas.List.Sorted.{IsPermutation-insert, IsPermutation-remove, IsPermutation-sym}
 use Rattle.std.proofs.lemmas.List.Sorted.{Contains-permutation}
-use Rattle.std.proofs.lemmas.List.Edits.{length-insert, get_or-insert_below, get_or-insert_at, get_or-insert_above}
 use Rattle.std.proofs.lemmas.List.Edits.{length-remove, get_or-remove_below, get_or-remove_above}
+use Rattle.std.proofs.lemmas.List.Quantifiers.{all_pairs_remove}
 use Rattle.qpack_spec.specs.Field.{Field}
 use Rattle.qpack_table.specs.Rows.{Key, key_cmp, key_at, part_of, part_at, hash_of, field_at, IsSlot, IsRow, IsMatch}
 use Rattle.qpack_table.specs.Rows.{IsGap, Enters, Leaves, HasIndexAt, HasNoIndex}
 use Rattle.qpack_table.specs.declared.dynamic.index.row.Part.{Part}
 use Rattle.qpack_table.specs.declared.dynamic.index.row.Slot.{Slot}
+use Rattle.qpack_table.proofs.Lists.{contains_more, contains_either, set_either, all_pairs_insert}
 use Rattle.qpack_table.proofs.RowOrder.{same_key, tie_of, same_hash, less_behind, not_less_and_equal}
 use Rattle.qpack_table.specs.Tables.{live_fields}
 use Rattle.qpack_table.specs.declared.dynamic.entry.Entry.{Entry}
 use Rattle.qpack_table.proofs.Lookups.{fields_long}
 use Rattle.qpack_table.proofs.RowSearches.{ties, found_none}
-
--- ---- elements of changed lists
-
-pub contains_more : {X : Type 0} → (xs : List X) (x a : X) → Contains xs a → Contains (x ∷ xs) a
-contains_more xs x a c = (suc c.0, omega (arith, c.1), c.2)
-
-pub contains_either : {X : Type 0} → (xs : List X) (x a : X) → Contains (x ∷ xs) a → (x ≡ a) ⊎ Contains xs a
-contains_either {X} xs x a c = pick c.0 c.1 c.2
-  where
-    pick : (k : ℕ) → k < length (x ∷ xs) → get_or (x ∷ xs) k a ≡ a → (x ≡ a) ⊎ Contains xs a
-    pick zero h e = inl e
-    pick (suc k) h e = inr (k, omega (arith, h), e)
-
--- an element of a list with one replaced
-set_either : {X : Type 0} → (xs : List X) (p : ℕ) (y a : X) → p < length xs → Contains (set xs p y) a
-    → (y ≡ a) ⊎ Contains xs a
-set_either xs p y a lt c = elim (cases_eq c.0 p) [
-  | inl e ↦ inl (sym (get_or-set_same xs p y a lt) ∙ ap (λ (i : ℕ). get_or (set xs p y) i a) (sym e) ∙ c.2)
-  | inr ne ↦ inr (c.0, omega (arith, c.1, length-set xs p y), sym (get_or-set_other xs p c.0 y a ne) ∙ c.2)
-]
-
--- an insertion between what is before and what is behind
-all_pairs_insert : {X : Type 0} → (R : X → X → Type 0) (xs : List X) (n : ℕ) (y : X) → n ≤ length xs
-    → AllPairs R xs → ((k : ℕ) (d : X) → k < n → R (get_or xs k d) y) → ((k : ℕ) (d : X) → n ≤ k → k < length xs
-    → R y (get_or xs k d)) → AllPairs R (insert xs n y)
-all_pairs_insert {X} R xs n y le all below above i j d lt within = pick (cases_lt i n) (cases_lt j n) (cases_lt n j)
-  where
-    new : List X
-    new = insert xs n y
-
-    inside : j < length xs + 1
-    inside = omega (arith, within, length-insert xs n y le)
-
-    -- an element of the new list behind the position
-    moved : (k : ℕ) → n < k → get_or new k d ≡ get_or xs (k - 1) d
-    moved k g = subst (λ (q : ℕ). get_or new q d ≡ get_or xs (k - 1) d) {x =
-        k - 1 + 1} (omega (arith, g)) (get_or-insert_above xs n y d (k - 1) (omega (arith, g)) le)
-
-    here : (k : ℕ) → k ≤ n → n ≤ k → get_or new k d ≡ y
-    here k a b = subst (λ (q : ℕ). get_or new q d ≡ y) {x = n} (omega (arith, a, b)) (get_or-insert_at xs n y d le)
-
-    two : (a b c e : X) → a ≡ b → c ≡ e → R b e → R a c
-    two a b c e p q r = subst (λ (x : X). R x c) (sym p) (subst (λ (x : X). R b x) (sym q) r)
-
-    pick : (i < n) ⊎ (n ≤ i) → (j < n) ⊎ (n ≤ j) → (n < j) ⊎ (j ≤ n) → R (get_or new i d) (get_or new j d)
-    pick (inl a) (inl b) c = two _ _ _ _ (get_or-insert_below xs n y d i a le) (get_or-insert_below xs n y d j b le)
-        (all i j d lt (omega (arith, b, le)))
-    pick (inl a) (inr b) (inl c) = two _ _ _ _ (get_or-insert_below xs n y d i a le) (moved j c) (all i (j - 1) d
-        (omega (arith, a, c)) (omega (arith, inside, c)))
-    pick (inl a) (inr b) (inr c) = two _ _ _ _ (get_or-insert_below xs n y d i a le) (here j c b) (below i d a)
-    pick (inr a) (inl b) c = absurd (omega (arith, a, b, lt))
-    pick (inr a) (inr b) (inl c) = pick_first (cases_lt n i)
-      where
-        pick_first : (n < i) ⊎ (i ≤ n) → R (get_or new i d) (get_or new j d)
-        pick_first (inl e) = two _ _ _ _ (moved i e) (moved j c) (all (i - 1) (j - 1) d (omega (arith, lt, e))
-            (omega (arith, inside, c)))
-        pick_first (inr e) = two _ _ _ _ (here i e a) (moved j c) (above (j - 1) d (omega (arith, c)) (omega
-            (arith, inside, c)))
-    pick (inr a) (inr b) (inr c) = absurd (omega (arith, a, c, lt))
-
--- all but one
-all_pairs_remove : {X : Type 0} → (R : X → X → Type 0) (xs : List X) (p : ℕ) → p < length xs → AllPairs R xs
-    → AllPairs R (remove xs p)
-all_pairs_remove {X} R xs p lt all i j d less within = pick (cases_lt i p) (cases_lt j p)
-  where
-    long : length (remove xs p) + 1 ≡ length xs
-    long = omega (arith, length-remove xs p lt, lt)
-
-    two : (a b c e : X) → a ≡ b → c ≡ e → R b e → R a c
-    two a b c e q r h = subst (λ (x : X). R x c) (sym q) (subst (λ (x : X). R b x) (sym r) h)
-
-    pick : (i < p) ⊎ (p ≤ i) → (j < p) ⊎ (p ≤ j) → R (get_or (remove xs p) i d) (get_or (remove xs p) j d)
-    pick (inl a) (inl b) = two _ _ _ _ (get_or-remove_below xs p d i a lt) (get_or-remove_below xs p d j b lt)
-        (all i j d less (omega (arith, within, long)))
-    pick (inl a) (inr b) = two _ _ _ _ (get_or-remove_below xs p d i a lt) (get_or-remove_above xs p d j b lt)
-        (all i (j + 1) d (omega (arith, less)) (omega (arith, within, long)))
-    pick (inr a) (inl b) = absurd (omega (arith, a, b, less))
-    pick (inr a) (inr b) = two _ _ _ _ (get_or-remove_above xs p d i a lt) (get_or-remove_above xs p d j b lt)
-        (all (i + 1) (j + 1) d (omega (arith, less)) (omega (arith, within, long)))
 
 -- ---- a slot comes in
 

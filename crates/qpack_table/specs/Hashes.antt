@@ -1,5 +1,5 @@
 -- The hashes by which the dynamic table's index cuts its rows. Nothing is promised of how well they spread.
-use Rattle.std.specs.Prelude.{ℕ, zero, suc, ◌+◌, ◌-◌, ◌*◌, ◌/◌, ◌%◌, ◌^◌, List, fold, take, drop, length, nat_le}
+use Rattle.std.specs.Prelude.{ℕ, zero, suc, ◌+◌, ◌-◌, ◌*◌, ◌/◌, ◌%◌, ◌^◌, List, fold, take, drop, length, nat_le, nat_lt}
 use Rattle.std.specs.Prelude.{if◌then◌else◌}
 use Rattle.std.specs.Int.{from_le_bytes, w32, w64, w128}
 use Rattle.std.specs.Int.RustNames.{bit_and, bit_xor}
@@ -45,9 +45,18 @@ pieces_hash (suc more) hash bytes = pieces_hash more (piece_hash hash (take 16 b
 unfoldable pub bytes_hash : ℕ → List ℕ → ℕ
 bytes_hash seed bytes = pieces_hash (length bytes / 16) (bit_xor seed (length bytes)) bytes
 
--- the position of a hash of 32 bits among so many
+-- the least power of two that is at least so many
+unfoldable pub width_of : ℕ → ℕ
+width_of zero = 1
+width_of (suc n) = if nat_lt (width_of n) (suc n) then 2 * width_of n else width_of n
+
+-- the position of a hash among so many, by linear hashing: its remainder by the width, or half the width below where that
+-- is past the last
 unfoldable pub position_among : ℕ → ℕ → ℕ
-position_among count hash = hash * count / 2 ^ 32
+position_among count hash =
+    if nat_lt (hash % width_of count) count
+    then hash % width_of count
+    else hash % width_of count - width_of count / 2
 
 -- 32 bits of the hash of a name
 unfoldable pub name_hash : List ℕ → ℕ

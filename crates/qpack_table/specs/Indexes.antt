@@ -1,18 +1,20 @@
 -- The index of the dynamic table's live entries: rows of absolute indexes, cut by a hash of a part of their fields.
-use Rattle.std.specs.Prelude.{◌≡◌, ◌≢◌, ℕ, ◌+◌, ◌*◌, ◌<◌, ◌≤◌, ◌⊎◌, max, Bool, List, length, Option, MatchOption}
-use Rattle.std.specs.Prelude.{slice_index_or, Contains}
+use Rattle.std.specs.Prelude.{◌≡◌, ◌≢◌, ℕ, zero, suc, ◌+◌, ◌<◌, ◌≤◌, Bool, List, [], ◌∷◌, ◌++◌, length, Option}
+use Rattle.std.specs.Prelude.{MatchOption, slice_index_or, slice_set, Contains, not}
+use Rattle.std.specs.List.{filter}
 use Rattle.std.specs.VecDeque.{deque_len, deque_capacity}
 use Rattle.qpack_spec.specs.Field.{Field}
 use Rattle.qpack_spec.specs.Table as table
 use Rattle.qpack_spec.specs.Table.{Table, newest_index}
 use Rattle.qpack_table.specs.Hashes.{field_hash, name_hash, position_among}
-use Rattle.qpack_table.specs.Rows.{field_at, part_at, hash_of, IsLiveIndex, IsRow, HasRoom}
+use Rattle.qpack_table.specs.Rows.{field_at, part_at, hash_of, IsLiveIndex, IsRow, HasRoom, goes_to}
 use Rattle.qpack_table.specs.declared.dynamic.index.Index.{Index}
 use Rattle.qpack_table.specs.declared.dynamic.index.hash.Hashes.{Hashes}
 use Rattle.qpack_table.specs.declared.dynamic.index.row.Part.{Part}
 use Rattle.qpack_table.specs.declared.dynamic.index.row.Part.TheVariants.{Name, Whole}
 use Rattle.qpack_table.specs.declared.dynamic.index.row.Row.{Row}
 use Rattle.qpack_table.specs.declared.dynamic.index.row.Slot.{Slot}
+use Rattle.qpack_table.specs.declared.dynamic.index.row.Split.{Split}
 
 -- the row of a part, among so many
 abbrev pub home : Part → ℕ → Field → ℕ
@@ -36,6 +38,21 @@ pub record AreRowsOf (part : Part) (dropped : ℕ) (live : List Field) (entered 
   pub complete : (index : ℕ) (d : Row) → dropped < index → index ≤ dropped + entered
       → HasSlotOf part dropped live
       ((slice_index_or rows (home part (length rows) (field_at dropped live index)) d).slots.items) index
+
+-- the row that is split to make one more: that of the hashes that belong to the new one
+abbrev pub split_home : List Row → ℕ
+split_home rows = position_among (length rows) (length rows)
+
+-- its slots in two: those that stay there, and those that go to the new row
+pub record IsSplitOf (rows : List Row) (split : Split) : Type 0 where
+  pub stays : (d : Row) → split.stays.slots.items
+      ≡ filter (λ s. not (goes_to (length rows) s)) ((slice_index_or rows (split_home rows) d).slots.items)
+  pub goes : (d : Row) → split.goes.slots.items
+      ≡ filter (goes_to (length rows)) ((slice_index_or rows (split_home rows) d).slots.items)
+
+-- the rows with both in place
+abbrev pub rows_behind : List Row → Split → List Row
+rows_behind rows split = slice_set rows (split_home rows) split.stays ++ split.goes ∷ []
 
 -- the row of a hash has room for one more
 pub record HasRoomFor (rows : List Row) (hash : ℕ) : Type 0 where
@@ -65,10 +82,14 @@ pub record IsIndexOf (dropped : ℕ) (live : List Field) (entered : ℕ) (index 
   pub hashes : AreAllHashesOf dropped live entered index.hashes.items
   pub matched : length index.names.rows.items ≡ length index.fields.rows.items
 
--- an index of so many entries that makes room for one more keeps its rows; or it makes more where they would be fewer than
--- the entries: twice as many, and 32 at least
+-- how many rows there are where one more is made: at first 32
+abbrev pub one_row_more : ℕ → ℕ
+one_row_more zero = 32
+one_row_more (suc n) = suc (suc n)
+
+-- an index of so many entries that makes room for one more keeps its rows, unless they would be fewer than the entries
 abbrev pub GrowsRows : (entries old new : ℕ) → Type 0
-GrowsRows entries old new = (new ≡ old) ⊎ ((old ≤ entries) × (new ≡ max (2 * old) 32))
+GrowsRows entries old new = (entries < old → new ≡ old) × (old ≤ entries → new ≡ one_row_more old)
 
 -- there is room for one more entry with such hashes
 pub record HasRoomForEntry (hashes : Hashes) (index : Index) : Type 0 where

@@ -1,14 +1,14 @@
 -- A row of the dynamic table's index: slots with the absolute indexes of entries, in the order of a part of their
 -- fields.
 use Rattle.std.specs.Prelude.{◌≡◌, ◌≢◌, ℕ, zero, suc, ◌+◌, ◌-◌, ◌<◌, ◌≤◌, ◌^◌, List, [], length, slice_index_or}
-use Rattle.std.specs.Prelude.{Option, MatchOption, Result, Ok, Err, Contains, ◌⊎◌}
+use Rattle.std.specs.Prelude.{Option, MatchOption, Result, Ok, Err, Contains, ◌⊎◌, Bool, ◌==◌}
 use Rattle.std.specs.List.{AllPairs}
 use Rattle.std.specs.declared.cmp.Ordering.{Ordering}
 use Rattle.std.specs.declared.cmp.Ordering.TheVariants.{Less, Equal, Greater}
 use Rattle.std.specs.Ordering.{nat_cmp, ordering_then}
 use Rattle.qpack_base.specs.HeaderFields.{field_cmp, line_of}
 use Rattle.qpack_spec.specs.Field.{Field}
-use Rattle.qpack_table.specs.Hashes.{field_hash, name_hash}
+use Rattle.qpack_table.specs.Hashes.{field_hash, name_hash, position_among}
 use Rattle.qpack_table.specs.SlotLists.{HasRoomIn}
 use Rattle.qpack_table.specs.declared.dynamic.index.row.Part.{Part}
 use Rattle.qpack_table.specs.declared.dynamic.index.row.Part.TheVariants.{Name, Whole}
@@ -73,6 +73,10 @@ IsSlot part dropped live s = IsLiveIndex dropped live s.index × (s.hash ≡ has
 pub record IsRow (part : Part) (dropped : ℕ) (live : List Field) (row : List Slot) : Type 0 where
   pub slots : (s : Slot) → Contains row s → IsSlot part dropped live s
   pub rises : AllPairs (λ a b. key_cmp (key_at part dropped live a) (key_at part dropped live b) ≡ Less) row
+
+-- where there is one row more than so many, whether a slot belongs to the new one
+abbrev pub goes_to : ℕ → Slot → Bool
+goes_to count s = position_among (count + 1) s.hash == count
 
 -- the slot at a position has what is sought
 pub record IsMatch (part : Part) (dropped : ℕ) (live : List Field) (row : List Slot) (k : Key) (position : ℕ) : Type 0

@@ -9,7 +9,7 @@ ghost use Rattle.qpack_table.specs.Tables.{entries_of, live_fields};
 ghost use Rattle.qpack_table.specs.declared.dynamic.index.hash.Hashes.{Hashes};
 ghost use Rattle.qpack_table.specs.Hashes.{name_hash};
 ghost use Rattle.qpack_table.specs.Indexes.{AreHashesOf, IsIndexOf, HasRoomForEntry, IsNewestIn};
-ghost use Rattle.qpack_table.specs.Indexes.{GrowsRows};
+ghost use Rattle.qpack_table.specs.Indexes.{GrowsRows, one_row_more};
 
 mod hash;
 mod row;
@@ -26,12 +26,8 @@ use qpack_base::field::FieldLine;
 use std::alloc::{AllocError, Global};
 use std::collections::VecDeque;
 
-/// The least number of rows, once there are any.
-const LEAST_ROWS: usize = 32;
-
-/// How many times as many rows are made where they would be fewer than the entries: 32 rows at first, 64 for the 33rd
-/// entry, 128 for the 65th.
-const GROWTH: usize = 2;
+/// How many rows are made at first. Then they grow one at a time.
+const FIRST_ROWS: usize = 32;
 
 /// The newest live entry of each different field, and of each different name. There are at least as many rows of
 /// either as entries.
@@ -138,8 +134,8 @@ impl Index {
         self.names.newest(entries, dropped, &sought, steps)
     }
 
-    /// Makes room for one entry more, with such hashes. Where the rows would be fewer than the entries, it makes twice
-    /// as many, and at least 32. On error the index is as before.
+    /// Makes room for one entry more, with such hashes. Where the rows would be fewer than the entries, it makes one row
+    /// more of either kind, or the first 32. On error the same entries are in, and the rows are as many as before.
     #[inline(always)]
     pub(super) fn reserve(
         &mut self,
@@ -150,15 +146,15 @@ impl Index {
         requires index { IsIndexOf dropped (live_fields entries.now.items) (length entries.now.items) self.old }
         requires few { dropped + length entries.now.items ≤ 2 ^ 62 }
         ensures index { IsIndexOf dropped (live_fields entries.now.items) (length entries.now.items) self.new }
-        ensures rows { GrowsRows (length entries.now.items) (length self.old.fields.rows.items)
-            (length self.new.fields.rows.items) }
+        ensures rows { OnOk result (GrowsRows (length entries.now.items) (length self.old.fields.rows.items)
+            (length self.new.fields.rows.items)) }
+        ensures err { OnErr result (length self.new.fields.rows.items ≡ length self.old.fields.rows.items) }
         ensures room { OnOk result (HasRoomForEntry hashes self.new) }
     {
-        let count = self.fields.count();
-        if entries.len() < count {
+        if entries.len() < self.fields.count() {
             return self.make_room(hashes);
         }
-        self.grow((count * GROWTH).max(LEAST_ROWS), hashes)
+        self.grow(hashes)
     }
 
     /// Makes room for one entry more in its rows and among the hashes.
@@ -175,21 +171,40 @@ impl Index {
         self.fields.reserve(self.alloc, hashes.field)
     }
 
-    /// Makes that many rows of either kind for the same entries, and room for one entry more. It hashes nothing again.
-    /// On error the rows are as before.
+    /// Makes one row more of either kind, or the first ones, and room for one entry more. It hashes nothing again. What
+    /// can fail comes first.
     #[inline(never)]
-    fn grow(&mut self, count: usize, hashes: Hashes) -> Result<(), AllocError>
-        requires some { 0 < count }
+    fn grow(&mut self, hashes: Hashes) -> Result<(), AllocError>
         requires index { (dropped : ℕ) × (live : List Field) × (entered : ℕ) × IsIndexOf dropped live entered self.old }
         ensures index { (dropped entered : ℕ) (live : List Field) → IsIndexOf dropped live entered self.old
             → IsIndexOf dropped live entered self.new }
-        ensures rows { OnOk result (length self.new.fields.rows.items ≡ count) }
-        ensures fields { OnErr result (self.new.fields ≡ self.old.fields) }
-        ensures names { OnErr result (self.new.names ≡ self.old.names) }
+        ensures rows { OnOk result (length self.new.fields.rows.items
+            ≡ one_row_more (length self.old.fields.rows.items)) }
+        ensures err { OnErr result (length self.new.fields.rows.items ≡ length self.old.fields.rows.items) }
         ensures room { OnOk result (HasRoomForEntry hashes self.new) }
     {
-        let mut fields = self.fields.grown(self.alloc, count)?;
-        let mut names = self.names.grown(self.alloc, count)?;
+        if self.fields.count() == 0 {
+            return self.make_first_rows(hashes);
+        }
+        let fields = self.fields.split(self.alloc, hashes.field)?;
+        let names = self.names.split(self.alloc, hashes.name)?;
+        self.hashes.reserve(1)?;
+        self.fields.put_split(fields);
+        self.names.put_split(names);
+        Ok(())
+    }
+
+    /// Makes the first rows of either kind, and room for one entry. On error there are none.
+    fn make_first_rows(&mut self, hashes: Hashes) -> Result<(), AllocError>
+        requires none { length self.old.fields.rows.items ≡ 0 }
+        ensures index { (dropped entered : ℕ) (live : List Field) → IsIndexOf dropped live entered self.old
+            → IsIndexOf dropped live entered self.new }
+        ensures rows { OnOk result (length self.new.fields.rows.items ≡ 32) }
+        ensures err { OnErr result (length self.new.fields.rows.items ≡ 0) }
+        ensures room { OnOk result (HasRoomForEntry hashes self.new) }
+    {
+        let mut fields = Rows::with_count(self.alloc, FIRST_ROWS)?;
+        let mut names = Rows::with_count(self.alloc, FIRST_ROWS)?;
         fields.reserve(self.alloc, hashes.field)?;
         names.reserve(self.alloc, hashes.name)?;
         self.hashes.reserve(1)?;

@@ -1,6 +1,6 @@
 //! The hashes of fields and of names. That they spread them is not promised: a bad one costs time.
 
-ghost use Rattle.std.specs.Prelude.{◌≡◌, ◌<◌};
+ghost use Rattle.std.specs.Prelude.{◌≡◌, ◌^◌, ◌<◌, ◌≤◌};
 ghost use Rattle.qpack_base.specs.HeaderFields.{line_of};
 ghost use Rattle.qpack_table.specs.Hashes.{bytes_hash, name_hash, field_hash, position_among};
 ghost use Rattle.qpack_table.specs.Hashes.{words_hash, piece_hash, rest_hash, short_hash, few_bytes, folded_product};
@@ -47,13 +47,43 @@ impl Hashes {
     }
 }
 
-/// The position of a hash among so many: which part of all hashes it stands in.
+/// The position of a hash among so many rows, by linear hashing. It is the remainder of the hash by the width, the least
+/// power of two that is at least the count; or half the width below that, where no row is there yet. So one row more takes
+/// hashes of one other row alone, that of [`split_among`].
 pub(super) fn position_of(hash: u32, count: usize) -> usize
-    requires { 0 < count }
+    requires some { 0 < count }
+    requires few { count ≤ 2 ^ 63 }
     ensures position { result ≡ position_among count hash }
     ensures within { result < count }
 {
-    ((u128::from(hash) * count as u128) >> 32) as usize
+    position_below(hash as usize, count)
+}
+
+/// The position of the row that one row more takes hashes of: where those stand that belong to the new one.
+pub(super) fn split_among(count: usize) -> usize
+    requires some { 0 < count }
+    requires few { count ≤ 2 ^ 63 }
+    ensures position { result ≡ position_among count count }
+    ensures within { result < count }
+{
+    position_below(count, count)
+}
+
+/// The position of any number among so many.
+#[inline(always)]
+fn position_below(number: usize, count: usize) -> usize
+    requires some { 0 < count }
+    requires few { count ≤ 2 ^ 63 }
+    ensures position { result ≡ position_among count number }
+    ensures within { result < count }
+{
+    let width = count.next_power_of_two();
+    let position = number & (width - 1);
+    if position < count {
+        position
+    } else {
+        position - width / 2
+    }
 }
 
 /// A name's hash.

@@ -2,18 +2,20 @@
 //! searched by halving.
 
 ghost use Rattle.std.specs.Prelude.{◌≡◌, ◌≢◌, ◌==◌, ◌+◌, ◌-◌, ◌^◌, ◌<◌, ◌≤◌, [], ◌∷◌, ◌++◌, min, length, IfSome};
-ghost use Rattle.std.specs.Prelude.{IfNone, OnOk, OnErr};
+ghost use Rattle.std.specs.Prelude.{IfNone, IfOk, OnOk, OnErr, not};
+ghost use Rattle.std.specs.List.{All, filter};
 ghost use Rattle.std.specs.Cmp.Lexicographic.{slice_cmp};
 ghost use Rattle.std.specs.Ordering.{nat_cmp};
 ghost use Rattle.qpack_base.specs.HeaderFields.{field_of, field_cmp};
 ghost use Rattle.qpack_table.specs.Rows.{part_of, part_at, key_cmp, key_at, key_of, field_of_sought, IsHashed, IsSlot};
 ghost use Rattle.qpack_table.specs.Rows.{HasRoom, IsRow, IsPlace, FindsSlot, Enters, Leaves, HasIndexAt, HasNoIndex};
-ghost use Rattle.qpack_table.specs.Rows.{Counts, IsGapByHash};
+ghost use Rattle.qpack_table.specs.Rows.{Counts, IsGapByHash, goes_to};
 ghost use Rattle.qpack_table.specs.SlotLists.{slots_here, ArePlaces};
 ghost use Rattle.qpack_table.specs.Tables.{live_fields};
 ghost use Rattle.qpack_table.specs.declared.dynamic.index.row.Slot.{Slot};
 
 use crate::dynamic::entry::Entry;
+use crate::dynamic::index::hash::position_of;
 use crate::dynamic::index::slots::Slots;
 use crate::dynamic::steps::Steps;
 use qpack_base::bytes::same;
@@ -250,6 +252,15 @@ pub(super) struct Row {
     slots: Slots,
 }
 
+/// The slots of a row in two.
+#[derive(Debug, Drop)]
+pub(super) struct Split {
+    /// Those that stay where they were.
+    pub(super) stays: Row,
+    /// Those that go to a new row.
+    pub(super) goes: Row,
+}
+
 impl Row {
     /// An empty row.
     pub(super) fn new() -> Row
@@ -268,15 +279,31 @@ impl Row {
         self.slots.reserve(alloc)
     }
 
-    /// Returns its slots, in order.
-    pub(super) fn as_slice(&self) -> &[Slot]
-        ensures { result.now ≡ self.now.slots.items }
+    /// Splits its slots where there is one row more than so many: into those that stay, and those whose hashes belong to
+    /// the new row. Both are in order, since it walks them so.
+    pub(super) fn split(&self, alloc: Global, count: usize) -> Result<Split, AllocError>
+        requires slots { All (λ s. 0 < s.index) self.now.slots.items }
+        requires few { count < 2 ^ 63 }
+        ensures stays { IfOk result (λ split. split.stays.slots.items
+            ≡ filter (λ s. not (goes_to count s)) self.now.slots.items) }
+        ensures goes { IfOk result (λ split. split.goes.slots.items ≡ filter (goes_to count) self.now.slots.items) }
     {
-        self.slots.as_slice()
+        let mut split = Split {
+            stays: Row::new(),
+            goes: Row::new(),
+        };
+        for slot in self.slots.as_slice() {
+            if position_of(slot.hash, count + 1) == count {
+                split.goes.push(alloc, *slot)?;
+            } else {
+                split.stays.push(alloc, *slot)?;
+            }
+        }
+        Ok(split)
     }
 
     /// Adds a slot after the others. On error the row is as before.
-    pub(super) fn push(&mut self, alloc: Global, slot: Slot) -> Result<(), AllocError>
+    fn push(&mut self, alloc: Global, slot: Slot) -> Result<(), AllocError>
         requires slot { 0 < slot.index }
         ensures ok { OnOk result (self.new.slots.items ≡ self.old.slots.items ++ slot ∷ []) }
         ensures err { OnErr result (self.new.slots.items ≡ self.old.slots.items) }

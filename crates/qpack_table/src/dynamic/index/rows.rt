@@ -1,17 +1,18 @@
 //! Rows by a hash: for each different part of the live entries' fields, the newest index that has it stands in the row
 //! of the part's hash. Where every hash is the same, one row has all of them, and is searched by halving as ever.
+//! Rows grow one at a time, by linear hashing (Litwin): each new one takes slots of one other row, and the rest stay.
 
 ghost use Rattle.std.specs.Prelude.{◌≡◌, ◌+◌, ◌-◌, ◌^◌, ◌<◌, ◌≤◌, ℕ, List, [], IfOk, OnOk, length, drop, vec_capacity};
 ghost use Rattle.std.specs.List.{All};
 ghost use Rattle.qpack_spec.specs.Field.{Field};
 ghost use Rattle.qpack_table.specs.Rows.{part_at, field_of_sought, IsHashed, Counts};
 ghost use Rattle.qpack_table.specs.Tables.{live_fields};
-ghost use Rattle.qpack_table.specs.Indexes.{AreRowsOf, HasRoomFor, FindsNewest};
+ghost use Rattle.qpack_table.specs.Indexes.{AreRowsOf, HasRoomFor, FindsNewest, IsSplitOf, rows_behind};
 ghost use Rattle.qpack_table.specs.declared.dynamic.index.row.Part.{Part};
 
 use crate::dynamic::entry::Entry;
-use crate::dynamic::index::hash::position_of;
-use crate::dynamic::index::row::{Row, Sought};
+use crate::dynamic::index::hash::{position_of, split_among};
+use crate::dynamic::index::row::{Row, Sought, Split};
 use crate::dynamic::steps::Steps;
 use std::alloc::{AllocError, Global};
 use std::collections::VecDeque;
@@ -33,7 +34,7 @@ impl Rows {
     }
 
     /// Makes that many empty rows.
-    fn with_count(alloc: Global, count: usize) -> Result<Rows, AllocError>
+    pub(super) fn with_count(alloc: Global, count: usize) -> Result<Rows, AllocError>
         ensures count { IfOk result (λ rows. length rows.rows.items ≡ count) }
         ensures room { IfOk result (λ rows. vec_capacity rows.rows ≡ count) }
         ensures empty { IfOk result (λ rows. All (λ row. row.slots.items ≡ []) rows.rows.items) }
@@ -45,26 +46,69 @@ impl Rows {
         Ok(Rows { rows })
     }
 
-    /// Spreads the slots over that many rows. It walks them in order, and a greater hash has no lesser position, so each
-    /// goes after those of its new row. It compares no entries and moves no slots.
-    pub(super) fn grown(&self, alloc: Global, count: usize) -> Result<Rows, AllocError>
-        requires some { 0 < count }
+    /// Splits the row that one row more takes slots of, and makes room for that one. It makes room for one index more in
+    /// the row that a hash will have then. It compares no entries, and the rows keep their slots.
+    pub(super) fn split(&mut self, alloc: Global, hash: u32) -> Result<Split, AllocError>
+        requires some { 0 < length self.old.rows.items }
         requires rows { (part : Part) × (dropped : ℕ) × (live : List Field) × (entered : ℕ)
-            × AreRowsOf part dropped live entered self.now.rows.items }
-        ensures count { IfOk result (λ grown. length grown.rows.items ≡ count) }
-        ensures room { IfOk result (λ grown. vec_capacity grown.rows ≡ count) }
-        ensures rows { IfOk result (λ grown. (part : Part) (dropped entered : ℕ) (live : List Field)
-            → AreRowsOf part dropped live entered self.now.rows.items
-            → AreRowsOf part dropped live entered grown.rows.items) }
+            × AreRowsOf part dropped live entered self.old.rows.items }
+        ensures rows { (part : Part) (dropped entered : ℕ) (live : List Field)
+            → AreRowsOf part dropped live entered self.old.rows.items
+            → AreRowsOf part dropped live entered self.new.rows.items }
+        ensures count { length self.new.rows.items ≡ length self.old.rows.items }
+        ensures split { IfOk result (λ split. IsSplitOf self.new.rows.items split) }
+        ensures room { IfOk result (λ split. HasRoomFor (rows_behind self.new.rows.items split) hash) }
+        ensures vacant { OnOk result (length self.new.rows.items < vec_capacity self.new.rows) }
     {
-        let mut grown = Rows::with_count(alloc, count)?;
-        for row in &self.rows {
-            for slot in row.as_slice() {
-                let home = position_of(slot.hash, count);
-                grown.rows[home].push(alloc, *slot)?;
-            }
+        self.rows.reserve(1)?;
+        let count = self.rows.len();
+        let mut split = self.rows[split_among(count)].split(alloc, count)?;
+        self.reserve_behind(alloc, &mut split, hash)?;
+        Ok(split)
+    }
+
+    /// Makes room for one index more in the row that a hash will have once the split is put in place.
+    fn reserve_behind(
+        &mut self,
+        alloc: Global,
+        split: &mut Split,
+        hash: u32,
+    ) -> Result<(), AllocError>
+        requires some { 0 < length self.old.rows.items }
+        requires split { IsSplitOf self.old.rows.items split.old }
+        ensures rows { (part : Part) (dropped entered : ℕ) (live : List Field)
+            → AreRowsOf part dropped live entered self.old.rows.items
+            → AreRowsOf part dropped live entered self.new.rows.items }
+        ensures count { length self.new.rows.items ≡ length self.old.rows.items }
+        ensures split { IsSplitOf self.new.rows.items split.new }
+        ensures room { OnOk result (HasRoomFor (rows_behind self.new.rows.items split.new) hash) }
+        ensures capacity { vec_capacity self.new.rows ≡ vec_capacity self.old.rows }
+    {
+        let count = self.rows.len();
+        let home = position_of(hash, count + 1);
+        if home == count {
+            return split.goes.reserve(alloc);
         }
-        Ok(grown)
+        if home == split_among(count) {
+            return split.stays.reserve(alloc);
+        }
+        self.rows[home].reserve(alloc)
+    }
+
+    /// Puts a split in place: what stays where the whole row was, and what goes behind the last row.
+    pub(super) fn put_split(&mut self, split: Split)
+        requires some { 0 < length self.old.rows.items }
+        requires split { IsSplitOf self.old.rows.items split }
+        requires vacant { length self.old.rows.items < vec_capacity self.old.rows }
+        ensures rows { (part : Part) (dropped entered : ℕ) (live : List Field)
+            → AreRowsOf part dropped live entered self.old.rows.items
+            → AreRowsOf part dropped live entered self.new.rows.items }
+        ensures count { length self.new.rows.items ≡ length self.old.rows.items + 1 }
+        ensures placed { self.new.rows.items ≡ rows_behind self.old.rows.items split }
+    {
+        let home = split_among(self.rows.len());
+        self.rows[home] = split.stays;
+        self.rows.push_reserved(split.goes);
     }
 
     /// How many rows there are.
