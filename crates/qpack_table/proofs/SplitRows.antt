@@ -220,7 +220,8 @@ module _ (rows : List Row) (some : 0 < length rows) (split : Split) where
           subst (λ (x : Row). Contains (x.slots.items) was.0)
           (sym (ap (λ (i : ℕ). get_or new i d) e ∙ row_left there d inside ne)) was.1
 
-      found : StaysOrGoes n (hash_of part (field_at dropped live index)) → Contains ((get_or new now d).slots.items) was.0
+      found : StaysOrGoes n (hash_of part (field_at dropped live index))
+          → Contains ((get_or new now d).slots.items) was.0
       found (inl e) = kept e (cases_eq there h)
       found (inr went) =
           subst (λ (xs : List Slot). Contains xs was.0)

@@ -1,6 +1,6 @@
 -- The hashes by which the dynamic table's index cuts its rows. Nothing is promised of how well they spread.
-use Rattle.std.specs.Prelude.{ℕ, zero, suc, ◌+◌, ◌-◌, ◌*◌, ◌/◌, ◌%◌, ◌^◌, List, fold, take, drop, length, nat_le, nat_lt}
-use Rattle.std.specs.Prelude.{if◌then◌else◌}
+use Rattle.std.specs.Prelude.{ℕ, zero, suc, ◌+◌, ◌-◌, ◌*◌, ◌/◌, ◌%◌, ◌^◌, List, fold, take, drop, length, nat_le}
+use Rattle.std.specs.Prelude.{nat_lt, if◌then◌else◌}
 use Rattle.std.specs.Int.{from_le_bytes, w32, w64, w128}
 use Rattle.std.specs.Int.RustNames.{bit_and, bit_xor}
 use Rattle.qpack_spec.specs.Field.{Field}
@@ -50,8 +50,8 @@ unfoldable pub width_of : ℕ → ℕ
 width_of zero = 1
 width_of (suc n) = if nat_lt (width_of n) (suc n) then 2 * width_of n else width_of n
 
--- the position of a hash among so many, by linear hashing: its remainder by the width, or half the width below where that
--- is past the last
+-- the position of a hash among so many, by linear hashing: its remainder by the width, or half the width below where
+-- that is past the last
 unfoldable pub position_among : ℕ → ℕ → ℕ
 position_among count hash =
     if nat_lt (hash % width_of count) count

@@ -1,6 +1,6 @@
 -- The index of the dynamic table's live entries: rows of absolute indexes, cut by a hash of a part of their fields.
-use Rattle.std.specs.Prelude.{◌≡◌, ◌≢◌, ℕ, zero, suc, ◌+◌, ◌<◌, ◌≤◌, Bool, List, [], ◌∷◌, ◌++◌, length, Option}
-use Rattle.std.specs.Prelude.{MatchOption, slice_index_or, slice_set, Contains, not}
+use Rattle.std.specs.Prelude.{◌≡◌, ◌≢◌, ℕ, zero, suc, ◌+◌, ◌*◌, ◌<◌, ◌≤◌, Bool, not, List, [], ◌∷◌, ◌++◌, length}
+use Rattle.std.specs.Prelude.{vec_capacity, Option, MatchOption, slice_index_or, slice_set, Contains}
 use Rattle.std.specs.List.{filter}
 use Rattle.std.specs.VecDeque.{deque_len, deque_capacity}
 use Rattle.qpack_spec.specs.Field.{Field}
@@ -15,6 +15,7 @@ use Rattle.qpack_table.specs.declared.dynamic.index.row.Part.TheVariants.{Name, 
 use Rattle.qpack_table.specs.declared.dynamic.index.row.Row.{Row}
 use Rattle.qpack_table.specs.declared.dynamic.index.row.Slot.{Slot}
 use Rattle.qpack_table.specs.declared.dynamic.index.row.Split.{Split}
+use Rattle.qpack_table.specs.declared.dynamic.index.rows.Rows.{Rows}
 
 -- the row of a part, among so many
 abbrev pub home : Part → ℕ → Field → ℕ
@@ -90,6 +91,10 @@ one_row_more (suc n) = suc (suc n)
 -- an index of so many entries that makes room for one more keeps its rows, unless they would be fewer than the entries
 abbrev pub GrowsRows : (entries old new : ℕ) → Type 0
 GrowsRows entries old new = (entries < old → new ≡ old) × (old ≤ entries → new ≡ one_row_more old)
+
+-- rows that have room for at most as many again
+abbrev pub HasFewSpare : Rows → Type 0
+HasFewSpare rows = vec_capacity rows.rows ≤ 2 * length rows.rows.items
 
 -- there is room for one more entry with such hashes
 pub record HasRoomForEntry (hashes : Hashes) (index : Index) : Type 0 where

@@ -9,7 +9,7 @@ ghost use Rattle.qpack_table.specs.Tables.{entries_of, live_fields};
 ghost use Rattle.qpack_table.specs.declared.dynamic.index.hash.Hashes.{Hashes};
 ghost use Rattle.qpack_table.specs.Hashes.{name_hash};
 ghost use Rattle.qpack_table.specs.Indexes.{AreHashesOf, IsIndexOf, HasRoomForEntry, IsNewestIn};
-ghost use Rattle.qpack_table.specs.Indexes.{GrowsRows, one_row_more};
+ghost use Rattle.qpack_table.specs.Indexes.{GrowsRows, one_row_more, HasFewSpare};
 
 mod hash;
 mod row;
@@ -134,8 +134,8 @@ impl Index {
         self.names.newest(entries, dropped, &sought, steps)
     }
 
-    /// Makes room for one entry more, with such hashes. Where the rows would be fewer than the entries, it makes one row
-    /// more of either kind, or the first 32. On error the same entries are in, and the rows are as many as before.
+    /// Makes room for one entry more, with such hashes. Where the rows would be fewer than the entries, it makes one more
+    /// of either kind, or the first 32. On error the same entries are in, and the rows are as many as before.
     #[inline(always)]
     pub(super) fn reserve(
         &mut self,
@@ -150,6 +150,10 @@ impl Index {
             (length self.new.fields.rows.items)) }
         ensures err { OnErr result (length self.new.fields.rows.items ≡ length self.old.fields.rows.items) }
         ensures room { OnOk result (HasRoomForEntry hashes self.new) }
+        ensures full { OnErr result (length entries.now.items < length self.old.fields.rows.items
+            → HasRoomForEntry hashes self.old → ⊥) }
+        ensures fields { HasFewSpare self.old.fields → HasFewSpare self.new.fields }
+        ensures names { HasFewSpare self.old.names → HasFewSpare self.new.names }
     {
         if entries.len() < self.fields.count() {
             return self.make_room(hashes);
@@ -157,7 +161,7 @@ impl Index {
         self.grow(hashes)
     }
 
-    /// Makes room for one entry more in its rows and among the hashes.
+    /// Makes room for one entry more in its rows and among the hashes. It fails only where there is none.
     fn make_room(&mut self, hashes: Hashes) -> Result<(), AllocError>
         requires fields { 0 < length self.old.fields.rows.items }
         requires names { 0 < length self.old.names.rows.items }
@@ -165,6 +169,9 @@ impl Index {
             → IsIndexOf dropped live entered self.new }
         ensures rows { length self.new.fields.rows.items ≡ length self.old.fields.rows.items }
         ensures room { OnOk result (HasRoomForEntry hashes self.new) }
+        ensures full { OnErr result (HasRoomForEntry hashes self.old → ⊥) }
+        ensures fields { HasFewSpare self.old.fields → HasFewSpare self.new.fields }
+        ensures names { HasFewSpare self.old.names → HasFewSpare self.new.names }
     {
         self.hashes.reserve(1)?;
         self.names.reserve(self.alloc, hashes.name)?;
@@ -182,6 +189,8 @@ impl Index {
             ≡ one_row_more (length self.old.fields.rows.items)) }
         ensures err { OnErr result (length self.new.fields.rows.items ≡ length self.old.fields.rows.items) }
         ensures room { OnOk result (HasRoomForEntry hashes self.new) }
+        ensures fields { HasFewSpare self.old.fields → HasFewSpare self.new.fields }
+        ensures names { HasFewSpare self.old.names → HasFewSpare self.new.names }
     {
         if self.fields.count() == 0 {
             return self.make_first_rows(hashes);
@@ -202,6 +211,8 @@ impl Index {
         ensures rows { OnOk result (length self.new.fields.rows.items ≡ 32) }
         ensures err { OnErr result (length self.new.fields.rows.items ≡ 0) }
         ensures room { OnOk result (HasRoomForEntry hashes self.new) }
+        ensures fields { HasFewSpare self.old.fields → HasFewSpare self.new.fields }
+        ensures names { HasFewSpare self.old.names → HasFewSpare self.new.names }
     {
         let mut fields = Rows::with_count(self.alloc, FIRST_ROWS)?;
         let mut names = Rows::with_count(self.alloc, FIRST_ROWS)?;

@@ -47,9 +47,9 @@ impl Hashes {
     }
 }
 
-/// The position of a hash among so many rows, by linear hashing. It is the remainder of the hash by the width, the least
-/// power of two that is at least the count; or half the width below that, where no row is there yet. So one row more takes
-/// hashes of one other row alone, that of [`split_among`].
+/// The position of a hash among so many rows, by linear hashing. It is the remainder of the hash by the width, the
+/// least power of two that is at least the count; or half the width below, where no row is there yet. So one row more
+/// takes hashes of one other row alone, that of [`split_among`].
 pub(super) fn position_of(hash: u32, count: usize) -> usize
     requires some { 0 < count }
     requires few { count ≤ 2 ^ 63 }

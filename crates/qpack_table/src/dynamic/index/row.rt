@@ -271,16 +271,17 @@ impl Row {
         }
     }
 
-    /// Makes room for one slot more.
+    /// Makes room for one slot more. It fails only where there is none.
     pub(super) fn reserve(&mut self, alloc: Global) -> Result<(), AllocError>
         ensures slots { self.new.slots.items ≡ self.old.slots.items }
         ensures ok { OnOk result (HasRoom self.new) }
+        ensures full { OnErr result (self.old.slots.capacity ≤ length self.old.slots.items) }
     {
         self.slots.reserve(alloc)
     }
 
-    /// Splits its slots where there is one row more than so many: into those that stay, and those whose hashes belong to
-    /// the new row. Both are in order, since it walks them so.
+    /// Splits its slots where there is one row more than so many: into those that stay, and those whose hashes belong
+    /// to the new row. Both are in order, since it walks them so.
     pub(super) fn split(&self, alloc: Global, count: usize) -> Result<Split, AllocError>
         requires slots { All (λ s. 0 < s.index) self.now.slots.items }
         requires few { count < 2 ^ 63 }

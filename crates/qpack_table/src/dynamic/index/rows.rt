@@ -2,7 +2,8 @@
 //! of the part's hash. Where every hash is the same, one row has all of them, and is searched by halving as ever.
 //! Rows grow one at a time, by linear hashing (Litwin): each new one takes slots of one other row, and the rest stay.
 
-ghost use Rattle.std.specs.Prelude.{◌≡◌, ◌+◌, ◌-◌, ◌^◌, ◌<◌, ◌≤◌, ℕ, List, [], IfOk, OnOk, length, drop, vec_capacity};
+ghost use Rattle.std.specs.Prelude.{◌≡◌, ◌+◌, ◌-◌, ◌*◌, ◌^◌, ◌<◌, ◌≤◌, max, ℕ, List, [], IfOk, OnOk, OnErr, length};
+ghost use Rattle.std.specs.Prelude.{drop, vec_capacity};
 ghost use Rattle.std.specs.List.{All};
 ghost use Rattle.qpack_spec.specs.Field.{Field};
 ghost use Rattle.qpack_table.specs.Rows.{part_at, field_of_sought, IsHashed, Counts};
@@ -46,8 +47,8 @@ impl Rows {
         Ok(Rows { rows })
     }
 
-    /// Splits the row that one row more takes slots of, and makes room for that one. It makes room for one index more in
-    /// the row that a hash will have then. It compares no entries, and the rows keep their slots.
+    /// Splits the row that one row more takes slots of, and makes room for that one. It makes room for one index more
+    /// in the row that a hash will have then. It compares no entries, and the rows keep their slots.
     pub(super) fn split(&mut self, alloc: Global, hash: u32) -> Result<Split, AllocError>
         requires some { 0 < length self.old.rows.items }
         requires rows { (part : Part) × (dropped : ℕ) × (live : List Field) × (entered : ℕ)
@@ -59,12 +60,29 @@ impl Rows {
         ensures split { IfOk result (λ split. IsSplitOf self.new.rows.items split) }
         ensures room { IfOk result (λ split. HasRoomFor (rows_behind self.new.rows.items split) hash) }
         ensures vacant { OnOk result (length self.new.rows.items < vec_capacity self.new.rows) }
+        ensures capacity { vec_capacity self.new.rows
+            ≤ max (vec_capacity self.old.rows) (2 * length self.old.rows.items) }
     {
-        self.rows.reserve(1)?;
+        self.reserve_row()?;
         let count = self.rows.len();
         let mut split = self.rows[split_among(count)].split(alloc, count)?;
         self.reserve_behind(alloc, &mut split, hash)?;
         Ok(split)
+    }
+
+    /// Makes room for one row more. Where there is none, it makes room for as many again as there are.
+    fn reserve_row(&mut self) -> Result<(), AllocError>
+        requires some { 0 < length self.old.rows.items }
+        ensures rows { self.new.rows.items ≡ self.old.rows.items }
+        ensures vacant { OnOk result (length self.new.rows.items < vec_capacity self.new.rows) }
+        ensures capacity { vec_capacity self.new.rows
+            ≤ max (vec_capacity self.old.rows) (2 * length self.old.rows.items) }
+    {
+        let count = self.rows.len();
+        if count == self.rows.capacity() {
+            self.rows.reserve_exact(count)?;
+        }
+        Ok(())
     }
 
     /// Makes room for one index more in the row that a hash will have once the split is put in place.
@@ -105,6 +123,7 @@ impl Rows {
             → AreRowsOf part dropped live entered self.new.rows.items }
         ensures count { length self.new.rows.items ≡ length self.old.rows.items + 1 }
         ensures placed { self.new.rows.items ≡ rows_behind self.old.rows.items split }
+        ensures capacity { vec_capacity self.new.rows ≡ vec_capacity self.old.rows }
     {
         let home = split_among(self.rows.len());
         self.rows[home] = split.stays;
@@ -141,7 +160,7 @@ impl Rows {
         self.rows[home].find(entries, dropped, sought, steps)
     }
 
-    /// Makes room for one index more in the row of a hash.
+    /// Makes room for one index more in the row of a hash. It fails only where there is none.
     #[inline(always)]
     pub(super) fn reserve(&mut self, alloc: Global, hash: u32) -> Result<(), AllocError>
         requires { 0 < length self.old.rows.items }
@@ -150,6 +169,8 @@ impl Rows {
             → AreRowsOf part dropped live entered self.new.rows.items }
         ensures count { length self.new.rows.items ≡ length self.old.rows.items }
         ensures room { OnOk result (HasRoomFor self.new.rows.items hash) }
+        ensures full { OnErr result (HasRoomFor self.old.rows.items hash → ⊥) }
+        ensures capacity { vec_capacity self.new.rows ≡ vec_capacity self.old.rows }
     {
         let home = position_of(hash, self.rows.len());
         self.rows[home].reserve(alloc)

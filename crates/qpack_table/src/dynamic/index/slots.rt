@@ -71,14 +71,16 @@ impl Slots {
         }
     }
 
-    /// Makes room for one slot more.
+    /// Makes room for one slot more. It fails only where there is none.
     #[inline(always)]
     pub(super) fn reserve(&mut self, alloc: Global) -> Result<(), AllocError>
         ensures slots { self.new.items ≡ self.old.items }
         ensures ok { OnOk result (HasRoomIn self.new) }
+        ensures full { OnErr result (self.old.capacity ≤ length self.old.items) }
     {
         match &self.kept {
             Kept::Here([_, second]) if second.is_none() => Ok(()),
+            Kept::Outside(slots) if slots.len() < slots.capacity() => Ok(()),
             Kept::Here(_) | Kept::Outside(_) => self.reserve_outside(alloc),
         }
     }
@@ -86,6 +88,7 @@ impl Slots {
     /// Makes room outside the row itself. This is a call of its own, so that a row with room saves no registers.
     #[inline(never)]
     fn reserve_outside(&mut self, alloc: Global) -> Result<(), AllocError>
+        requires full { self.old.capacity ≤ length self.old.items }
         ensures slots { self.new.items ≡ self.old.items }
         ensures ok { OnOk result (HasRoomIn self.new) }
     {

@@ -9,11 +9,11 @@ split-requires-clause-slots c =
     let len : c.len-count.result ≡ length c.args.self.now.rows.items = search rules in
     let read : c.index.result.now ≡ get_or c.args.self.now.rows.items c.split_among.result c.index.result.now =
     c.index.ensures ∙ ap (λ (rs : List Row). get_or rs c.split_among.result c.index.result.now)
-    c.reserve.ensures.items in
+    c.reserve_row.ensures.rows in
     slots_some _ _ _ _ _ c.requires.rows.4 _ _ (home_within _ _ _ len c.split_among.ensures.within) read
 
 pub reserve_behind-requires-clause-split : goal.reserve_behind-requires-clause-split
 reserve_behind-requires-clause-split c =
-    let len : c.len-count.result ≡ length c.reserve.new.self.items = search rules in
+    let len : c.len-count.result ≡ length c.reserve_row.new.self.rows.items = search rules in
     parts_made _ _ _ _ _ len c.split_among.ensures.position c.split_among.ensures.within c.index.ensures
     c.in_ok-split.ensures.stays c.in_ok-split.ensures.goes
