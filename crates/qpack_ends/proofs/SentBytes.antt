@@ -1,17 +1,17 @@
 -- Bytes that are to be sent, behind some that were.
 use Rattle.std.proofs.Common.{◌≡◌, ◌+◌, ◌≤◌, ℕ, List, ◌++◌, length, drop, Result, Ok, Err, IfOk, ap, ◌∙◌, arith, refl}
-use Rattle.std.proofs.Common.{vec_len, vec_capacity}
-use Rattle.std.specs.Prelude.{⊤, OnOk, OnErr}
+use Rattle.std.proofs.Common.{vec_len, vec_capacity, inl, inr}
+use Rattle.std.specs.Prelude.{⊤, ◌⊎◌, IsOk, OnOk, OnErr}
 use Rattle.std.specs.declared.vec.Vec.{Vec}
+use Rattle.std.proofs.lemmas.Bool.{cases_lt}
 use Rattle.std.proofs.lemmas.List.{drop-append-le, length-drop}
 use Rattle.qpack_spec.specs.Field.{FieldLine}
 use Rattle.qpack_spec.specs.Table.{Table}
 use Rattle.qpack_base.specs.Writes.{Writes}
 use Rattle.qpack_codec.specs.ChoosesAlong.{Chooses}
 use Rattle.qpack_codec.specs.ChosenSections.{EncodesAlong}
-use Rattle.qpack_codec.specs.Encoding.{GrowsWithin}
 use Rattle.qpack_codec.specs.declared.error.EncoderError.{EncoderError}
-use Rattle.qpack_ends.specs.Unsent.{UnsentView, HasRoom, KeepsRoom, Appends}
+use Rattle.qpack_ends.specs.Unsent.{UnsentView, HasRoom, LacksRoom, Appends}
 
 -- what is appended to all is appended to those that are to be sent
 appended : (sent : ℕ) (old new bytes : List ℕ) → sent + sent ≤ length old → new ≡ old ++ bytes
@@ -58,6 +58,16 @@ on_err : {A E : Type 0} {P Q : Type 0} (r : Result A E) → (P → Q) → OnErr 
 on_err (Ok x) f h = tt
 on_err (Err e) f h = f h
 
+-- what fails although it succeeds with room has none
+lacks_on_err : {A E : Type 0} (r : Result A E) (many : ℕ) (u : UnsentView) → (HasRoom many u → IsOk r)
+    → OnErr r (LacksRoom many u)
+lacks_on_err (Ok x) many u succeeds = tt
+lacks_on_err (Err e) many u succeeds = pick (cases_lt u.capacity (u.front + length u.bytes + many))
+  where
+    pick : LacksRoom many u ⊎ HasRoom many u → LacksRoom many u
+    pick (inl lacks) = lacks
+    pick (inr room) = absurd (let y = succeeds room in cc)
+
 -- what a writer leaves in the vector is appended to what is to be sent
 pub appends : {A E : Type 0} (sent : ℕ) (bytes : List ℕ) (old new : Vec ℕ A) (r : Result ⊤ E)
     → vec_len old ≡ length old.items → sent + sent ≤ length old.items → Writes bytes old new r
@@ -66,17 +76,11 @@ appends sent bytes old new r len few w =
     record {
       ok = on_ok r (appended sent old.items new.items bytes few) w.ok;
       err = on_err r (ap (drop sent)) w.err;
-      succeeds = λ room. w.succeeds (fits sent (length bytes) old len few room);
-      front = refl;
+      lacks = lacks_on_err r (length bytes) (unsent_of sent old)
+          (λ room. w.succeeds (fits sent (length bytes) old len few room));
       room = record {
         still = λ room. w.still (fits sent (length bytes) old len few room);
         capacity = w.capacity;
+        front = refl;
       };
     }
-
--- instructions that keep a vector's room keep it
-pub keeps_room : {A : Type 0} (sent many : ℕ) (old new : Vec ℕ A) → vec_len old ≡ length old.items
-    → sent + sent ≤ length old.items → GrowsWithin many old new
-    → KeepsRoom many (unsent_of sent old) (unsent_of sent new)
-keeps_room sent many old new len few k =
-    record { still = λ room. k.still (fits sent many old len few room); capacity = k.capacity }

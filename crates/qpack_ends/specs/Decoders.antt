@@ -1,6 +1,6 @@
 -- The decoding end of a connection (RFC 9204, sections 2.1.2, 2.2, 4.4 and 5).
 use Rattle.std.specs.Prelude.{◌≡◌, ◌<◌, ◌≤◌, ◌^◌, ℕ, zero, suc, ◌-◌, ⊤, ◌⊎◌, Bool, false, if◌then◌else◌, nat_eq}
-use Rattle.std.specs.Prelude.{List, [], ◌++◌, Option, None, Some, Result, Ok, Err}
+use Rattle.std.specs.Prelude.{List, [], ◌++◌, length, Option, None, Some, Result, Ok, Err}
 use Rattle.std.specs.Option.{is_some, IfSome, IsSome}
 use Rattle.qpack_spec.specs.Field.{FieldLine}
 use Rattle.qpack_spec.specs.Instruction.{Acknowledgment, Cancellation, written_decoder_instruction}
@@ -22,8 +22,9 @@ use Rattle.qpack_ends.specs.declared.section.Reading.TheVariants as reading
 use Rattle.qpack_ends.specs.declared.section.SectionError.{SectionError}
 use Rattle.qpack_ends.specs.Blocked.{IsCountedAnew, MayBlockAmong, is_blocked, blocked_among, with_blocked, without}
 use Rattle.qpack_ends.specs.Receiving.{StreamView, Receives, ReceivesMore, AsksToReceive, encoder_stream_error}
-use Rattle.qpack_ends.specs.Sections.{decompression_failed, TellsReading, ReadsInto}
+use Rattle.qpack_ends.specs.Sections.{decompression_failed, TellsReading}
 use Rattle.qpack_ends.specs.Sections as sections
+use Rattle.qpack_ends.specs.Unsent.{UnsentView, LacksRoom}
 
 -- a decoding end: its settings; the table; the bytes that wait from the encoder stream; how many insertions it has
 -- reported; the streams that became blocked and were not decoded since; the bytes of the decoder stream that are not
@@ -36,6 +37,29 @@ pub record DecodingEnd : Type 0 where
   pub blocked : List BlockedStream
   pub unsent : List ℕ
   pub failure : Option DecodingError
+
+-- a decoding end, with the room for the bytes of the decoder stream
+pub record DecoderView : Type 0 where
+  pub settings : DecoderSettings
+  pub table : Table
+  pub stream : StreamView
+  pub reported : ℕ
+  pub blocked : List BlockedStream
+  pub unsent : UnsentView
+  pub failure : Option DecodingError
+
+-- the end without that room
+abbrev pub end_of : DecoderView → DecodingEnd
+end_of d =
+    record {
+      settings = d.settings;
+      table = d.table;
+      stream = d.stream;
+      reported = d.reported;
+      blocked = d.blocked;
+      unsent = d.unsent.bytes;
+      failure = d.failure;
+    }
 
 -- ---- its beginning
 
@@ -120,6 +144,13 @@ acknowledged stream (suc required) d =
       unsent = (with_report d).unsent ++ written_decoder_instruction (Acknowledgment stream);
     }
 
+-- what is written for a section that requires this many insertions: nothing for none; otherwise increments for the
+-- insertions not yet reported, then the acknowledgment
+abbrev pub acknowledgment_of : ℕ → ℕ → DecodingEnd → List ℕ
+acknowledgment_of stream zero d = []
+acknowledgment_of stream (suc required) d =
+    written_report (unreported d) ++ written_decoder_instruction (Acknowledgment stream)
+
 -- memory was refused for the increments, and nothing changes, or for the acknowledgment after them
 abbrev pub StopsAcknowledging : DecodingEnd → DecodingEnd → ℕ → DecodingError → Type 0
 StopsAcknowledging old new required e =
@@ -164,11 +195,6 @@ BlocksStream old new stream required (Err e) =
     StopsBlocking old new (record { stream = stream; required = required }) e
 
 -- ---- a section
-
--- the reading was acted on; or why not
-abbrev pub TakesReading : DecodingEnd → DecodingEnd → ℕ → Reading → Result ⊤ DecodingError → Type 0
-TakesReading old new stream (reading.Fields required) r = Acknowledges old new stream required r
-TakesReading old new stream (reading.Blocked required) r = BlocksStream old new stream required r
 
 -- the fields of a section, and its acknowledgment is written, if one is to be; or its stream is counted as blocked
 abbrev pub GivesReading : DecodingEnd → DecodingEnd → ℕ → StrictReading → List FieldLine → Reading → Type 0
@@ -227,7 +253,30 @@ AsksToDecode d stream bytes =
     AsksSectionForMemory bytes
     ⊎ AsksBehind d stream (strict_reading (window d.table) d.settings.max_section_size bytes)
 
+-- what is written for a section that is read as this: its acknowledgment, or nothing
+abbrev pub answer_to : ℕ → StrictReading → DecodingEnd → List ℕ
+answer_to stream (Read fields required) d = acknowledgment_of stream required d
+answer_to stream read d = []
+
+-- memory is needed after a reading: it may be asked for; and if an acknowledgment is to be written, it does not fit with
+-- the increments before it
+abbrev pub NeedsMemoryBehind : DecoderView → ℕ → StrictReading → Type 0
+NeedsMemoryBehind d stream (Read fields required) =
+    (0 < required) × LacksRoom (length (acknowledgment_of stream required (end_of d))) d.unsent
+NeedsMemoryBehind d stream read = AsksBehind (end_of d) stream read
+
+-- memory is needed: the section may ask for it, or it is needed after its reading
+abbrev pub NeedsMemoryToDecode : DecoderView → ℕ → List ℕ → Type 0
+NeedsMemoryToDecode d stream bytes =
+    AsksSectionForMemory bytes
+    ⊎ NeedsMemoryBehind d stream (strict_reading (window d.table) d.settings.max_section_size bytes)
+
 -- ---- a stream that is given up
+
+-- what is written for a stream's cancellation: nothing if the maximum capacity is 0 (section 2.2.2.2)
+abbrev pub cancellation_of : ℕ → DecodingEnd → List ℕ
+cancellation_of stream d =
+    if nat_eq d.settings.max_capacity 0 then [] else written_decoder_instruction (Cancellation stream)
 
 -- the end after a stream's cancellation, which is not written if the maximum capacity is 0 (section 2.2.2.2)
 abbrev pub cancelled : ℕ → DecodingEnd → DecodingEnd
@@ -259,9 +308,12 @@ EndsReceiving d new (Ok done) (Ok total) = (total ≡ insert_count d.table) × (
 EndsReceiving d new (Ok done) (Err e) = Reports d new (Err e)
 EndsReceiving d new (Err e) r = (r ≡ Err (stream_failure e)) × (new ≡ refused (stream_failure e) d)
 
--- memory may be asked for to receive bytes, of which these are left: for increments, or by the stream
-abbrev pub AsksForBytes : DecodingEnd → List ℕ → Type 0
-AsksForBytes d left = (0 < unreported d) ⊎ AsksToReceive d.table left d.stream
+-- memory may be asked for to receive bytes, of which these are left: for increments that do not fit after these unsent
+-- bytes, or by the stream
+abbrev pub AsksForBytes : UnsentView → DecodingEnd → List ℕ → Type 0
+AsksForBytes unsent d left =
+    ((0 < unreported d) × LacksRoom (length (written_report (unreported d))) unsent)
+    ⊎ AsksToReceive d.table left d.stream
 
 -- the next bytes of the encoder stream were received, of which these are left
 pub record ReceivesBytes (start : Table) (before : List ℕ) (old new : DecodingEnd) (bytes left : List ℕ)

@@ -1,15 +1,19 @@
 //! The decoding end of a connection, made from what it sends as its settings (RFC 9204, sections 2.2, 4.4 and 5).
 
-ghost use Rattle.std.specs.Prelude.{◌≡◌, ◌<◌, ◌≤◌, ◌^◌, None, Some, Err, OnOk, IfOk, IfErr, IfSome, List, ℕ, drop, length};
+ghost use Rattle.std.specs.Prelude.{◌≡◌, ◌<◌, ◌≤◌, ◌^◌, ◌-◌, None, Some, Err, OnOk, OnErr, IfOk, IfErr, IfSome};
+ghost use Rattle.std.specs.Prelude.{ℕ, List, [], drop, length};
 ghost use Rattle.qpack_spec.specs.StrictReading.{strict_reading};
 ghost use Rattle.qpack_spec.specs.Table.{Table, empty_table, insert_count, window};
 ghost use Rattle.qpack_ends.specs.Blocked.{ready};
 ghost use Rattle.qpack_ends.specs.FieldSections.{GrowsWithin, IsRoomWithin};
 ghost use Rattle.qpack_ends.specs.Receiving.{Receives};
-ghost use Rattle.qpack_ends.specs.Decoders.{Begins, FailsSettings, Checks, Reports, Acknowledges, BlocksStream};
-ghost use Rattle.qpack_ends.specs.Decoders.{TakesReading, DecodesInto, Decodes, Cancels, AsksToDecode, refused};
-ghost use Rattle.qpack_ends.specs.Decoders.{code_of, stream_failure, ReceivesBytes, AsksForBytes};
-ghost use Rattle.qpack_ends.specs.Decoders.{blocked_streams};
+ghost use Rattle.qpack_ends.specs.Decoders.{end_of, Begins, FailsSettings, Checks, Reports, Acknowledges};
+ghost use Rattle.qpack_ends.specs.Decoders.{BlocksStream, DecodesInto, Decodes, Cancels, refused};
+ghost use Rattle.qpack_ends.specs.Decoders.{code_of, stream_failure, ReceivesBytes, blocked_streams};
+ghost use Rattle.qpack_ends.specs.Decoders.{NeedsMemoryToDecode, AsksForBytes, unreported};
+ghost use Rattle.qpack_ends.specs.Decoders.{acknowledgment_of, answer_to, cancellation_of};
+ghost use Rattle.qpack_ends.specs.Unsent.{LacksRoom, KeepsRoom, Appends, Drops};
+ghost use Rattle.qpack_codec.specs.Receiving.{written_report};
 ghost use Rattle.qpack_ends.specs.declared.decoder.DecodingError.TheVariants.{Memory};
 ghost use Rattle.qpack_ends.specs.declared.decoder.SettingsError.TheVariants.{CapacityTooLarge};
 
@@ -138,9 +142,9 @@ pub struct ConnectionDecoder {
 }
 
 impl Model for ConnectionDecoder {
-    ghost use Rattle.qpack_ends.specs.Decoders.{DecodingEnd, IsSound};
+    ghost use Rattle.qpack_ends.specs.Decoders.{DecoderView, IsSound};
 
-    ghost Value = { DecodingEnd };
+    ghost Value = { DecoderView };
 
     ghost view = { λ d. record {
       settings = d.settings;
@@ -148,7 +152,7 @@ impl Model for ConnectionDecoder {
       stream = d.stream;
       reported = d.reported;
       blocked = d.blocked;
-      unsent = d.unsent.bytes;
+      unsent = d.unsent;
       failure = d.failure;
     } };
 
@@ -168,7 +172,8 @@ impl ConnectionDecoder {
     /// 9204, section 3.2.3). Fails if the maximum capacity is 2^30 bytes or more, then if the limit is 65,535 blocked
     /// streams or more. Takes no memory.
     pub fn new(alloc: Global, settings: DecoderSettings) -> Result<ConnectionDecoder, SettingsError>
-        ensures ok { IfOk result (λ d. Begins settings d) }
+        ensures ok { IfOk result (λ d. Begins settings (end_of d)) }
+        ensures room { IfOk result (λ d. d.unsent ≡ record { bytes = []; front = 0; capacity = 0 }) }
         ensures err { IfErr result (FailsSettings settings) }
     {
         let table = new_table(alloc, settings.max_capacity)?;
@@ -209,7 +214,7 @@ impl ConnectionDecoder {
 
     /// Returns how many streams are blocked: those that still wait for insertions.
     pub fn blocked(&self) -> usize
-        ensures exact { result ≡ blocked_streams self.now }
+        ensures exact { result ≡ blocked_streams (end_of self.now) }
         ensures few { result ≤ self.now.settings.max_blocked }
     {
         self.blocked.count(self.table.total_inserted())
@@ -224,14 +229,16 @@ impl ConnectionDecoder {
 
     /// Returns the bytes of the decoder stream that are to be sent, in order (RFC 9204, section 4.4).
     pub fn decoder_stream(&self) -> &[u8]
-        ensures { result.now ≡ self.now.unsent }
+        ensures { result.now ≡ self.now.unsent.bytes }
     {
         self.unsent.as_slice()
     }
 
-    /// Drops this many bytes of the decoder stream, or all if there are fewer. Call this after they were sent.
+    /// Drops this many bytes of the decoder stream, or all if there are fewer. Call this after they were sent. Once
+    /// none is left, it keeps memory for at most 1,024 bytes.
     pub fn sent(&mut self, many: usize)
-        ensures { self.new ≡ record self.old { unsent = drop many self.old.unsent } }
+        ensures end { end_of self.new ≡ record (end_of self.old) { unsent = drop many self.old.unsent.bytes } }
+        ensures unsent { Drops many self.old.unsent self.new.unsent }
     {
         self.unsent.sent(many);
     }
@@ -263,11 +270,14 @@ impl ConnectionDecoder {
         section: &[u8],
         fields: &mut FieldSection,
     ) -> Result<Reading, DecodingError>
-        ensures decodes { Decodes self.old self.new stream
+        ensures decodes { Decodes (end_of self.old) (end_of self.new) stream
             (strict_reading (window self.old.table) self.old.settings.max_section_size section.now) fields.new.fields result }
         // Memory is refused only if the section asks for it, if the stream may become blocked and is not counted with
-        // this count, or if an acknowledgment is written.
-        ensures memory { result ≡ Err Memory → AsksToDecode self.old stream section.now }
+        // this count, or if there is no room for the acknowledgment and the increments before it.
+        ensures memory { result ≡ Err Memory → NeedsMemoryToDecode self.old stream section.now }
+        ensures unsent { KeepsRoom (length (answer_to stream
+            (strict_reading (window self.old.table) self.old.settings.max_section_size section.now) (end_of self.old)))
+            self.old.unsent self.new.unsent }
         ensures room { IsRoomWithin self.old.settings.max_section_size fields.old fields.new }
         // Memory is given back only if a section is rejected, and only what one within the limit can't use.
         ensures kept { OnOk result (GrowsWithin self.old.settings.max_section_size fields.old fields.new) }
@@ -285,7 +295,11 @@ impl ConnectionDecoder {
     /// a cancellation is written, unless the maximum capacity is 0 (RFC 9204, section 2.2.2.2). You may call it for any
     /// stream. On error nothing changes.
     pub fn cancel(&mut self, stream: u64) -> Result<(), DecodingError>
-        ensures { Cancels self.old self.new stream result }
+        ensures cancels { Cancels (end_of self.old) (end_of self.new) stream result }
+        // Memory is refused only if there is no room for the cancellation.
+        ensures memory { result ≡ Err Memory
+            → LacksRoom (length (cancellation_of stream (end_of self.old))) self.old.unsent }
+        ensures unsent { KeepsRoom (length (cancellation_of stream (end_of self.old))) self.old.unsent self.new.unsent }
     {
         self.check(stream)?;
         if self.settings.max_capacity > 0 {
@@ -307,12 +321,13 @@ impl ConnectionDecoder {
     pub fn receive(&mut self, buf: &mut Cursor) -> Result<usize, DecodingError>
         ensures receives { self.old.failure ≡ None → (start : Table) (before : List ℕ)
             → Receives start self.old.table before self.old.stream
-            → ReceivesBytes start before self.old self.new buf.old.rest buf.new.rest result }
+            → ReceivesBytes start before (end_of self.old) (end_of self.new) buf.old.rest buf.new.rest result }
         ensures ended { IfSome self.old.failure
             (λ e. (result ≡ Err e) × (self.new ≡ self.old) × (buf.new.rest ≡ buf.old.rest)) }
-        // Memory is refused only for insertions that are to be reported, for an instruction, or for bytes that are
-        // left.
-        ensures memory { result ≡ Err Memory → AsksForBytes self.new buf.new.rest }
+        // Memory is refused only for increments that do not fit, for an instruction, or for bytes that are left.
+        ensures memory { result ≡ Err Memory → AsksForBytes self.old.unsent (end_of self.new) buf.new.rest }
+        ensures unsent { KeepsRoom (length (written_report (insert_count self.new.table - self.old.reported)))
+            self.old.unsent self.new.unsent }
         ensures total { buf.new.total ≡ buf.old.total }
     {
         if let Some(failure) = self.failure {
@@ -327,7 +342,7 @@ impl ConnectionDecoder {
 
     /// Returns the error of a call for a stream, if the connection ended or the stream number is invalid.
     fn check(&self, stream: u64) -> Result<(), DecodingError>
-        ensures checks { Checks self.now stream result }
+        ensures checks { Checks (end_of self.now) stream result }
         ensures no_memory { result ≡ Err Memory → ⊥ }
     {
         if let Some(failure) = self.failure {
@@ -346,16 +361,23 @@ impl ConnectionDecoder {
         section: &[u8],
         fields: &mut FieldSection,
     ) -> Result<Reading, DecodingError>
-        ensures decodes { DecodesInto self.old self.new stream
+        ensures decodes { DecodesInto (end_of self.old) (end_of self.new) stream
             (strict_reading (window self.old.table) self.old.settings.max_section_size section.now) fields.new.fields result }
-        ensures memory { result ≡ Err Memory → AsksToDecode self.old stream section.now }
+        ensures memory { result ≡ Err Memory → NeedsMemoryToDecode self.old stream section.now }
+        ensures unsent { KeepsRoom (length (answer_to stream
+            (strict_reading (window self.old.table) self.old.settings.max_section_size section.now) (end_of self.old)))
+            self.old.unsent self.new.unsent }
         ensures room { IsRoomWithin self.old.settings.max_section_size fields.old fields.new }
         ensures kept { OnOk result (GrowsWithin self.old.settings.max_section_size fields.old fields.new) }
     {
         match read_section(&self.table, section, self.settings.max_section_size, fields) {
-            Ok(reading) => {
-                self.take_reading(stream, reading)?;
-                Ok(reading)
+            Ok(Reading::Fields { required }) => {
+                self.acknowledge(stream, required)?;
+                Ok(Reading::Fields { required })
+            }
+            Ok(Reading::Blocked { required }) => {
+                self.block(stream, required)?;
+                Ok(Reading::Blocked { required })
             }
             Err(SectionError::Memory) => Err(DecodingError::Memory),
             Err(error) => {
@@ -365,19 +387,13 @@ impl ConnectionDecoder {
         }
     }
 
-    /// Acts on the reading of a section.
-    fn take_reading(&mut self, stream: u64, reading: Reading) -> Result<(), DecodingError>
-        ensures { TakesReading self.old self.new stream reading result }
-    {
-        match reading {
-            Reading::Fields { required } => self.acknowledge(stream, required),
-            Reading::Blocked { required } => self.block(stream, required),
-        }
-    }
-
     /// Writes the acknowledgment of a section, if it requires insertions, and counts its stream as blocked no more.
     fn acknowledge(&mut self, stream: u64, required: usize) -> Result<(), DecodingError>
-        ensures { Acknowledges self.old self.new stream required result }
+        ensures acknowledges { Acknowledges (end_of self.old) (end_of self.new) stream required result }
+        ensures lacks { OnErr result
+            (LacksRoom (length (acknowledgment_of stream required (end_of self.old))) self.old.unsent) }
+        ensures room { KeepsRoom (length (acknowledgment_of stream required (end_of self.old))) self.old.unsent
+            self.new.unsent }
     {
         if required > 0 {
             self.report()?;
@@ -389,7 +405,8 @@ impl ConnectionDecoder {
 
     /// Marks a stream as blocked, or ends the connection if it is one too many.
     fn block(&mut self, stream: u64, required: usize) -> Result<(), DecodingError>
-        ensures { BlocksStream self.old self.new stream required result }
+        ensures blocks { BlocksStream (end_of self.old) (end_of self.new) stream required result }
+        ensures unsent { self.new.unsent ≡ self.old.unsent }
     {
         let blocked = BlockedStream { stream, required };
         let inserted = self.table.total_inserted();
@@ -405,7 +422,9 @@ impl ConnectionDecoder {
 
     /// Writes increments for the insertions that are not reported.
     fn report(&mut self) -> Result<(), DecodingError>
-        ensures { Reports self.old self.new result }
+        ensures reports { Reports (end_of self.old) (end_of self.new) result }
+        ensures unsent { Appends (written_report (unreported (end_of self.old))) self.old.unsent self.new.unsent
+            result }
     {
         let inserted = self.table.total_inserted();
         self.unsent
@@ -417,7 +436,8 @@ impl ConnectionDecoder {
     /// Returns the error, and keeps it if it ends the connection.
     fn refuse(&mut self, error: DecodingError) -> DecodingError
         ensures is { result ≡ error }
-        ensures ends { self.new ≡ refused error self.old }
+        ensures ends { end_of self.new ≡ refused error (end_of self.old) }
+        ensures unsent { self.new.unsent ≡ self.old.unsent }
     {
         if error.code().is_some() {
             self.failure = Some(error);

@@ -1,7 +1,7 @@
 //! The bytes of a stream that are to be sent: instructions are written at their end, and a front is taken in pieces of any
 //! size.
 
-ghost use Rattle.std.specs.Prelude.{◌≡◌, ◌<◌, ◌≤◌, [], drop, map, Err, IfOk, OnOk, OnErr, vec_len, vec_capacity};
+ghost use Rattle.std.specs.Prelude.{◌≡◌, ◌<◌, ◌≤◌, [], drop, length, map, Err, IfOk, OnOk, OnErr, vec_len, vec_capacity};
 ghost use Rattle.qpack_spec.specs.Field.{fields_of_lines};
 ghost use Rattle.qpack_spec.specs.Instruction.{Acknowledgment, Cancellation, written_decoder_instruction};
 ghost use Rattle.qpack_codec.specs.ChosenSections.{EncodesAlong, GivesUpChosen};
@@ -75,6 +75,7 @@ impl Unsent {
     /// left, the memory of more than `KEPT_ROOM` bytes is given back; otherwise the memory is kept.
     pub(crate) fn sent(&mut self, many: usize)
         ensures bytes { self.new.bytes ≡ drop many self.old.bytes }
+        ensures front { self.new.front ≤ length self.new.bytes }
         ensures given_back { self.new.bytes ≡ [] → self.new.capacity ≤ 1024 }
         ensures kept { (self.new.bytes ≡ [] → self.old.capacity ≤ 1024) → self.new.capacity ≡ self.old.capacity }
     {
