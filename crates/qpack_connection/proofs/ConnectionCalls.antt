@@ -1,6 +1,6 @@
 -- What each event makes of a connection of which both ends keep all that they wrote.
 use Rattle.std.proofs.Common.{◌≡◌, ◌<◌, ◌^◌, ◌+◌, ◌-◌, ℕ, Bool, true, false, cond, List, [], ◌++◌, length, take, drop}
-use Rattle.std.proofs.Common.{Option, None, Some, Result, Ok, Err, IfSome, refl, sym, ap, subst, ◌∙◌, arith}
+use Rattle.std.proofs.Common.{Option, None, Some, Result, Ok, Err, IfSome, inl, inr, refl, sym, ap, subst, ◌∙◌, arith}
 use Rattle.std.proofs.lemmas.List.{append-nil}
 use Rattle.std.proofs.lemmas.Bool.{eqb-true}
 use Rattle.std.specs.Prelude.{⊤, nat_eq}
@@ -9,7 +9,7 @@ use Rattle.std.specs.Global.{Global}
 use Rattle.qpack_spec.specs.Field.{FieldLine}
 use Rattle.qpack_spec.specs.Instruction.{DecoderInstruction}
 use Rattle.qpack_spec.specs.Session.{RequestStream, stream_at, with_stream, oldest_undecoded}
-use Rattle.qpack_spec.specs.StrictReading.{strict_reading}
+use Rattle.qpack_spec.specs.StrictReading.{StrictReading, Read, Blocked, Refused, strict_reading}
 use Rattle.qpack_spec.specs.Table.{Table, insert_count, window}
 use Rattle.qpack_codec.specs.Receiving.{written_report}
 use Rattle.qpack_codec.specs.RequestStreams.{KeepsStreams, ChangesStream}
@@ -33,7 +33,8 @@ use Rattle.qpack_connection.specs.ConnectionEvents.{SendsAmong, decode_skip, can
 use Rattle.qpack_connection.specs.Connections.{Wire, SentSection, Connection, Encode, SetCapacity}
 use Rattle.qpack_connection.specs.Connections.{with_encoder, with_decoder, with_section, with_reading}
 use Rattle.qpack_connection.specs.Connections.{with_cancelled, behind_received}
-use Rattle.qpack_ends.specs.Decoders.{DecodingEnd, Decodes, Cancels, AsksToDecode, EndsReceiving}
+use Rattle.qpack_ends.specs.Decoders.{DecodingEnd, DecoderView, end_of, Decodes, Cancels, EndsReceiving}
+use Rattle.qpack_ends.specs.Decoders.{AsksBehind, AsksToDecode, NeedsMemoryBehind, NeedsMemoryToDecode}
 use Rattle.qpack_ends.specs.Decoders as decoders
 use Rattle.qpack_ends.specs.Encoders.{EncodingEnd, SetsCapacity}
 use Rattle.qpack_ends.specs.Encoders as encoders
@@ -334,6 +335,18 @@ module _ (e : EncodingEnd) (d d' : DecodingEnd) (er dr : ℕ) (ps : List (ℕ ×
       (outcome.Delivered answer) same (receive_makes answer position (subst IsReached (sym same) at) receives counts)
 
 -- ---- sections and streams that are given up
+
+-- memory that is needed may be asked for
+needs_behind : (d : DecoderView) (s : ℕ) (read : StrictReading) → NeedsMemoryBehind d s read
+    → AsksBehind (end_of d) s read
+needs_behind d s (Read fields required) needs = needs.0
+needs_behind d s (Blocked required) needs = needs
+needs_behind d s (Refused fault) needs = needs
+
+pub needs_asks : (d : DecoderView) (s : ℕ) (bytes : List ℕ) → NeedsMemoryToDecode d s bytes
+    → AsksToDecode (end_of d) s bytes
+needs_asks d s bytes (inl asks) = inl asks
+needs_asks d s bytes (inr needs) = inr (needs_behind d s _ needs)
 
 -- a reading is no want of memory
 pub read_stops : (r : Reading) → (let a : Result Reading DecodingError = Ok r in a) ≡ Err decoding.Memory → ⊥

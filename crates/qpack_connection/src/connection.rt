@@ -7,7 +7,7 @@ ghost use Rattle.qpack_connection.specs.ConnectionRuns.{AnswersEvent, StepsAll, 
 ghost use Rattle.qpack_connection.specs.ConnectionRuns.{AnswerWhatWasHanded};
 ghost use Rattle.qpack_connection.specs.Headline.{EventsAnswerWhatWasHanded};
 ghost use Rattle.qpack_connection.specs.declared.connection.RunError.TheVariants.{Settings, Memory};
-ghost use Rattle.qpack_ends.specs.Decoders.{FailsSettings};
+ghost use Rattle.qpack_ends.specs.Decoders.{end_of, FailsSettings};
 ghost use Rattle.qpack_connection.specs.TwoEndsHeadline.{IsWithin};
 
 use crate::connection::ends::Ends;
@@ -217,7 +217,7 @@ impl Connection {
 
     /// Returns the decoding end. What it has to send is all of the decoder stream, from the start.
     pub fn decoder(&self) -> &ConnectionDecoder
-        ensures { result.now ≡ record self.now.decoder { unsent = self.now.decoder_stream.written } }
+        ensures { end_of result.now ≡ record self.now.decoder { unsent = self.now.decoder_stream.written } }
     {
         self.ends.decoder()
     }

@@ -3,7 +3,7 @@
 ghost use Rattle.std.specs.Prelude.{◌≡◌, IfOk, IfErr};
 ghost use Rattle.qpack_connection.specs.OwnedLines.{lines_of};
 ghost use Rattle.qpack_connection.specs.ConnectionEvents.{BeginsWith, Goes, IsReached};
-ghost use Rattle.qpack_ends.specs.Decoders.{FailsSettings};
+ghost use Rattle.qpack_ends.specs.Decoders.{end_of, FailsSettings};
 ghost use Rattle.qpack_connection.specs.declared.connection.Event.TheVariants.{Encode, SetCapacity, ToDecoder};
 ghost use Rattle.qpack_connection.specs.declared.connection.Event.TheVariants.{ToEncoder, Decode, Cancel};
 
@@ -33,11 +33,12 @@ pub(super) struct Ends {
 impl Model for Ends {
     ghost use Rattle.qpack_connection.specs.Connections.{Connection};
     ghost use Rattle.qpack_connection.specs.ConnectionEvents.{connection_of};
+    ghost use Rattle.qpack_ends.specs.Decoders.{end_of};
 
     ghost Value = { Connection };
 
-    ghost view = { λ e. connection_of e.encoder e.decoder e.encoder_stream_received e.decoder_stream_received
-        e.streams };
+    ghost view = { λ e. connection_of e.encoder (end_of e.decoder) e.encoder_stream_received
+        e.decoder_stream_received e.streams };
 }
 
 impl Ends {
@@ -173,7 +174,7 @@ impl Ends {
 
     /// Returns the decoding end. What it has to send is all that it ever wrote.
     pub(super) fn decoder(&self) -> &ConnectionDecoder
-        ensures { result.now ≡ record self.now.decoder { unsent = self.now.decoder_stream.written } }
+        ensures { end_of result.now ≡ record self.now.decoder { unsent = self.now.decoder_stream.written } }
     {
         &self.decoder
     }

@@ -1,4 +1,5 @@
 use Rattle.std.proofs.Common.{ℕ, List, length, sym, ap, ◌∙◌}
+use Rattle.qpack_ends.specs.Decoders.{end_of}
 use Rattle.qpack_connection.proofs.ConnectionCalls.{receive_goes, offered_is}
 use Rattle.qpack_connection.proofs.connection.ends.Ends.deliver_to_decoder.Goals as goal
 
@@ -7,7 +8,7 @@ returns c =
     let bytes = offered_is c.self.inside.encoder.unsent c.encoder_stream.result.now c.next_of-offered.result.now
     c.new-offered.result.rest c.self.inside.encoder_stream_received c.args.many c.encoder_stream.ensures
     c.next_of-offered.ensures c.new-offered.ensures.rest in
-    receive_goes c.self.inside.encoder c.self.inside.decoder c.receive-answer.new.self
+    receive_goes c.self.inside.encoder (end_of c.self.inside.decoder) (end_of c.receive-answer.new.self)
     c.self.inside.encoder_stream_received c.self.inside.decoder_stream_received c.self.inside.streams c.args.many
     c.receive-answer.new.buf.rest c.args.self.now c.receive-answer.result c.position.result c.self.view_is c.requires
     (rw bytes at c.receive-answer.ensures.receives)
