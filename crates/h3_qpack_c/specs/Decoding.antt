@@ -1,19 +1,22 @@
 -- What the calls of a decoding end do in C.
 use Rattle.std.specs.Prelude.{◌≡◌, ◌<◌, ◌^◌, ◌-◌, ℕ, ℤ, ⊤, min}
 use Rattle.std.specs.Prelude.{List, [], length, take, drop, Option, None, Some, Result, Ok, Err}
+use Rattle.qpack_codec.specs.Receiving.{written_report}
 use Rattle.std.specs.Option.{IfSome}
 use Rattle.qpack_spec.specs.Field.{FieldLine}
 use Rattle.qpack_spec.specs.StrictReading.{strict_reading}
-use Rattle.qpack_spec.specs.Table.{Table, window}
+use Rattle.qpack_spec.specs.Table.{Table, window, insert_count}
 use Rattle.qpack_ends.specs.declared.decoder.DecodingError.{DecodingError}
 use Rattle.qpack_ends.specs.declared.decoder.DecodingError.TheVariants.{EncoderStream, Section, Memory}
 use Rattle.qpack_ends.specs.declared.section.SectionError.TheVariants.{Line}
 use Rattle.qpack_ends.specs.declared.section.Reading.{Reading}
 use Rattle.qpack_ends.specs.declared.section.Reading.TheVariants.{Fields, Blocked}
 use Rattle.qpack_ends.specs.declared.decoder.DecoderSettings.{DecoderSettings}
-use Rattle.qpack_ends.specs.Decoders.{Begins, Decodes, Cancels, ReceivesBytes, AsksToDecode}
+use Rattle.qpack_ends.specs.Decoders.{end_of, Begins, Decodes, Cancels, ReceivesBytes}
+use Rattle.qpack_ends.specs.Decoders.{NeedsMemoryToDecode, AsksForBytes, answer_to, cancellation_of}
 use Rattle.qpack_ends.specs.FieldSections.{IsRoomWithin}
 use Rattle.qpack_ends.specs.Receiving.{Receives}
+use Rattle.qpack_ends.specs.Unsent.{LacksRoom, KeepsRoom, Drops}
 use Rattle.h3_qpack_c.specs.declared.answers.Decoding.{Decoding}
 use Rattle.h3_qpack_c.specs.declared.answers.Received.{Received}
 use Rattle.h3_qpack_c.specs.declared.decoder.State.{State}
@@ -25,8 +28,10 @@ abbrev pub InRange : ℕ → ℕ → Type 0
 InRange max_capacity max_blocked = (max_capacity < 2 ^ 30) × (max_blocked < 65535)
 
 -- an end at which nothing happened yet, and no field
-abbrev pub IsNew : DecoderSettings → State → Type 0
-IsNew settings s = Begins settings s.end × (s.fields ≡ record { fields = []; text_room = 0; fields_room = 0 })
+pub record IsNew (settings : DecoderSettings) (s : State) : Type 0 where
+  pub end : Begins settings (end_of s.end)
+  pub unsent : s.end.unsent ≡ record { bytes = []; front = 0; capacity = 0 }
+  pub fields : s.fields ≡ record { fields = []; text_room = 0; fields_room = 0 }
 
 -- such an end is kept
 abbrev pub KeepsNew : DecoderSettings → Option State → Type 0
@@ -61,12 +66,16 @@ told_of_decoding (Ok (Blocked required)) fields =
 told_of_decoding (Err e) fields = told_of_refusal e
 
 -- a section is decoded as the end does it, and its fields are kept; if there are none, none are kept. Memory is kept
--- for no more fields than before, or than a section within the limit can have
+-- for no more fields than before, or than a section within the limit can have, and that of the decoder stream is
+-- unchanged if the acknowledgment fits
 pub record DecodesTo (old new : State) (stream : ℕ) (bytes : List ℕ) (told : Decoding) : Type 0 where
   pub answer : Result Reading DecodingError
-  pub decodes : Decodes old.end new.end stream
+  pub decodes : Decodes (end_of old.end) (end_of new.end) stream
       (strict_reading (window old.end.table) old.end.settings.max_section_size bytes) new.fields.fields answer
-  pub memory : answer ≡ Err Memory → AsksToDecode old.end stream bytes
+  pub memory : answer ≡ Err Memory → NeedsMemoryToDecode old.end stream bytes
+  pub unsent : KeepsRoom (length (answer_to stream
+      (strict_reading (window old.end.table) old.end.settings.max_section_size bytes) (end_of old.end)))
+      old.end.unsent new.end.unsent
   pub room : IsRoomWithin old.end.settings.max_section_size old.fields new.fields
   pub told_is : told ≡ told_of_decoding answer new.fields.fields
 
@@ -93,8 +102,11 @@ pub record ReceivesTo (old new : State) (bytes : List ℕ) (told : Received) : T
   pub left : List ℕ
   pub receives : old.end.failure ≡ None → (start : Table) (before : List ℕ)
       → Receives start old.end.table before old.end.stream
-      → ReceivesBytes start before old.end new.end bytes left answer
+      → ReceivesBytes start before (end_of old.end) (end_of new.end) bytes left answer
   pub ended : IfSome old.end.failure (λ e. (answer ≡ Err e) × (new.end ≡ old.end) × (left ≡ bytes))
+  pub memory : answer ≡ Err Memory → AsksForBytes old.end.unsent (end_of new.end) left
+  pub unsent : KeepsRoom (length (written_report (insert_count new.end.table - old.end.reported))) old.end.unsent
+      new.end.unsent
   pub fields : new.fields ≡ old.fields
   pub told_is : told ≡ told_of_receiving answer (taken_of old.end.failure answer (length bytes) (length left))
 
@@ -105,13 +117,17 @@ TellsReady (Some stream) old new told = (told ≡ 1) × (new ≡ stream)
 
 -- a front of the decoder stream, as much as the caller's memory has room for, is copied there, and dropped
 pub record TakesStream (old new : State) (before after : List ℕ) (taken : ℕ) : Type 0 where
-  pub taken_is : taken ≡ min (length old.end.unsent) (length before)
-  pub copied_is : after ≡ written_over (take taken old.end.unsent) before
-  pub new_is : new ≡ record old { end = record old.end { unsent = drop taken old.end.unsent } }
+  pub taken_is : taken ≡ min (length old.end.unsent.bytes) (length before)
+  pub copied_is : after ≡ written_over (take taken old.end.unsent.bytes) before
+  pub end_is : end_of new.end ≡ record (end_of old.end) { unsent = drop taken old.end.unsent.bytes }
+  pub unsent : Drops taken old.end.unsent new.end.unsent
+  pub fields : new.fields ≡ old.fields
 
 -- a stream is cancelled as the end does it
 pub record CancelsTo (old new : State) (stream : ℕ) (status : ℤ) : Type 0 where
   pub answer : Result ⊤ DecodingError
-  pub cancels : Cancels old.end new.end stream answer
+  pub cancels : Cancels (end_of old.end) (end_of new.end) stream answer
+  pub memory : answer ≡ Err Memory → LacksRoom (length (cancellation_of stream (end_of old.end))) old.end.unsent
+  pub unsent : KeepsRoom (length (cancellation_of stream (end_of old.end))) old.end.unsent new.end.unsent
   pub fields : new.fields ≡ old.fields
   pub status_is : status ≡ of_decoding_call answer

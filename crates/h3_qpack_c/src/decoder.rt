@@ -4,7 +4,7 @@ ghost use Rattle.h3_qpack_c.specs.declared.decoder.State.{State};
 ghost use Rattle.std.specs.Prelude.{◌≡◌, ◌<◌, ◌≤◌, ◌^◌, length, slice_get, IfOk, IfErr, [], ℕ};
 ghost use Rattle.qpack_spec.specs.Table.{insert_count};
 ghost use Rattle.qpack_ends.specs.Blocked.{ready};
-ghost use Rattle.qpack_ends.specs.Decoders.{FailsSettings, blocked_streams};
+ghost use Rattle.qpack_ends.specs.Decoders.{end_of, FailsSettings, blocked_streams};
 ghost use Rattle.qpack_ends.specs.declared.decoder.DecoderSettings.{DecoderSettings};
 ghost use Rattle.h3_qpack_c.specs.Crossing.{Makes, Gives, GivesAll};
 ghost use Rattle.h3_qpack_c.specs.Decoding.{DecodesTo, ReceivesTo, CancelsTo, TakesStream, TellsReady, InRange};
@@ -291,7 +291,7 @@ pub extern "C" fn h3q_decoder_insert_count(handle: &mut Handle) -> usize
 #[unsafe(no_mangle)]
 pub extern "C" fn h3q_decoder_blocked(handle: &mut Handle) -> usize
     ensures same { handle.new.value ≡ handle.old.value }
-    ensures exact { result ≡ blocked_streams handle.old.value.end }
+    ensures exact { result ≡ blocked_streams (end_of handle.old.value.end) }
 {
     let state = state(handle);
     let blocked = state.end.blocked();
@@ -340,7 +340,7 @@ fn take_stream(state: &mut State, out: &mut [u8]) -> usize
 #[unsafe(no_mangle)]
 pub extern "C" fn h3q_decoder_stream_len(handle: &mut Handle) -> usize
     ensures same { handle.new.value ≡ handle.old.value }
-    ensures exact { result ≡ length handle.old.value.end.unsent }
+    ensures exact { result ≡ length handle.old.value.end.unsent.bytes }
 {
     let state = state(handle);
     let len = state.end.decoder_stream().len();
