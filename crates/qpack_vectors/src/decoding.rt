@@ -441,31 +441,29 @@ fn a_capacity_may_fall_to_0(rt: HostRuntime) -> Result<(), Fail> {
     take_all(rt.alloc(), (4096, 1), STEPS)
 }
 
-/// A decoder over this empty table receives an insertion, has it in its table, and decodes a section that names it.
+/// A decoder with an empty table receives an insertion, has it in its table, and decodes a section that names it.
 fn has_what_it_receives<I: EntryIndex>(
     alloc: Global,
-    mut table: DynamicTable<I>,
+    decoder: &mut Decoder<I>,
+    written: &mut Vec<u8>,
 ) -> Result<(), Fail> {
-    table.set_max_size(4096)?;
-    let mut decoder = Decoder::from(table);
-    let mut written = Vec::new(alloc);
-    receives(
-        alloc,
-        &mut decoder,
-        &mut written,
-        b"6294e7838c767f",
-        (&Ok(1), 7),
-    )?;
-    is_hex(alloc, &written, b"01")?;
+    receives(alloc, decoder, written, b"6294e7838c767f", (&Ok(1), 7))?;
+    is_hex(alloc, written, b"01")?;
     same(decoder.table().total_inserted(), 1)?;
     prints(alloc, decoder.table().get_relative(0)?, "\"foo\": \"bar\"")?;
-    decodes(alloc, &decoder, b"020080", "\"foo\": \"bar\", 38 true")
+    decodes(alloc, decoder, b"020080", "\"foo\": \"bar\", 38 true")
+}
+
+/// A decoder over this empty table does so.
+fn table_receives<I: EntryIndex>(alloc: Global, mut table: DynamicTable<I>) -> Result<(), Fail> {
+    table.set_max_size(4096)?;
+    has_what_it_receives(alloc, &mut Decoder::from(table), &mut Vec::new(alloc))
 }
 
 #[test]
 fn a_table_with_or_without_an_index_receives(rt: HostRuntime) -> Result<(), Fail> {
-    has_what_it_receives(rt.alloc(), DynamicTable::new(rt.alloc()))?;
-    has_what_it_receives(rt.alloc(), DynamicTable::without_index(rt.alloc()))
+    table_receives(rt.alloc(), DynamicTable::new(rt.alloc()))?;
+    table_receives(rt.alloc(), DynamicTable::without_index(rt.alloc()))
 }
 
 /// The fields are the first twenty of the static table.
@@ -485,12 +483,17 @@ fn decode_alone(alloc: Global, section: &[u8]) -> Result<Decoded, DecoderError> 
     }
 }
 
+/// A decoder decodes the first twenty static fields, and so does a call without a table.
+fn decodes_twenty(alloc: Global, decoder: &Decoder) -> Result<(), Fail> {
+    let section = bytes(alloc, b"0000c0c1c2c3c4c5c6c7c8c9cacbcccdcecfd0d1d2d3")?;
+    are_first_twenty(&decode(decoder, &section)?.fields)?;
+    are_first_twenty(&decode_alone(alloc, &section)?.fields)
+}
+
 #[test]
 fn a_list_may_be_longer_than_the_room_that_is_made(rt: HostRuntime) -> Result<(), Fail> {
-    let section = bytes(rt.alloc(), b"0000c0c1c2c3c4c5c6c7c8c9cacbcccdcecfd0d1d2d3")?;
     let decoder = decoder(rt.alloc(), (0, 0))?;
-    are_first_twenty(&decode(&decoder, &section)?.fields)?;
-    are_first_twenty(&decode_alone(rt.alloc(), &section)?.fields)
+    decodes_twenty(rt.alloc(), &decoder)
 }
 
 /// Appends an acknowledgment and a cancellation of stream 4.

@@ -32,6 +32,9 @@ pub(crate) const CUT_SECTION: &str =
 /// The required insert count is too low.
 pub(crate) const PAST_REQUIRED: &str =
     "the encoder writes a required insert count that is too low, or takes the base for it";
+/// The required insert count is 0.
+pub(crate) const NOTHING_REQUIRED: &str =
+    "the encoder writes a required insert count of 0 for a section that references the dynamic table";
 /// The entry was evicted.
 pub(crate) const EVICTED: &str =
     "the encoder evicted an entry that a section still needs, or its base is wrong";

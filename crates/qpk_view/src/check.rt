@@ -389,7 +389,8 @@ fn judge_reading(
         } => {
             reasons::push_line_fault(&mut reason, &stop.fault)?;
             let subject = Subject::Section(stream, stop.offset);
-            report.add(place, subject, reason.as_str(), rule_of_line(&stop.fault))
+            let rule = rule_of_line(&stop.fault, reading.required());
+            report.add(place, subject, reason.as_str(), rule)
         }
         Reading::Refused(refusal) => {
             reasons::push_prefix_refusal(&mut reason, refusal)?;

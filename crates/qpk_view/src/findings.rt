@@ -174,8 +174,8 @@ fn cause_of_bytes(error: ParseError) -> &'static str {
     }
 }
 
-/// Returns the rule of a line of a section that gives no field.
-pub(crate) fn rule_of_line(fault: &LineFault) -> Rule {
+/// Returns the rule of a line that gives no field, of a section with this required insert count.
+pub(crate) fn rule_of_line(fault: &LineFault, required: usize) -> Rule {
     let code = Code::Decompression;
     match fault {
         LineFault::Unreadable(e) => broken(section_of(*e), code, cause_of_bytes(*e)),
@@ -183,7 +183,16 @@ pub(crate) fn rule_of_line(fault: &LineFault) -> Rule {
         LineFault::Meaningless(DecoderError::InvalidStaticIndex(_)) => {
             broken("3.1", code, causes::STATIC_INDEX)
         }
-        LineFault::Meaningless(_) => broken("2.2.3", code, causes::EVICTED),
+        LineFault::Meaningless(_) => broken("2.2.3", code, cause_of_no_reference(required)),
+    }
+}
+
+/// Returns why a line of a section with this required insert count may reference no entry.
+fn cause_of_no_reference(required: usize) -> &'static str {
+    if required == 0 {
+        causes::NOTHING_REQUIRED
+    } else {
+        causes::EVICTED
     }
 }
 

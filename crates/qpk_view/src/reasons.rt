@@ -135,7 +135,7 @@ pub(crate) fn push_prefix_refusal(
             write!(text, "the base is below 0: {base}")
         }
         PrefixRefusal::BadPrefix(_) => {
-            text.push_str("no required insert count that can be has this encoding")
+            text.push_str("no encoder could have written this required insert count")
         }
         PrefixRefusal::CountAtZero => {
             text.push_str("a required insert count, though the maximum capacity is 0")
