@@ -138,9 +138,10 @@ static inline uint64_t fold_product(uint64_t a, uint64_t b) {
   return (uint64_t)product ^ (uint64_t)(product >> 64);
 }
 
-/* The first number from |number| on whose digits, as a name, stand in the first row of a table of so many entries. */
+/* The first number from |number| on whose digits, as a name, stand in the first row of a table of up to so many entries. */
 static inline uint64_t next_in_row(uint64_t number, size_t entries) {
-  uint64_t end = ((uint64_t)1 << 32) / (2 * (entries < 8 ? 8 : entries));
+  uint64_t width = 32;
+  while (width < entries) width *= 2;
   for (;; number++) {
     uint8_t name[16];
     uint64_t low, high;
@@ -148,7 +149,7 @@ static inline uint64_t next_in_row(uint64_t number, size_t entries) {
     memcpy(&low, name, 8);
     memcpy(&high, name + 8, 8);
     uint64_t piece = fold_product((uint64_t)SEED ^ 16 ^ low, (uint64_t)SECRET ^ high);
-    if (fold_product(piece, SECRET) >> 32 < end) return number;
+    if (!((fold_product(piece, SECRET) >> 32) % width)) return number;
   }
 }
 
