@@ -2,24 +2,11 @@
  *
  * An input is three bytes of settings, and then calls: a byte that says which, two bytes of a length, and that many bytes,
  * or all that are left. fuzz/seeds.py writes such inputs. */
-#include <stdio.h>
-#include <stdlib.h>
-#include <string.h>
-
 #include "h3_qpack.h"
 #include "strict.h"
-
-#define CHECK(x)                                                  \
-  do {                                                            \
-    if (!(x)) {                                                   \
-      fprintf(stderr, "%s:%d: not %s\n", __FILE__, __LINE__, #x); \
-      abort();                                                    \
-    }                                                             \
-  } while (0)
+#include "target.h"
 
 #define MOST_WAITING 256
-
-int LLVMFuzzerTestOneInput(const uint8_t *p, size_t len);
 
 /* A connection: both decoders, and the sections that wait at them. */
 typedef struct connection {

@@ -2,28 +2,15 @@
  *
  * An input is four bytes of settings, and then calls: a byte that says which, and what that takes, as `run` reads it; 0
  * where the input ends. fuzz/seeds.py writes such inputs. */
-#include <stdio.h>
-#include <stdlib.h>
-#include <string.h>
-
 #include "h3_qpack.h"
 #include "strict.h"
-
-#define CHECK(x)                                                  \
-  do {                                                            \
-    if (!(x)) {                                                   \
-      fprintf(stderr, "%s:%d: not %s\n", __FILE__, __LINE__, #x); \
-      abort();                                                    \
-    }                                                             \
-  } while (0)
+#include "target.h"
 
 #define STREAMS 32
 #define MOST_FIELDS 16
 #define MOST_SECTIONS 64
 #define MOST_BYTES 65536
 #define MOST_SECTION 8192 /* 16 fields of 126 bytes, each in at most 30 bits, and what is before them */
-
-int LLVMFuzzerTestOneInput(const uint8_t *p, size_t len);
 
 /* The input, which goes on with 0. */
 typedef struct input {
@@ -50,7 +37,7 @@ static void drop(bytes *b, size_t len) {
 
 /* A list of fields whose section the peer has not decoded. */
 typedef struct section {
-  uint64_t stream, required;
+  strict_sent sent;
   uint8_t *p;
   size_t len;
   size_t fieldslen;
@@ -73,35 +60,26 @@ typedef struct connection {
   size_t sectionslen;
 } connection;
 
-static void free_section(section *s) {
-  free(s->p);
-  free(s);
-}
-
 /* Takes a section out of those that wait. */
 static void take_out(connection *c, size_t at) {
-  free_section(c->sections[at]);
+  free(c->sections[at]->p);
+  free(c->sections[at]);
   c->sectionslen--;
   memmove(c->sections + at, c->sections + at + 1, (c->sectionslen - at) * sizeof *c->sections);
 }
 
 /* Returns how many streams are blocked at the peer if all sections came before what is under way of the encoder stream. */
 static size_t count_waiting(const connection *c) {
-  size_t waiting = 0;
-  for (size_t i = 0; i < c->sectionslen; i++) {
-    int is_first = c->sections[i]->required > c->peer.insert_count;
-    for (size_t j = 0; j < i && is_first; j++)
-      is_first = c->sections[j]->stream != c->sections[i]->stream || c->sections[j]->required <= c->peer.insert_count;
-    waiting += (size_t)is_first;
-  }
-  return waiting;
+  strict_sent waiting[MOST_SECTIONS];
+  for (size_t i = 0; i < c->sectionslen; i++) waiting[i] = c->sections[i]->sent;
+  return strict_count_streams(waiting, c->sectionslen, c->peer.insert_count);
 }
 
 static void compare_counts(connection *c) {
   CHECK(h3_qpack_encoder_get_krcnt(&c->library) == c->strict.known_received);
   CHECK(h3_qpack_encoder_get_num_unacked(&c->library) == c->strict.len);
-  CHECK(h3_qpack_encoder_get_num_blocked(&c->library) == strict_count_blocked(&c->strict));
-  CHECK(strict_count_blocked(&c->strict) <= c->max_blocked);
+  size_t blocked = strict_count_streams(c->strict.sent, c->strict.len, c->strict.known_received);
+  CHECK(h3_qpack_encoder_get_num_blocked(&c->library) == blocked && blocked <= c->max_blocked);
   CHECK(c->is_lied_to || count_waiting(c) <= c->max_blocked);
   CHECK(h3_qpack_encoder_get_capacity(&c->library) <= c->max_capacity);
   CHECK(h3_qpack_encoder_get_table_size(&c->library) <= h3_qpack_encoder_get_capacity(&c->library));
@@ -111,23 +89,18 @@ static void compare_counts(connection *c) {
 
 static const char *const NAMES[] = {"cookie", ":path", "user-agent", "x-trace", "etag", "accept", "a", ""};
 
-/* Appends text, and returns its length. */
-static size_t put(uint8_t *to, const char *text) {
-  size_t len = strlen(text);
-  memcpy(to, text, len);
-  return len;
-}
-
 /* Reads a string: one of few, so that fields come again, or any bytes. */
 static size_t read_string(input *in, uint8_t *to, int is_name) {
   uint8_t kind = next(in);
   size_t len = kind & 63;
-  if (kind < 128 && is_name) return put(to, NAMES[kind % 8]);
-  if (kind < 128) {
+  if (kind >= 128) {
+    for (size_t i = 0; i < len; i++) to[i] = next(in);
+  } else if (is_name) {
+    len = strlen(NAMES[kind % 8]);
+    memcpy(to, NAMES[kind % 8], len);
+  } else {
     memset(to, 'a' + kind % 4, len);
-    return len;
   }
-  for (size_t i = 0; i < len; i++) to[i] = next(in);
   return len;
 }
 
@@ -148,7 +121,6 @@ static void encode(connection *c, input *in, uint64_t stream) {
   if (c->sectionslen == MOST_SECTIONS) return;
   section *s = calloc(1, sizeof *s);
   CHECK(s);
-  s->stream = stream;
   s->fieldslen = next(in) % (MOST_FIELDS + 1);
   size_t size = 0;
   for (size_t i = 0; i < s->fieldslen; i++) {
@@ -170,7 +142,7 @@ static void encode(connection *c, input *in, uint64_t stream) {
   CHECK(got.size == size);
   CHECK(!was_full || !got.required);
   s->len = got.len;
-  s->required = got.required;
+  s->sent = (strict_sent){stream, got.required};
   strict_send(&c->strict, stream, got.required, h3_qpack_encoder_get_icnt(&c->library));
   c->sections[c->sectionslen++] = s;
   compare_counts(c);
@@ -225,17 +197,17 @@ static int decode(connection *c, size_t at) {
   section *s = c->sections[at];
   strict_section got = strict_decode(&c->peer, s->p, s->len, UINT64_MAX);
   if (got.status == STRICT_BLOCKED) {
-    CHECK(got.required == s->required);
+    CHECK(got.required == s->sent.required);
     return 0;
   }
   if (!c->is_lied_to) {
-    CHECK(got.status == STRICT_OK && got.required == s->required);
+    CHECK(got.status == STRICT_OK && got.required == s->sent.required);
     compare_fields(s, &got.fields);
   }
   strict_free_fields(&got.fields);
-  if (s->required) {
-    answer(c, 0x80, 7, s->stream);
-    if (s->required > c->told) c->told = s->required;
+  if (s->sent.required) {
+    answer(c, 0x80, 7, s->sent.stream);
+    if (s->sent.required > c->told) c->told = s->sent.required;
   }
   take_out(c, at);
   return 1;
@@ -244,7 +216,7 @@ static int decode(connection *c, size_t at) {
 /* Returns the place of the oldest section of a stream, or how many there are. */
 static size_t oldest_of(const connection *c, uint64_t stream) {
   size_t at = 0;
-  while (at < c->sectionslen && c->sections[at]->stream != stream) at++;
+  while (at < c->sectionslen && c->sections[at]->sent.stream != stream) at++;
   return at;
 }
 
@@ -317,7 +289,7 @@ static void set_peer_settings(connection *c) {
 static int run(connection *c, input *in) {
   uint8_t what = next(in);
   uint64_t stream = c->streams[what / 8];
-  size_t at;
+  size_t at, capacity;
   switch (what % 8) {
   case 0:
   case 1: encode(c, in, stream); break;
@@ -332,9 +304,14 @@ static int run(connection *c, input *in) {
   case 4: report(c, what / 8 % 2 ? next(in) : UINT64_MAX); break;
   case 5: return hear_answers(c, what / 8 % 2 ? next(in) % 8 : MOST_BYTES);
   case 6:
-    if (what / 8 % 4 == 0) cancel(c, &c->streams[next(in) % STREAMS]);
-    else if (what / 8 % 4 == 1) set_capacity(c, (size_t)next(in) << next(in) % 10);
-    else set_peer_settings(c);
+    if (what / 8 % 4 == 0) {
+      cancel(c, &c->streams[next(in) % STREAMS]);
+    } else if (what / 8 % 4 == 1) {
+      capacity = next(in);
+      set_capacity(c, capacity << next(in) % 10);
+    } else {
+      set_peer_settings(c);
+    }
     break;
   default: return what / 8 % 4 == 3 ? hear_anything(c, in) : 1;
   }

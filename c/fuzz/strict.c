@@ -446,13 +446,13 @@ strict_status strict_hear(strict_encoder *e, const uint8_t *p, size_t len) {
   return STRICT_OK;
 }
 
-size_t strict_count_blocked(const strict_encoder *e) {
-  size_t blocked = 0;
-  for (size_t i = 0; i < e->len; i++) {
-    int is_first = e->sent[i].required > e->known_received;
+size_t strict_count_streams(const strict_sent *sent, size_t len, uint64_t insertions) {
+  size_t streams = 0;
+  for (size_t i = 0; i < len; i++) {
+    int is_first = sent[i].required > insertions;
     for (size_t j = 0; j < i && is_first; j++)
-      is_first = e->sent[j].stream != e->sent[i].stream || e->sent[j].required <= e->known_received;
-    blocked += (size_t)is_first;
+      is_first = sent[j].stream != sent[i].stream || sent[j].required <= insertions;
+    streams += (size_t)is_first;
   }
-  return blocked;
+  return streams;
 }

@@ -74,7 +74,7 @@ void strict_send(strict_encoder *e, uint64_t stream, uint64_t required, uint64_t
 /* Reads more bytes of the decoder stream (section 4.4). Returns STRICT_OK or STRICT_REFUSED. */
 strict_status strict_hear(strict_encoder *e, const uint8_t *p, size_t len);
 
-/* Returns how many streams may be blocked (section 2.1.2). */
-size_t strict_count_blocked(const strict_encoder *e);
+/* Returns how many streams have a section that requires more than so many insertions (section 2.1.2). */
+size_t strict_count_streams(const strict_sent *sent, size_t len, uint64_t insertions);
 
 #endif
