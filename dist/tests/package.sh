@@ -31,8 +31,9 @@ make_system() {
 
 # Installs or unpacks the packages.
 install_by_dpkg() {
-    cp "$room"/packages/{libh3-qpack0,libh3-qpack-dev,qpk}_*.deb "$root/tmp" &&
-        chroot "$root" sh -c 'dpkg --install /tmp/*.deb'
+    mkdir "$root/packages" &&
+        cp "$room"/packages/{libh3-qpack0,libh3-qpack-dev,qpk}_*.deb "$root/packages" &&
+        chroot "$root" sh -c 'dpkg --install packages/*.deb'
 }
 unpack() {
     local package
