@@ -1,11 +1,12 @@
 -- The index of the dynamic table's live entries: rows of absolute indexes, cut by a hash of a part of their fields.
-use Rattle.std.specs.Prelude.{◌≡◌, ◌≢◌, ℕ, zero, suc, ◌+◌, ◌*◌, ◌<◌, ◌≤◌, Bool, not, List, [], ◌∷◌, ◌++◌, length}
+use Rattle.std.specs.Prelude.{◌≡◌, ◌≢◌, ℕ, zero, suc, ◌+◌, ◌<◌, ◌≤◌, Bool, not, List, [], ◌∷◌, ◌++◌, length}
 use Rattle.std.specs.Prelude.{vec_capacity, Option, MatchOption, slice_index_or, slice_set, Contains}
 use Rattle.std.specs.List.{filter}
 use Rattle.std.specs.VecDeque.{deque_len, deque_capacity}
 use Rattle.qpack_spec.specs.Field.{Field}
 use Rattle.qpack_spec.specs.Table as table
 use Rattle.qpack_spec.specs.Table.{Table, newest_index}
+use Rattle.qpack_table.specs.Growth.{grown}
 use Rattle.qpack_table.specs.Hashes.{field_hash, name_hash, position_among}
 use Rattle.qpack_table.specs.Rows.{field_at, part_at, hash_of, IsLiveIndex, IsRow, HasRoom, goes_to}
 use Rattle.qpack_table.specs.declared.dynamic.index.Index.{Index}
@@ -92,9 +93,9 @@ one_row_more (suc n) = suc (suc n)
 abbrev pub GrowsRows : (entries old new : ℕ) → Type 0
 GrowsRows entries old new = (entries < old → new ≡ old) × (old ≤ entries → new ≡ one_row_more old)
 
--- rows that have room for at most as many again
+-- rows that have room for at most half as many more, or for one
 abbrev pub HasFewSpare : Rows → Type 0
-HasFewSpare rows = vec_capacity rows.rows ≤ 2 * length rows.rows.items
+HasFewSpare rows = vec_capacity rows.rows ≤ grown 1 (length rows.rows.items)
 
 -- there is room for one more entry with such hashes
 pub record HasRoomForEntry (hashes : Hashes) (index : Index) : Type 0 where

@@ -10,5 +10,6 @@ pub mod SlotLists
 pub mod Slots
 pub mod Rows
 pub mod Hashes
+pub mod Growth
 pub mod Indexes
 pub mod Handles

@@ -17,6 +17,7 @@ mod commits;
 mod encoder;
 mod entry;
 mod entry_index;
+mod growth;
 mod index;
 mod lookups;
 mod newest;

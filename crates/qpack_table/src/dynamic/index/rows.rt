@@ -2,16 +2,18 @@
 //! of the part's hash. Where every hash is the same, one row has all of them, and is searched by halving as ever.
 //! Rows grow one at a time, by linear hashing (Litwin): each new one takes slots of one other row, and the rest stay.
 
-ghost use Rattle.std.specs.Prelude.{◌≡◌, ◌+◌, ◌-◌, ◌*◌, ◌^◌, ◌<◌, ◌≤◌, max, ℕ, List, [], IfOk, OnOk, OnErr, length};
+ghost use Rattle.std.specs.Prelude.{◌≡◌, ◌+◌, ◌-◌, ◌^◌, ◌<◌, ◌≤◌, max, ℕ, List, [], IfOk, OnOk, OnErr, length};
 ghost use Rattle.std.specs.Prelude.{drop, vec_capacity};
 ghost use Rattle.std.specs.List.{All};
 ghost use Rattle.qpack_spec.specs.Field.{Field};
+ghost use Rattle.qpack_table.specs.Growth.{grown};
 ghost use Rattle.qpack_table.specs.Rows.{part_at, field_of_sought, IsHashed, Counts};
 ghost use Rattle.qpack_table.specs.Tables.{live_fields};
 ghost use Rattle.qpack_table.specs.Indexes.{AreRowsOf, HasRoomFor, FindsNewest, IsSplitOf, rows_behind};
 ghost use Rattle.qpack_table.specs.declared.dynamic.index.row.Part.{Part};
 
 use crate::dynamic::entry::Entry;
+use crate::dynamic::growth::growth;
 use crate::dynamic::index::hash::{position_of, split_among};
 use crate::dynamic::index::row::{Row, Sought, Split};
 use crate::dynamic::steps::Steps;
@@ -60,8 +62,10 @@ impl Rows {
         ensures split { IfOk result (λ split. IsSplitOf self.new.rows.items split) }
         ensures room { IfOk result (λ split. HasRoomFor (rows_behind self.new.rows.items split) hash) }
         ensures vacant { OnOk result (length self.new.rows.items < vec_capacity self.new.rows) }
+        ensures still { length self.old.rows.items < vec_capacity self.old.rows
+            → vec_capacity self.new.rows ≡ vec_capacity self.old.rows }
         ensures capacity { vec_capacity self.new.rows
-            ≤ max (vec_capacity self.old.rows) (2 * length self.old.rows.items) }
+            ≤ max (vec_capacity self.old.rows) (grown 1 (length self.old.rows.items)) }
     {
         self.reserve_row()?;
         let count = self.rows.len();
@@ -70,17 +74,20 @@ impl Rows {
         Ok(split)
     }
 
-    /// Makes room for one row more. Where there is none, it makes room for as many again as there are.
+    /// Makes room for one row more. Where there is none, it makes room for half as many as there are, or for one.
     fn reserve_row(&mut self) -> Result<(), AllocError>
-        requires some { 0 < length self.old.rows.items }
         ensures rows { self.new.rows.items ≡ self.old.rows.items }
         ensures vacant { OnOk result (length self.new.rows.items < vec_capacity self.new.rows) }
+        ensures still { length self.old.rows.items < vec_capacity self.old.rows
+            → vec_capacity self.new.rows ≡ vec_capacity self.old.rows }
+        ensures grown { OnOk result (vec_capacity self.old.rows ≤ length self.old.rows.items
+            → vec_capacity self.new.rows ≡ grown 1 (length self.old.rows.items)) }
         ensures capacity { vec_capacity self.new.rows
-            ≤ max (vec_capacity self.old.rows) (2 * length self.old.rows.items) }
+            ≤ max (vec_capacity self.old.rows) (grown 1 (length self.old.rows.items)) }
     {
         let count = self.rows.len();
         if count == self.rows.capacity() {
-            self.rows.reserve_exact(count)?;
+            self.rows.reserve_exact(growth(count, 1))?;
         }
         Ok(())
     }
