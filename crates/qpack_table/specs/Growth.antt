@@ -1,4 +1,4 @@
--- How much room the vectors of a table have.
+-- How much room the vectors and deques of a table have.
 use Rattle.std.specs.Prelude.{ℕ, ◌+◌, ◌/◌, max}
 
 -- the room of a vector that grows: for its elements and half as many more, or for the least more if that is greater

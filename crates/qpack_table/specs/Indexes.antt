@@ -1,6 +1,6 @@
 -- The index of the dynamic table's live entries: rows of absolute indexes, cut by a hash of a part of their fields.
 use Rattle.std.specs.Prelude.{◌≡◌, ◌≢◌, ℕ, zero, suc, ◌+◌, ◌<◌, ◌≤◌, Bool, not, List, [], ◌∷◌, ◌++◌, length}
-use Rattle.std.specs.Prelude.{vec_capacity, Option, MatchOption, slice_index_or, slice_set, Contains}
+use Rattle.std.specs.Prelude.{vec_capacity, Option, MatchOption, slice_index_or, slice_set, Contains, max, Result, OnOk}
 use Rattle.std.specs.List.{filter}
 use Rattle.std.specs.VecDeque.{deque_len, deque_capacity}
 use Rattle.qpack_spec.specs.Field.{Field}
@@ -96,6 +96,14 @@ GrowsRows entries old new = (entries < old → new ≡ old) × (old ≤ entries 
 -- rows that have room for at most half as many more, or for one
 abbrev pub HasFewSpare : Rows → Type 0
 HasFewSpare rows = vec_capacity rows.rows ≤ grown 1 (length rows.rows.items)
+
+-- where room is made for one entry more, the room for hashes stays, or grows by half if it is full, by 22 at least
+pub record MakesRoomForHashes {E : Type 0} (result : Result (Unit {0}) E) (old new : Index) : Type 0 where
+  pub still : length old.hashes.items < deque_capacity old.hashes
+      → deque_capacity new.hashes ≡ deque_capacity old.hashes
+  pub made : OnOk result (deque_capacity old.hashes ≤ length old.hashes.items
+      → deque_capacity new.hashes ≡ grown 22 (length old.hashes.items))
+  pub capacity : deque_capacity new.hashes ≤ max (deque_capacity old.hashes) (grown 22 (length old.hashes.items))
 
 -- there is room for one more entry with such hashes
 pub record HasRoomForEntry (hashes : Hashes) (index : Index) : Type 0 where

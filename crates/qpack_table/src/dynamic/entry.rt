@@ -1,14 +1,16 @@
 //! The live entries of a table.
 
-ghost use Rattle.std.specs.Prelude.{◌≡◌, ℕ, ◌+◌, ◌^◌, ◌<◌, ◌≤◌, List, [], ◌∷◌, ◌++◌, length, drop, IfSome, IfNone};
-ghost use Rattle.std.specs.Prelude.{IsOk, OnOk, OnErr};
+ghost use Rattle.std.specs.Prelude.{◌≡◌, ℕ, ◌+◌, ◌^◌, ◌<◌, ◌≤◌, List, [], ◌∷◌, ◌++◌, length, drop, IfSome, IfNone, max};
+ghost use Rattle.std.specs.Prelude.{OnOk, OnErr};
 ghost use Rattle.std.specs.VecDeque.{deque_capacity};
 ghost use Rattle.qpack_base.specs.HeaderFields.{field_of};
 ghost use Rattle.qpack_spec.specs.Field.{field_size, total_size};
 ghost use Rattle.qpack_spec.specs.Table.{fields_in};
+ghost use Rattle.qpack_table.specs.Growth.{grown};
 ghost use Rattle.qpack_table.specs.Tables.{entries_of, uses_of, flags_of, AreFlagged, AreUsed, AreCounted};
 
 use crate::dynamic::entry_index::EntryIndex;
+use crate::dynamic::growth::{ENTRIES, make_room};
 use crate::vas::VirtualAddressSpace;
 use qpack_base::field::HeaderField;
 use std::alloc::AllocError;
@@ -104,31 +106,6 @@ pub(super) fn drop_oldest<I: EntryIndex>(
     freed
 }
 
-/// Makes room for an entry. If it is free already, nothing changes and no memory is taken.
-#[inline(always)]
-fn make_room(entries: &mut VecDeque<Entry>) -> Result<(), AllocError>
-    ensures items { entries.new.items ≡ entries.old.items }
-    ensures ok { OnOk result (length entries.new.items + 1 ≤ deque_capacity entries.new) }
-    ensures succeeds { length entries.old.items + 1 ≤ deque_capacity entries.old → IsOk result }
-    ensures still { length entries.old.items + 1 ≤ deque_capacity entries.old
-        → deque_capacity entries.new ≡ deque_capacity entries.old }
-{
-    if entries.len() < entries.capacity() {
-        return Ok(());
-    }
-    grow(entries)
-}
-
-/// Makes room for an entry if there is none. It is a call of its own, so that a caller that has room saves no
-/// registers.
-#[inline(never)]
-fn grow(entries: &mut VecDeque<Entry>) -> Result<(), AllocError>
-    ensures items { entries.new.items ≡ entries.old.items }
-    ensures ok { OnOk result (length entries.new.items + 1 ≤ deque_capacity entries.new) }
-{
-    entries.reserve(1)
-}
-
 /// Drops the oldest entries, appends another after the newest, and updates the sum of their sizes. On error, which is
 /// for memory only, nothing changes. With free room for the entry the list does not grow. The key is that of the
 /// entry's field.
@@ -161,9 +138,13 @@ pub(super) fn replace_oldest<I: EntryIndex>(
     ensures index { I.is_index_of index.new vas.new.dropped entries.new.items }
     ensures still { length entries.old.items + 1 ≤ deque_capacity entries.old
         → deque_capacity entries.new ≡ deque_capacity entries.old }
+    ensures grown { OnOk result (deque_capacity entries.old ≤ length entries.old.items
+        → deque_capacity entries.new ≡ grown 18 (length entries.old.items)) }
+    ensures capacity { deque_capacity entries.new
+        ≤ max (deque_capacity entries.old) (grown 18 (length entries.old.items)) }
 {
     let size = entry.field.mem_size();
-    make_room(entries)?;
+    make_room(entries, ENTRIES)?;
     index.reserve(entries, vas.total_dropped(), key)?;
     let freed = drop_oldest(entries, index, vas, evicted);
     *mem_size = *mem_size - freed + size;

@@ -9,7 +9,7 @@ ghost use Rattle.qpack_table.specs.Tables.{entries_of, live_fields};
 ghost use Rattle.qpack_table.specs.declared.dynamic.index.hash.Hashes.{Hashes};
 ghost use Rattle.qpack_table.specs.Hashes.{name_hash};
 ghost use Rattle.qpack_table.specs.Indexes.{AreHashesOf, IsIndexOf, HasRoomForEntry, IsNewestIn};
-ghost use Rattle.qpack_table.specs.Indexes.{GrowsRows, one_row_more, HasFewSpare};
+ghost use Rattle.qpack_table.specs.Indexes.{GrowsRows, one_row_more, HasFewSpare, MakesRoomForHashes};
 
 mod hash;
 mod row;
@@ -17,6 +17,7 @@ mod rows;
 mod slots;
 
 use crate::dynamic::entry::Entry;
+use crate::dynamic::growth::{HASHES, make_room};
 pub(super) use crate::dynamic::index::hash::Hashes;
 use crate::dynamic::index::hash::hash_name;
 use crate::dynamic::index::row::{Part, Sought};
@@ -154,6 +155,7 @@ impl Index {
             → HasRoomForEntry hashes self.old → ⊥) }
         ensures fields { HasFewSpare self.old.fields → HasFewSpare self.new.fields }
         ensures names { HasFewSpare self.old.names → HasFewSpare self.new.names }
+        ensures hashes { MakesRoomForHashes result self.old self.new }
     {
         if entries.len() < self.fields.count() {
             return self.make_room(hashes);
@@ -172,8 +174,9 @@ impl Index {
         ensures full { OnErr result (HasRoomForEntry hashes self.old → ⊥) }
         ensures fields { HasFewSpare self.old.fields → HasFewSpare self.new.fields }
         ensures names { HasFewSpare self.old.names → HasFewSpare self.new.names }
+        ensures hashes { MakesRoomForHashes result self.old self.new }
     {
-        self.hashes.reserve(1)?;
+        make_room(&mut self.hashes, HASHES)?;
         self.names.reserve(self.alloc, hashes.name)?;
         self.fields.reserve(self.alloc, hashes.field)
     }
@@ -191,13 +194,14 @@ impl Index {
         ensures room { OnOk result (HasRoomForEntry hashes self.new) }
         ensures fields { HasFewSpare self.old.fields → HasFewSpare self.new.fields }
         ensures names { HasFewSpare self.old.names → HasFewSpare self.new.names }
+        ensures hashes { MakesRoomForHashes result self.old self.new }
     {
         if self.fields.count() == 0 {
             return self.make_first_rows(hashes);
         }
         let fields = self.fields.split(self.alloc, hashes.field)?;
         let names = self.names.split(self.alloc, hashes.name)?;
-        self.hashes.reserve(1)?;
+        make_room(&mut self.hashes, HASHES)?;
         self.fields.put_split(fields);
         self.names.put_split(names);
         Ok(())
@@ -213,12 +217,13 @@ impl Index {
         ensures room { OnOk result (HasRoomForEntry hashes self.new) }
         ensures fields { HasFewSpare self.old.fields → HasFewSpare self.new.fields }
         ensures names { HasFewSpare self.old.names → HasFewSpare self.new.names }
+        ensures hashes { MakesRoomForHashes result self.old self.new }
     {
         let mut fields = Rows::with_count(self.alloc, FIRST_ROWS)?;
         let mut names = Rows::with_count(self.alloc, FIRST_ROWS)?;
         fields.reserve(self.alloc, hashes.field)?;
         names.reserve(self.alloc, hashes.name)?;
-        self.hashes.reserve(1)?;
+        make_room(&mut self.hashes, HASHES)?;
         self.fields = fields;
         self.names = names;
         Ok(())

@@ -5,8 +5,8 @@ use Rattle.qpack_table.proofs.dynamic.index.Index.make_room.Goals as goal
 
 pub returns-clause-index : goal.returns-clause-index
 returns-clause-index c = λ dropped entered live is. record {
-  fields = c.reserve-3.ensures.rows Whole dropped entered live is.fields;
-  names = c.reserve-2.ensures.rows Name dropped entered live is.names;
+  fields = c.reserve-2.ensures.rows Whole dropped entered live is.fields;
+  names = c.reserve.ensures.rows Name dropped entered live is.names;
   hashes = hashes_same dropped live entered _ _ (search rules) is.hashes;
-  matched = c.reserve-2.ensures.count ∙ is.matched ∙ sym c.reserve-3.ensures.count;
+  matched = c.reserve.ensures.count ∙ is.matched ∙ sym c.reserve-2.ensures.count;
 }
