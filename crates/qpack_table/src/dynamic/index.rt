@@ -2,6 +2,7 @@
 //! absolute indexes alone: each call is lent the entries, and is told how many were dropped.
 
 ghost use Rattle.std.specs.Prelude.{◌≡◌, ◌+◌, ◌-◌, ◌^◌, ◌<◌, ◌≤◌, ℕ, List, [], OnOk, OnErr, length, drop};
+ghost use Rattle.std.specs.Prelude.{vec_capacity};
 ghost use Rattle.qpack_base.specs.HeaderFields.{line_of};
 ghost use Rattle.qpack_spec.specs.Field.{Field, is_field, has_name};
 ghost use Rattle.qpack_table.specs.Rows.{field_at, Counts};
@@ -17,7 +18,7 @@ mod rows;
 mod slots;
 
 use crate::dynamic::entry::Entry;
-use crate::dynamic::growth::{HASHES, make_room};
+use crate::dynamic::growth::{HASHES, ROWS, ROWS_OF_NAMES, make_room};
 pub(super) use crate::dynamic::index::hash::Hashes;
 use crate::dynamic::index::hash::hash_name;
 use crate::dynamic::index::row::{Part, Sought};
@@ -26,9 +27,6 @@ use crate::dynamic::steps::Steps;
 use qpack_base::field::FieldLine;
 use std::alloc::{AllocError, Global};
 use std::collections::VecDeque;
-
-/// How many rows are made at first. Then they grow one at a time.
-const FIRST_ROWS: usize = 32;
 
 /// The newest live entry of each different field, and of each different name. There are at least as many rows of
 /// either as entries.
@@ -213,14 +211,16 @@ impl Index {
         ensures index { (dropped entered : ℕ) (live : List Field) → IsIndexOf dropped live entered self.old
             → IsIndexOf dropped live entered self.new }
         ensures rows { OnOk result (length self.new.fields.rows.items ≡ 32) }
+        ensures made { OnOk result
+            ((vec_capacity self.new.fields.rows ≡ 32) × (vec_capacity self.new.names.rows ≡ 40)) }
         ensures err { OnErr result (length self.new.fields.rows.items ≡ 0) }
         ensures room { OnOk result (HasRoomForEntry hashes self.new) }
         ensures fields { HasFewSpare self.old.fields → HasFewSpare self.new.fields }
         ensures names { HasFewSpare self.old.names → HasFewSpare self.new.names }
         ensures hashes { MakesRoomForHashes result self.old self.new }
     {
-        let mut fields = Rows::with_count(self.alloc, FIRST_ROWS)?;
-        let mut names = Rows::with_count(self.alloc, FIRST_ROWS)?;
+        let mut fields = Rows::with_count(self.alloc, ROWS, ROWS)?;
+        let mut names = Rows::with_count(self.alloc, ROWS, ROWS_OF_NAMES)?;
         fields.reserve(self.alloc, hashes.field)?;
         names.reserve(self.alloc, hashes.name)?;
         make_room(&mut self.hashes, HASHES)?;

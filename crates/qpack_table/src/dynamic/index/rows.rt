@@ -36,13 +36,13 @@ impl Rows {
         }
     }
 
-    /// Makes that many empty rows.
-    pub(super) fn with_count(alloc: Global, count: usize) -> Result<Rows, AllocError>
+    /// Makes that many empty rows, with room for at least `room` in all.
+    pub(super) fn with_count(alloc: Global, count: usize, room: usize) -> Result<Rows, AllocError>
         ensures count { IfOk result (λ rows. length rows.rows.items ≡ count) }
-        ensures room { IfOk result (λ rows. vec_capacity rows.rows ≡ count) }
+        ensures room { IfOk result (λ rows. vec_capacity rows.rows ≡ max count room) }
         ensures empty { IfOk result (λ rows. All (λ row. row.slots.items ≡ []) rows.rows.items) }
     {
-        let mut rows = Vec::with_capacity(alloc, count)?;
+        let mut rows = Vec::with_capacity(alloc, count.max(room))?;
         for _ in 0..count {
             rows.push_reserved(Row::new());
         }
