@@ -1,20 +1,17 @@
-//! Worked rows of QPACK (RFC 9204) over public calls, in `vectors`; and what else no clause of `h3_qpack` says: printed
-//! texts, worked cases of its encoder and its decoder, and calls where memory is refused.
+//! The bench of vectors: worked rows of QPACK (RFC 9204) over public calls.
 #![tactic(auto)]
 
 #[cfg(test)]
 mod blocks;
 #[cfg(test)]
-mod decoding;
+mod instructions;
 #[cfg(test)]
-mod encoder;
+mod integers;
 #[cfg(test)]
-mod encoding;
+mod lines;
 #[cfg(test)]
-mod extremes;
+mod static_fields;
 #[cfg(test)]
-mod memory;
+mod strings;
 #[cfg(test)]
-mod texts;
-#[cfg(test)]
-mod vectors;
+mod tables;
