@@ -183,6 +183,8 @@ pub fn decode_within<A: Allocator>(
     // Memory is refused only if there was less room than any payload of the bytes that are left may need,
     ensures memory { result ≡ Err NoRoom →
         vec_capacity text.old < vec_len text.old + (length buf.old.rest / 5 * 8 + 6) }
+    // only if there was less room than for `most` more bytes,
+    ensures asks { result ≡ Err NoRoom → vec_capacity text.old < vec_len text.old + most }
     // and only to a value that would be appended, or to a malformed payload.
     ensures fits { result ≡ Err NoRoom → FitsStringWithin most (string_at size buf.old.rest) }
     ensures capacity { vec_capacity text.old ≤ vec_capacity text.new }
@@ -389,6 +391,7 @@ fn read_within<A: Allocator>(
         (meaning payload.entry.flags payload.entry.bytes.now) }
     ensures memory { result ≡ Err NoRoom →
         vec_capacity text.old < vec_len text.old + (length payload.entry.bytes.now / 5 * 8 + 6) }
+    ensures asks { result ≡ Err NoRoom → vec_capacity text.old < vec_len text.old + most }
     ensures fits { result ≡ Err NoRoom → FitsWithin most (meaning payload.entry.flags payload.entry.bytes.now) }
     ensures capacity { vec_capacity text.old ≤ vec_capacity text.new }
     ensures within { vec_capacity text.new ≤ max (vec_capacity text.old) (vec_len text.old + most) }
@@ -451,6 +454,7 @@ fn read_text_within<A: Allocator>(
     ensures exact { AppendsTextWithin most text.old text.new result (text_of_bits (bits_of_bytes payload.now)) }
     ensures memory { result ≡ Err NoRoom →
         vec_capacity text.old < vec_len text.old + (length payload.now / 5 * 8 + 6) }
+    ensures asks { result ≡ Err NoRoom → vec_capacity text.old < vec_len text.old + most }
     ensures fits { result ≡ Err NoRoom → FitsWithin most (text_of_bits (bits_of_bytes payload.now)) }
     ensures capacity { vec_capacity text.old ≤ vec_capacity text.new }
     ensures within { vec_capacity text.new ≤ max (vec_capacity text.old) (vec_len text.old + most) }
