@@ -72,7 +72,7 @@ pub record DecodesTo (old new : State) (stream : ℕ) (bytes : List ℕ) (told :
   pub answer : Result Reading DecodingError
   pub decodes : Decodes (end_of old.end) (end_of new.end) stream
       (strict_reading (window old.end.table) old.end.settings.max_section_size bytes) new.fields.fields answer
-  pub memory : answer ≡ Err Memory → NeedsMemoryToDecode old.end stream bytes
+  pub memory : answer ≡ Err Memory → NeedsMemoryToDecode old.end stream bytes old.fields
   pub unsent : KeepsRoom (length (answer_to stream
       (strict_reading (window old.end.table) old.end.settings.max_section_size bytes) (end_of old.end)))
       old.end.unsent new.end.unsent

@@ -35,6 +35,7 @@ use Rattle.qpack_connection.specs.Connections.{with_encoder, with_decoder, with_
 use Rattle.qpack_connection.specs.Connections.{with_cancelled, behind_received}
 use Rattle.qpack_ends.specs.Decoders.{DecodingEnd, DecoderView, end_of, Decodes, Cancels, EndsReceiving}
 use Rattle.qpack_ends.specs.Decoders.{AsksBehind, AsksToDecode, NeedsMemoryBehind, NeedsMemoryToDecode}
+use Rattle.qpack_ends.specs.FieldSections.{SectionView}
 use Rattle.qpack_ends.specs.Decoders as decoders
 use Rattle.qpack_ends.specs.Encoders.{EncodingEnd, SetsCapacity}
 use Rattle.qpack_ends.specs.Encoders as encoders
@@ -343,10 +344,10 @@ needs_behind d s (Read fields required) needs = needs.0
 needs_behind d s (Blocked required) needs = needs
 needs_behind d s (Refused fault) needs = needs
 
-pub needs_asks : (d : DecoderView) (s : ℕ) (bytes : List ℕ) → NeedsMemoryToDecode d s bytes
-    → AsksToDecode (end_of d) s bytes
-needs_asks d s bytes (inl asks) = inl asks
-needs_asks d s bytes (inr needs) = inr (needs_behind d s _ needs)
+pub needs_asks : (d : DecoderView) (s : ℕ) (bytes : List ℕ) (fields : SectionView)
+    → NeedsMemoryToDecode d s bytes fields → AsksToDecode (end_of d) s bytes
+needs_asks d s bytes fields (inl needs) = inl needs.0
+needs_asks d s bytes fields (inr needs) = inr (needs_behind d s _ needs)
 
 -- a reading is no want of memory
 pub read_stops : (r : Reading) → (let a : Result Reading DecodingError = Ok r in a) ≡ Err decoding.Memory → ⊥

@@ -1,6 +1,6 @@
 -- Where reading a section asks for memory: of a line that stands whole, or of a string whose payload is not empty.
 use Rattle.std.proofs.Common.{◌≡◌, ℕ, List, ◌∷◌, Option, Some, Result, Ok, Err, refl, sym, subst}
-use Rattle.std.proofs.Common.{◌∙◌, inl, inr}
+use Rattle.std.proofs.Common.{◌∙◌, ◌≤◌, arith, inl, inr}
 use Rattle.std.specs.Prelude.{IsOk}
 use Rattle.std.specs.Global.{Vec}
 use Rattle.qpack_spec.specs.Bytes.{Begins}
@@ -24,6 +24,7 @@ use Rattle.qpack_wire.proofs.Asking.{HasBegun, asks_alone, asks_held, asks_line}
 use Rattle.qpack_ends.specs.declared.section.LineError.{LineError}
 use Rattle.qpack_ends.specs.declared.section.LineError.TheVariants as line
 use Rattle.qpack_ends.specs.declared.section.SectionError.TheVariants.{Memory}
+use Rattle.qpack_ends.specs.FieldSections.{LacksRoomFor}
 use Rattle.qpack_ends.specs.Lines.{AsksInForm, field_of_form, line_error_of_parse}
 use Rattle.qpack_ends.specs.Sections.{error_at}
 use Rattle.qpack_ends.proofs.LineParts.{form_is}
@@ -37,6 +38,11 @@ pub asks_string : (n : ℕ) (old : CursorView) (e : StringError) → FailsString
 asks_string n old string.Memory h q =
     string_memory n old old (let r : Result (Vec ℕ) StringError = Err string.Memory in r) h refl
 asks_string n old e h q = absurd cc
+
+-- out of memory for a string is the string's
+pub string_memory_of : (e : StringError) → line_error_of_parse (error_of_string e) ≡ line.Memory → e ≡ string.Memory
+string_memory_of string.Memory q = refl
+string_memory_of e q = absurd cc
 
 -- an index was read, so that its line stands whole
 pub asks_index : (n : ℕ) (make : ℕ → Line) (bytes rest : List ℕ) (flags index : ℕ)
@@ -107,3 +113,9 @@ asks_in_form bytes b bs form cut named (inr h) =
 pub memory_at : (number offset : ℕ) (e : LineError) → error_at number offset e ≡ Memory → e ≡ line.Memory
 memory_at number offset line.Memory q = refl
 memory_at number offset e q = absurd cc
+
+-- room that is lacking later was lacking before, since none is given back
+pub lacks_before : (limit text_old text_new spans_old spans_new : ℕ) → text_old ≤ text_new → spans_old ≤ spans_new
+    → LacksRoomFor limit text_new spans_new → LacksRoomFor limit text_old spans_old
+lacks_before limit text_old text_new spans_old spans_new text spans (inl lacks) = inl (omega (arith, text, lacks))
+lacks_before limit text_old text_new spans_old spans_new text spans (inr lacks) = inr (omega (arith, spans, lacks))

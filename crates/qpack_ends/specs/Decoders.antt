@@ -21,6 +21,7 @@ use Rattle.qpack_ends.specs.declared.section.Reading.{Reading}
 use Rattle.qpack_ends.specs.declared.section.Reading.TheVariants as reading
 use Rattle.qpack_ends.specs.declared.section.SectionError.{SectionError}
 use Rattle.qpack_ends.specs.Blocked.{IsCountedAnew, MayBlockAmong, is_blocked, blocked_among, with_blocked, without}
+use Rattle.qpack_ends.specs.FieldSections.{SectionView, LacksRoomWithin}
 use Rattle.qpack_ends.specs.Receiving.{StreamView, Receives, ReceivesMore, AsksToReceive, encoder_stream_error}
 use Rattle.qpack_ends.specs.Sections.{decompression_failed, TellsReading}
 use Rattle.qpack_ends.specs.Sections as sections
@@ -265,10 +266,11 @@ NeedsMemoryBehind d stream (Read fields required) =
     (0 < required) × LacksRoom (length (acknowledgment_of stream required (end_of d))) d.unsent
 NeedsMemoryBehind d stream read = AsksBehind (end_of d) stream read
 
--- memory is needed: the section may ask for it, or it is needed after its reading
-abbrev pub NeedsMemoryToDecode : DecoderView → ℕ → List ℕ → Type 0
-NeedsMemoryToDecode d stream bytes =
-    AsksSectionForMemory bytes
+-- memory is needed: the section may ask for it, and there is less room for its fields than one within the limit can use;
+-- or it is needed after its reading
+abbrev pub NeedsMemoryToDecode : DecoderView → ℕ → List ℕ → SectionView → Type 0
+NeedsMemoryToDecode d stream bytes fields =
+    (AsksSectionForMemory bytes × LacksRoomWithin d.settings.max_section_size fields)
     ⊎ NeedsMemoryBehind d stream (strict_reading (window d.table) d.settings.max_section_size bytes)
 
 -- ---- a stream that is given up

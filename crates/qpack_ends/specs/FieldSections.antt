@@ -1,5 +1,5 @@
 -- The fields of a section, each a name and a value cut out of one text.
-use Rattle.std.specs.Prelude.{◌≡◌, ◌≤◌, ◌/◌, ℕ, max, List, [], ◌∷◌, Option, None, Some, map, slice_range}
+use Rattle.std.specs.Prelude.{◌≡◌, ◌<◌, ◌≤◌, ◌/◌, ◌⊎◌, ℕ, max, List, [], ◌∷◌, Option, None, Some, map, slice_range}
 use Rattle.qpack_spec.specs.Field.{FieldLine}
 use Rattle.qpack_base.specs.HeaderFields.{line_of}
 use Rattle.qpack_base.specs.declared.field.FieldLine.{FieldLine as LentLine}
@@ -52,6 +52,15 @@ GrowsWithin limit old new = GrowsTo limit (limit / 32) old new
 pub record IsRoomWithin (limit : ℕ) (old new : SectionView) : Type 0 where
   pub text_most : new.text_room ≤ max old.text_room limit
   pub fields_most : new.fields_room ≤ max old.fields_room (limit / 32)
+
+-- there is room for fewer bytes of names and values than this limit on the sum of sizes, or for fewer fields than it
+-- allows, of 32 bytes each (section 3.2.1)
+abbrev pub LacksRoomFor : ℕ → ℕ → ℕ → Type 0
+LacksRoomFor limit text_room fields_room = (text_room < limit) ⊎ (fields_room < limit / 32)
+
+-- the section has less room than one within a limit can use
+abbrev pub LacksRoomWithin : ℕ → SectionView → Type 0
+LacksRoomWithin limit fields = LacksRoomFor limit fields.text_room fields.fields_room
 
 -- the next field is given, and those after it are left; or there is none
 abbrev pub GivesNext : List FieldLine → Option LentLine → List FieldLine → Type 0

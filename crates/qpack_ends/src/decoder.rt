@@ -252,7 +252,8 @@ impl ConnectionDecoder {
     }
 
     /// Decodes a field section that came on a stream (RFC 9204, section 2.2), as `read_section` reads it, with the
-    /// limit of the settings. Unless it returns `Reading::Fields`, `fields` is empty.
+    /// limit of the settings. Unless it returns `Reading::Fields`, `fields` is empty. If `fields` has room for all that
+    /// the limit allows, reading the section asks for no memory.
     ///
     /// It acknowledges the fields of a section that requires insertions, after increments for insertions not yet
     /// reported, and the stream is no longer blocked. It does not keep a blocked section. The stream counts as blocked
@@ -272,9 +273,10 @@ impl ConnectionDecoder {
     ) -> Result<Reading, DecodingError>
         ensures decodes { Decodes (end_of self.old) (end_of self.new) stream
             (strict_reading (window self.old.table) self.old.settings.max_section_size section.now) fields.new.fields result }
-        // Memory is refused only if the section asks for it, if the stream may become blocked and is not counted with
-        // this count, or if there is no room for the acknowledgment and the increments before it.
-        ensures memory { result ≡ Err Memory → NeedsMemoryToDecode self.old stream section.now }
+        // Memory is refused only if the section asks for it and `fields` has less room than the limit allows, if the
+        // stream may become blocked and is not counted with this count, or if there is no room for the acknowledgment
+        // and the increments before it.
+        ensures memory { result ≡ Err Memory → NeedsMemoryToDecode self.old stream section.now fields.old }
         ensures unsent { KeepsRoom (length (answer_to stream
             (strict_reading (window self.old.table) self.old.settings.max_section_size section.now) (end_of self.old)))
             self.old.unsent self.new.unsent }
@@ -363,7 +365,7 @@ impl ConnectionDecoder {
     ) -> Result<Reading, DecodingError>
         ensures decodes { DecodesInto (end_of self.old) (end_of self.new) stream
             (strict_reading (window self.old.table) self.old.settings.max_section_size section.now) fields.new.fields result }
-        ensures memory { result ≡ Err Memory → NeedsMemoryToDecode self.old stream section.now }
+        ensures memory { result ≡ Err Memory → NeedsMemoryToDecode self.old stream section.now fields.old }
         ensures unsent { KeepsRoom (length (answer_to stream
             (strict_reading (window self.old.table) self.old.settings.max_section_size section.now) (end_of self.old)))
             self.old.unsent self.new.unsent }

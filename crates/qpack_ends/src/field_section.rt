@@ -7,7 +7,8 @@ ghost use Rattle.qpack_spec.specs.Bytes.{Begins};
 ghost use Rattle.qpack_spec.specs.StrictReading.{strict_lines_at};
 ghost use Rattle.qpack_wire.specs.Memory.{AsksLine};
 ghost use Rattle.qpack_base.specs.HeaderFields.{line_of};
-ghost use Rattle.qpack_ends.specs.FieldSections.{IsWithin, GrowsTo, GrowsWithin, field_at as field_of_span};
+ghost use Rattle.qpack_ends.specs.FieldSections.{IsWithin, GrowsTo, GrowsWithin, LacksRoomWithin};
+ghost use Rattle.qpack_ends.specs.FieldSections.{field_at as field_of_span};
 ghost use Rattle.qpack_ends.specs.Lines.{under};
 ghost use Rattle.qpack_ends.specs.Sections.{ReadsLines};
 ghost use Rattle.qpack_ends.specs.declared.section.SectionError.TheVariants.{Memory};
@@ -47,8 +48,8 @@ fn field_at<'a>(text: &'a [u8], span: &Span) -> FieldLine<'a>
 
 /// The fields of a section: names and values one after the other in one text, which holds nothing else. It keeps its
 /// memory from section to section. Reading under a limit of n bytes makes room for at most n bytes of text, and for n /
-/// 32 fields of 32 bytes each: both together take at most 2n bytes. Only `expect` or a greater limit makes room for
-/// more, which is given back when a section is rejected.
+/// 32 fields of 32 bytes each: both together take at most 2n bytes. Once there is that much room, it asks for no
+/// memory. Only `expect` or a greater limit makes room for more, which is given back when a section is rejected.
 #[derive(Debug, Drop)]
 pub struct FieldSection {
     text: Vec<u8>,
@@ -114,7 +115,8 @@ impl FieldSection {
     }
 
     /// Makes room for this many fields, and for this many bytes of their names and values, as far as memory permits.
-    /// This affects only how often later calls ask for memory.
+    /// This affects only how often later calls ask for memory. With room for `limit / 32` fields and `limit` bytes,
+    /// reading under that limit asks for none.
     pub fn expect(&mut self, fields: usize, bytes: usize)
         ensures same { self.new.fields ≡ self.old.fields }
         ensures room { GrowsTo bytes fields self.old self.new }
@@ -157,6 +159,7 @@ impl FieldSection {
         ensures exact { ReadsLines result self.new.fields
             (strict_lines_at (length buf.old.rest) (under lines.now buf.old.total) 0 0 buf.old.rest) }
         ensures memory { result ≡ Err Memory → Begins AsksLine buf.old.rest }
+        ensures lacks { result ≡ Err Memory → LacksRoomWithin lines.now.limit self.old }
         ensures room { GrowsWithin lines.now.limit self.old self.new }
     {
         self.text.clear();

@@ -7,7 +7,7 @@ ghost use Rattle.qpack_spec.specs.StrictReading.{strict_reading, strict_section_
 ghost use Rattle.qpack_spec.specs.Table.{window};
 ghost use Rattle.qpack_wire.specs.Memory.{AsksLine, AsksSectionForMemory};
 ghost use Rattle.qpack_wire.specs.Prefixes.{prefix_of};
-ghost use Rattle.qpack_ends.specs.FieldSections.{GrowsWithin, IsRoomWithin};
+ghost use Rattle.qpack_ends.specs.FieldSections.{GrowsWithin, IsRoomWithin, LacksRoomWithin};
 ghost use Rattle.qpack_ends.specs.Lines.{line_error_of};
 ghost use Rattle.qpack_ends.specs.Sections.{ReadsSection, ReadsInto, section_error_of, code_of, line_code_of};
 ghost use Rattle.qpack_ends.specs.declared.section.SectionError.TheVariants.{Memory};
@@ -146,7 +146,8 @@ pub fn longest_section(size: u64) -> u64
 
 /// Reads a section under a table, strictly, and up to a limit on the sum of its fields' sizes in bytes (RFC 9204,
 /// section 3.2.1). It first empties the field section, which stays empty unless `Reading::Fields` is returned. It
-/// appends nothing that exceeds the limit: under a limit of n bytes the field section grows to at most 2n bytes.
+/// appends nothing that exceeds the limit: under a limit of n bytes the field section grows to at most 2n bytes. With
+/// room for n bytes of text and for n / 32 fields it asks for no memory.
 ///
 /// # Errors
 ///
@@ -162,8 +163,10 @@ pub fn read_section<I: EntryIndex>(
     fields: &mut FieldSection,
 ) -> Result<Reading, SectionError>
     ensures exact { ReadsSection result fields.new.fields (strict_reading (window table.now) limit section.now) }
-    // Memory is refused only if a prefix is followed by a whole line, or by a string whose payload is not empty.
+    // Memory is refused only if a prefix is followed by a whole line, or by a string whose payload is not empty,
     ensures memory { result ≡ Err Memory → AsksSectionForMemory section.now }
+    // and only if `fields` has less room than a section within the limit can use.
+    ensures lacks { result ≡ Err Memory → LacksRoomWithin limit fields.old }
     ensures room { IsRoomWithin limit fields.old fields.new }
     // Memory is given back only if a section is rejected, and only what one within the limit can't use.
     ensures kept { OnOk result (GrowsWithin limit fields.old fields.new) }
@@ -187,6 +190,7 @@ fn read_into<I: EntryIndex>(
     requires { fields.old.fields ≡ [] }
     ensures exact { ReadsInto result fields.new.fields (strict_reading (window table.now) limit section.now) }
     ensures memory { result ≡ Err Memory → AsksSectionForMemory section.now }
+    ensures lacks { result ≡ Err Memory → LacksRoomWithin limit fields.old }
     ensures room { GrowsWithin limit fields.old fields.new }
 {
     if section.len() as u64 > longest_section(limit) {
@@ -209,6 +213,7 @@ fn read_behind<I: EntryIndex>(
     ensures exact { ReadsInto result fields.new.fields (strict_section_behind (window table.now) limit buf.old.total
         (Ok (prefix_of prefix, buf.old.rest))) }
     ensures memory { result ≡ Err Memory → Begins AsksLine buf.old.rest }
+    ensures lacks { result ≡ Err Memory → LacksRoomWithin limit fields.old }
     ensures room { GrowsWithin limit fields.old fields.new }
 {
     let maximum = table.agreed_max();

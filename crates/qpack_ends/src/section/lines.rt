@@ -1,6 +1,6 @@
 //! The lines of a section, appended to a text as they are read (RFC 9204, sections 4.5.2 to 4.5.6).
 
-ghost use Rattle.std.specs.Prelude.{◌≡◌, ℕ, ◌+◌, ◌*◌, ◌/◌, ◌-◌, ◌≤◌, ◌∷◌, [], drop, length, max, Err, IfOk};
+ghost use Rattle.std.specs.Prelude.{◌≡◌, ℕ, ◌+◌, ◌*◌, ◌/◌, ◌-◌, ◌<◌, ◌≤◌, ◌∷◌, [], drop, length, max, Err, IfOk};
 ghost use Rattle.std.specs.Prelude.{vec_len, vec_capacity};
 ghost use Rattle.qpack_base.specs.HeaderFields.{field_of};
 ghost use Rattle.qpack_spec.specs.Bytes.{Begins};
@@ -19,7 +19,7 @@ ghost use Rattle.qpack_ends.specs.Lines.{field_of_form, entry_of, line_error_of_
 ghost use Rattle.qpack_ends.specs.Lines.{line_error_of_static, ChecksRequired};
 ghost use Rattle.qpack_ends.specs.Lines.{ReadsLine};
 ghost use Rattle.qpack_ends.specs.Lines.{AsksInForm};
-ghost use Rattle.qpack_ends.specs.FieldSections.{AreInTurn, fields_in};
+ghost use Rattle.qpack_ends.specs.FieldSections.{AreInTurn, LacksRoomFor, fields_in};
 ghost use Rattle.qpack_ends.specs.Sections.{ReadsLines, error_at};
 ghost use Rattle.qpack_ends.specs.declared.section.LineError.TheVariants.{Memory as NoRoom};
 ghost use Rattle.qpack_ends.specs.declared.section.SectionError.TheVariants.{Memory as OutOfMemory};
@@ -108,6 +108,7 @@ fn append_string(
     ensures exact { AppendsText most buf.old buf.new text.old.items text.new.items result
         (or_bad_string (string_at size buf.old.rest)) }
     ensures memory { result ≡ Err NoRoom → Begins (HoldsPayload size) buf.old.rest }
+    ensures asks { result ≡ Err NoRoom → vec_capacity text.old < vec_len text.old + most }
     ensures left { IfOk result (λ len. vec_len text.new + (most - len) ≤ vec_len text.old + most) }
     ensures room { vec_capacity text.new ≤ max (vec_capacity text.old) (vec_len text.old + most) }
     ensures kept { vec_capacity text.old ≤ vec_capacity text.new }
@@ -129,6 +130,7 @@ struct Lengths {
 #[inline(always)]
 fn append_name(field: &HeaderField, most: usize, text: &mut Vec<u8>) -> Result<usize, LineError>
     ensures exact { AppendsName most text.old.items text.new.items result (Ok (field_of field.now)) }
+    ensures asks { result ≡ Err NoRoom → vec_capacity text.old < vec_len text.old + most }
     ensures left { IfOk result (λ len. vec_len text.new + (most - len) ≤ vec_len text.old + most) }
     ensures room { vec_capacity text.new ≤ max (vec_capacity text.old) (vec_len text.old + most) }
     ensures kept { vec_capacity text.old ≤ vec_capacity text.new }
@@ -140,6 +142,7 @@ fn append_name(field: &HeaderField, most: usize, text: &mut Vec<u8>) -> Result<u
 #[inline(always)]
 fn append_field(field: &HeaderField, most: usize, text: &mut Vec<u8>) -> Result<Lengths, LineError>
     ensures exact { AppendsEntry most text.old.items text.new.items result (Ok (field_of field.now)) }
+    ensures asks { result ≡ Err NoRoom → vec_capacity text.old < vec_len text.old + most }
     ensures room { vec_capacity text.new ≤ max (vec_capacity text.old) (vec_len text.old + most) }
     ensures kept { vec_capacity text.old ≤ vec_capacity text.new }
 {
@@ -182,6 +185,7 @@ impl<I: EntryIndex> Lines<'_, I> {
     ) -> Result<usize, LineError>
         ensures exact { AppendsName most text.old.items text.new.items result
             (entry_of (under self.now 0) reference index) }
+        ensures asks { result ≡ Err NoRoom → vec_capacity text.old < vec_len text.old + most }
         ensures left { IfOk result (λ len. vec_len text.new + (most - len) ≤ vec_len text.old + most) }
         ensures room { vec_capacity text.new ≤ max (vec_capacity text.old) (vec_len text.old + most) }
         ensures kept { vec_capacity text.old ≤ vec_capacity text.new }
@@ -218,6 +222,7 @@ impl<I: EntryIndex> Lines<'_, I> {
     ) -> Result<Lengths, LineError>
         ensures exact { AppendsEntry most text.old.items text.new.items result
             (entry_of (under self.now 0) reference index) }
+        ensures asks { result ≡ Err NoRoom → vec_capacity text.old < vec_len text.old + most }
         ensures room { vec_capacity text.new ≤ max (vec_capacity text.old) (vec_len text.old + most) }
         ensures kept { vec_capacity text.old ≤ vec_capacity text.new }
     {
@@ -253,6 +258,7 @@ impl<I: EntryIndex> Lines<'_, I> {
         ensures exact { AppendsLine most buf.old buf.new text.old.items text.new.items result
             (field_of_form (under self.now 0) (made_at (form_of_parts (parts.Index reference)) buf.old.rest)) }
         ensures memory { result ≡ Err NoRoom → AsksInForm (form_of_parts (parts.Index reference)) buf.old.rest }
+        ensures asks { result ≡ Err NoRoom → vec_capacity text.old < vec_len text.old + most }
         ensures room { vec_capacity text.new ≤ max (vec_capacity text.old) (vec_len text.old + most) }
         ensures kept { vec_capacity text.old ≤ vec_capacity text.new }
     {
@@ -273,6 +279,7 @@ impl<I: EntryIndex> Lines<'_, I> {
             (field_of_form (under self.now 0) (made_at (form_of_parts (parts.IndexAndValue reference)) buf.old.rest)) }
         ensures memory { result ≡ Err NoRoom
             → AsksInForm (form_of_parts (parts.IndexAndValue reference)) buf.old.rest }
+        ensures asks { result ≡ Err NoRoom → vec_capacity text.old < vec_len text.old + most }
         ensures room { vec_capacity text.new ≤ max (vec_capacity text.old) (vec_len text.old + most) }
         ensures kept { vec_capacity text.old ≤ vec_capacity text.new }
     {
@@ -302,6 +309,7 @@ impl<I: EntryIndex> Lines<'_, I> {
         ensures exact { AppendsLine most buf.old buf.new text.old.items text.new.items result
             (field_of_form (under self.now 0) (form_at line_form buf.old.rest)) }
         ensures memory { result ≡ Err NoRoom → Begins AsksLine buf.old.rest }
+        ensures asks { result ≡ Err NoRoom → vec_capacity text.old < vec_len text.old + most }
         ensures room { vec_capacity text.new ≤ max (vec_capacity text.old) (vec_len text.old + most) }
         ensures kept { vec_capacity text.old ≤ vec_capacity text.new }
     {
@@ -319,6 +327,7 @@ fn append_literal(most: usize, buf: &mut Cursor, text: &mut Vec<u8>) -> Result<L
     ensures exact { (u : LinesUnder) → AppendsLine most buf.old buf.new text.old.items text.new.items result
         (field_of_form u (made_at (NameAndValue 4 Literal) buf.old.rest)) }
     ensures memory { result ≡ Err NoRoom → AsksInForm (NameAndValue 4 Literal) buf.old.rest }
+    ensures asks { result ≡ Err NoRoom → vec_capacity text.old < vec_len text.old + most }
     ensures room { vec_capacity text.new ≤ max (vec_capacity text.old) (vec_len text.old + most) }
     ensures kept { vec_capacity text.old ≤ vec_capacity text.new }
 {
@@ -353,6 +362,7 @@ fn read_line<I: EntryIndex>(
         spans.old.items spans.new.items all result
         (strict_line_at (under lines.now 0) all first (drop 1 buf.old.rest)) }
     ensures memory { result ≡ Err NoRoom → Begins AsksLine buf.old.rest }
+    ensures lacks { result ≡ Err NoRoom → LacksRoomFor lines.now.limit (vec_capacity text.old) (vec_capacity spans.old) }
     ensures held { IfOk result (λ with. vec_len text.new + 32 * vec_len spans.new ≤ with) }
     ensures text { vec_capacity text.new ≤ max (vec_capacity text.old) lines.now.limit }
     ensures spans { vec_capacity spans.new ≤ max (vec_capacity spans.old) (lines.now.limit / 32) }
@@ -429,6 +439,8 @@ pub(crate) fn read_lines<I: EntryIndex>(
         (strict_lines_at (length buf.old.rest) (under lines.now buf.old.total) 0 0 buf.old.rest) }
     ensures in_turn { AreInTurn 0 spans.new.items (length text.new.items) }
     ensures memory { result ≡ Err OutOfMemory → Begins AsksLine buf.old.rest }
+    ensures lacks { result ≡ Err OutOfMemory
+        → LacksRoomFor lines.now.limit (vec_capacity text.old) (vec_capacity spans.old) }
     ensures text { vec_capacity text.new ≤ max (vec_capacity text.old) lines.now.limit }
     ensures spans { vec_capacity spans.new ≤ max (vec_capacity spans.old) (lines.now.limit / 32) }
     ensures kept_text { vec_capacity text.old ≤ vec_capacity text.new }

@@ -1,4 +1,4 @@
-use Rattle.std.proofs.Common.{◌∙◌, ◌+◌, ◌++◌, ◌∷◌, List, [], ap, append_assoc, arith, drop, length, length-append, refl}
+use Rattle.std.proofs.Common.{◌∙◌, ◌+◌, ◌++◌, ◌∷◌, List, [], ap, append_assoc, arith, drop, inl, inr, length, length-append, refl}
 use Rattle.qpack_ends.specs.declared.field_section.Span.{Span}
 use Rattle.qpack_ends.specs.Lines.{under}
 use Rattle.qpack_ends.proofs.LineReads.{line_fails, line_large, line_read, line_shortens, text_again, span_of}
@@ -85,3 +85,19 @@ returns-in-Err-make_room_within-clause-memory g c e =
     let h = c.in-Ok.ensures.exact in
     asks_held c.args.buf.now.rest
     (field_held (under c.args.lines.now 0) c.args.buf.now.rest h.0 c.append_line.new.buf.rest h.1)
+
+pub returns-in-Err-clause-lacks : goal.returns-in-Err-clause-lacks
+returns-in-Err-clause-lacks g c e =
+    inl (omega (arith, c.in-Err.ensures.asks cc, c.requires.held, c.most_of_field-most.ensures, c.args.text.now.ok.1))
+
+pub returns-then-sum-clause-lacks : goal.returns-then-sum-clause-lacks
+returns-then-sum-clause-lacks g c e =
+    inl (omega (arith, c.args.text.now.small, c.if-sum-lines.false, c.if-sum.true))
+
+pub returns-in-Err-make_room_within-clause-lacks : goal.returns-in-Err-make_room_within-clause-lacks
+returns-in-Err-make_room_within-clause-lacks g c e =
+    let room = room_is c.args.lines.now.limit c.args.sum c.in-Ok.lengths.name c.in-Ok.lengths.value _ _
+    c.saturating_add-sum.result _ c.saturating_add.ensures c.saturating_add-2.ensures c.saturating_add-sum.ensures
+    (omega (arith, c.if-sum-lines.false)) (omega (arith, c.if-sum.false, c.saturating_add-sum.ensures))
+    c.most_of_field-most.ensures in
+    inr (omega (arith, c.in-Err-make_room_within.ensures.full, c.requires.held, room.1, c.if-sum-lines.false))

@@ -9,7 +9,7 @@ use Rattle.qpack_ends.proofs.SectionLines.{fields_more, goes_bad, goes_on, goes_
 use Rattle.qpack_ends.proofs.SectionLines.{none_is}
 use Rattle.qpack_ends.proofs.SpansInTurn.{all_within, in_turn_more}
 use Rattle.qpack_wire.proofs.Asking.{asks_begun}
-use Rattle.qpack_ends.proofs.Asking.{held_begun, memory_at}
+use Rattle.qpack_ends.proofs.Asking.{held_begun, lacks_before, memory_at}
 use Rattle.qpack_ends.proofs.section.lines.read_lines.Goals as goal
 
 pub loop-byte-preserved : goal.loop-byte-preserved
@@ -74,3 +74,10 @@ returns-in-Err-clause-memory g c e =
     let is = c.at_line.ensures in
     let same = memory_at (c.len-number.result + 1) c.position-offset.result c.in-Err.error cc in
     asks_begun c.args.buf.now.rest c.loop-byte.buf.rest c.loop-byte.invariant.begun (c.in-Err.ensures.memory cc)
+
+pub returns-in-Err-clause-lacks : goal.returns-in-Err-clause-lacks
+returns-in-Err-clause-lacks g c e =
+    let is = c.at_line.ensures in
+    let same = memory_at (c.len-number.result + 1) c.position-offset.result c.in-Err.error cc in
+    lacks_before c.args.lines.now.limit _ _ _ _ c.loop-byte.invariant.kept_text c.loop-byte.invariant.kept_spans
+    (c.in-Err.ensures.lacks cc)

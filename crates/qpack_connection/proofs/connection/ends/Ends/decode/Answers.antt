@@ -31,5 +31,6 @@ returns-in-Err-decode c =
     c.self.inside.decoder_stream_received c.self.inside.streams c.self.inside.streams c.args.self.now c.args.number
     c.in-Ok.section.now c.decode.new.fields (Err c.in-Err-decode.e) c.self.view_is c.in-Ok.ensures.found
     c.in-Ok.ensures.live c.in-Err-decode.ensures.decodes
-    (λ stops. needs_asks c.self.inside.decoder c.args.number c.in-Ok.section.now (c.in-Err-decode.ensures.memory stops))
+    (λ stops. needs_asks c.self.inside.decoder c.args.number c.in-Ok.section.now c.new-fields.result
+    (c.in-Err-decode.ensures.memory stops))
     (λ n. refl)
