@@ -1,6 +1,6 @@
 use Rattle.std.proofs.Common.{arith}
 use Rattle.qpack_base.proofs.StaticRows.{row_there, no_row}
-use Rattle.qpack_base.proofs.static_.rows.row.Goals as goal
+use Rattle.qpack_base.proofs.static_.row.Goals as goal
 
 pub returns-then-index-lt25 : goal.returns-then-index-lt25
 returns-then-index-lt25 c =
