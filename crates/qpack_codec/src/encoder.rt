@@ -3,35 +3,28 @@
 
 ghost use Rattle.std.specs.Prelude.{◌≡◌, ◌+◌, ◌≤◌, Err, None, IfOk, IfErr, OnOk, OnErr, vec_len, vec_capacity};
 ghost use Rattle.std.specs.Iterator.{IsFinite};
-ghost use Rattle.qpack_spec.specs.Table.{empty_table};
+ghost use Rattle.qpack_spec.specs.Table.{empty_table, apply_decoder_instruction};
 ghost use Rattle.qpack_base.specs.HeaderFields.{DrainsFields};
 ghost use Rattle.qpack_codec.specs.Encoding.{EncodesBlock, GrowsForFields, StopsEncoding};
-ghost use Rattle.qpack_codec.specs.Hearing.{Hears, SetsCapacity};
+ghost use Rattle.qpack_codec.specs.Hearing.{Hears, SetsCapacity, Applies, HearsNext};
 ghost use Rattle.qpack_codec.specs.declared.error.EncoderError.TheVariants.{Memory};
+ghost use Rattle.qpack_wire.specs.StreamLines.{decoder_instruction_of};
 
-use crate::encoder::instructions::take_instructions;
 use crate::encoder::sections::encode_items;
 use qpack_base::coding::Cursor;
 use qpack_base::field::HeaderField;
 use qpack_table::dynamic::DynamicTable;
+use qpack_wire::stream::{DecoderLine, HeaderAck, InsertCountIncrement, StreamCancel, next_line};
 use std::alloc::{Allocator, Global};
 use std::marker::Model;
 
-mod as_field;
-mod block;
-mod capacity;
 mod choices;
-mod chosen_block;
 mod chosen_fields;
-mod fields;
-mod instructions;
-pub(crate) mod room;
+pub(crate) mod fields;
 mod sections;
 
-pub use crate::encoder::as_field::{AsField, WishedField};
-pub use crate::encoder::capacity::set_dynamic_table_size;
-pub use crate::encoder::choices::{Choice, Chooses, Wish};
-pub use crate::encoder::sections::{EncoderTable, WritesSections};
+pub use crate::encoder::choices::{AsField, Choice, Chooses, Wish, WishedField};
+pub use crate::encoder::sections::{EncoderTable, WritesSections, set_dynamic_table_size};
 pub use crate::error::EncoderError;
 pub use crate::stateless::{encode_section_stateless, encode_stateless};
 
@@ -149,4 +142,40 @@ impl<D: WritesSections> Encoder<D> {
     {
         encode_items(&mut self.table, stream_id, block, encoder_buf, fields)
     }
+}
+
+/// Applies all whole instructions at the cursor, and moves past them. Stops at the first one that is rejected. The
+/// cursor moves past that one exactly if the table rejects it.
+fn take_instructions(table: &mut DynamicTable, buf: &mut Cursor) -> Result<(), EncoderError>
+    ensures hears { Hears table.old table.new buf.old.rest buf.new.rest result }
+    ensures total { buf.new.total ≡ buf.old.total }
+{
+    while take_instruction(table, buf)? {}
+    Ok(())
+}
+
+/// Applies the instruction at the cursor, and moves past it. Returns whether there was a whole one.
+fn take_instruction(table: &mut DynamicTable, buf: &mut Cursor) -> Result<bool, EncoderError>
+    ensures hears { HearsNext table.old table.new buf.old.rest buf.new.rest result }
+    ensures total { buf.new.total ≡ buf.old.total }
+{
+    let Some(line) = next_line::<DecoderLine>(table.allocator(), buf)? else {
+        return Ok(false);
+    };
+    apply_decoder_line(table, line)?;
+    Ok(true)
+}
+
+/// Applies an instruction to the table. On error nothing changes; it takes no memory.
+fn apply_decoder_line(table: &mut DynamicTable, line: DecoderLine) -> Result<(), EncoderError>
+    ensures { Applies result (apply_decoder_instruction table.old (decoder_instruction_of line)) table.old table.new }
+{
+    match line {
+        DecoderLine::InsertCountIncrement(InsertCountIncrement(increment)) => {
+            table.update_largest_received(increment);
+        }
+        DecoderLine::HeaderAck(HeaderAck(stream_id)) => table.untrack_block(stream_id)?,
+        DecoderLine::StreamCancel(StreamCancel(stream_id)) => table.untrack_stream(stream_id),
+    }
+    Ok(())
 }

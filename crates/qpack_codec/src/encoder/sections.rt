@@ -1,23 +1,30 @@
 //! Field sections as an encoder writes them, and what it asks of its table for that (RFC 9204, section 2.1).
 
-ghost use Rattle.std.specs.Prelude.{◌≡◌, ◌≤◌, ◌++◌, map, Ok, IfOk, IfErr, OnOk, OnErr, vec_len, vec_capacity};
+ghost use Rattle.std.specs.Prelude.{◌≡◌, ◌≤◌, ◌++◌, map, Ok, IfOk, IfErr, OnOk, OnErr, vec_len, vec_capacity, ◌+◌, Err};
+ghost use Rattle.std.specs.Prelude.{◌-◌, [], length, take, drop};
 ghost use Rattle.std.specs.Iterator.{IsFinite, Drains};
 ghost use Rattle.qpack_spec.specs.Field.{fields_of_lines};
 ghost use Rattle.qpack_spec.specs.Marked.{stateless_block_marked, written_marked_block};
-ghost use Rattle.qpack_spec.specs.Table.{Table, commit, without_references};
+ghost use Rattle.qpack_spec.specs.Table.{Table, commit, without_references, insert_count};
+ghost use Rattle.qpack_spec.specs.Prefix.{written_prefix};
 ghost use Rattle.qpack_codec.specs.Encoding.{DrainsLinesOf, EncodesLines, GivesUpLines, StopsEncodingLinesOf};
-ghost use Rattle.qpack_codec.specs.Encoding.{GrowsForLinesOf, GrowsWithin, instructions_room};
-ghost use Rattle.qpack_codec.specs.ChosenSections.{EncodesAlong, GivesUpChosen};
+ghost use Rattle.qpack_codec.specs.Encoding.{GrowsForLinesOf, GrowsWithin, instructions_room, AddsLines, StopsAmong};
+ghost use Rattle.qpack_codec.specs.Encoding.{draft_of_lines, DraftsBlock};
+ghost use Rattle.qpack_codec.specs.ChosenSections.{EncodesAlong, GivesUpChosen, AddsAlong, StopsAmongChosen};
+ghost use Rattle.qpack_codec.specs.ChosenSections.{DraftsAlong};
 ghost use Rattle.qpack_codec.specs.declared.error.EncoderError.TheVariants.{Memory};
+ghost use Rattle.qpack_codec.specs.Hearing.{SetsCapacity};
+ghost use Rattle.qpack_wire.specs.Prefixes.{prefix_of};
 
-use crate::encoder::as_field::AsField;
-use crate::encoder::block::append_block;
-use crate::encoder::choices::Chooses;
-use crate::encoder::chosen_block::append_chosen_block;
+use crate::encoder::choices::{AsField, Chooses};
+use crate::encoder::chosen_fields::append_chosen_line;
+use crate::encoder::fields::{append_field_line, make_room};
 use crate::error::EncoderError;
 use crate::stateless::field_lines::append_section;
 use qpack_base::coding::NoMemory;
 use qpack_table::dynamic::{DynamicTable, DynamicTableEncoder};
+use qpack_wire::block::HeaderPrefix;
+use qpack_wire::stream::DynamicTableSizeUpdate;
 use std::alloc::{AllocError, Allocator, Global};
 
 /// A table by which field sections are written. It is a type parameter of an encoder, so that the signature of
@@ -229,4 +236,207 @@ fn gather<H: Drop, T: Iterator<Item = H> + Drop>(
     ensures { IfOk result (λ gathered. Drains T.next_gives fields gathered.items) }
 {
     fields.collect(alloc)
+}
+
+/// No number takes more bytes.
+const GREATEST_NUMBER: usize = 11;
+
+/// Sets the capacity of an encoder's table in bytes, and appends the instruction that announces it to the decoder (RFC
+/// 9204, sections 3.2.3 and 4.3.1). It first checks that the table takes the capacity, then makes room for the
+/// instruction.
+///
+/// # Errors
+///
+/// Fails with `Insertion(MaximumTableSizeTooLarge)` if the capacity is above the maximum or is 2^30 or more, with
+/// `Insertion(MaxTableSizeReached)` if it would evict an entry that is not evictable, and with `Memory` if memory runs
+/// out. On error nothing changes and nothing is written. With eleven bytes of free room it takes no memory.
+pub fn set_dynamic_table_size<A: Allocator>(
+    table: &mut DynamicTable,
+    encoder_buf: &mut Vec<u8, A>,
+    size: usize,
+) -> Result<(), EncoderError>
+    ensures sets { SetsCapacity size table.old table.new encoder_buf.old.items encoder_buf.new.items result }
+    ensures memory { vec_len encoder_buf.old + 11 ≤ vec_capacity encoder_buf.old → result ≡ Err Memory → ⊥ }
+    ensures still { vec_len encoder_buf.old + 11 ≤ vec_capacity encoder_buf.old
+        → vec_capacity encoder_buf.new ≡ vec_capacity encoder_buf.old }
+    ensures capacity { vec_capacity encoder_buf.old ≤ vec_capacity encoder_buf.new }
+{
+    table.check_max_size(size)?;
+    make_room(encoder_buf, GREATEST_NUMBER)?;
+    table.set_max_size(size)?;
+    Ok(DynamicTableSizeUpdate(size).encode(encoder_buf)?)
+}
+
+/// The most bytes of a prefix that are moved one by one.
+const MOST_ONE_BY_ONE: usize = 5;
+
+/// Appends the block of the fields and the instructions of its insertions, and returns the block's required insert
+/// count. It writes the lines first, then puts the prefix in front of them. On error the earlier bytes of the block's
+/// vector are still at its front.
+fn append_block<A: Allocator, B: Allocator, H: AsField>(
+    handle: &mut DynamicTableEncoder<'_>,
+    block: &mut Vec<u8, A>,
+    encoder_buf: &mut Vec<u8, B>,
+    fields: &[H],
+) -> Result<usize, NoMemory>
+    requires base { handle.old.base ≡ insert_count handle.old.table.now }
+    requires begins { handle.old.table.now.referenced ≡ [] }
+    ensures same_table { handle.new.table.ghost_name ≡ handle.old.table.ghost_name }
+    ensures stream { handle.new.stream_id ≡ handle.old.stream_id }
+    ensures ok { IfOk result (λ required. DraftsBlock (map H.line fields.now) handle.old.table.now
+        handle.new.table.now block.old.items block.new.items encoder_buf.old.items encoder_buf.new.items required) }
+    ensures err { OnErr result (GivesUpLines (map H.line fields.now) handle.old.table.now
+        (without_references handle.new.table.now) encoder_buf.old.items encoder_buf.new.items) }
+    ensures as_before { OnErr result (take (vec_len block.old) block.new.items ≡ block.old.items) }
+    ensures capacity { vec_capacity block.old ≤ vec_capacity block.new }
+    ensures still { OnOk result
+        (vec_len block.new ≤ vec_capacity block.old → vec_capacity block.new ≡ vec_capacity block.old) }
+    ensures instructions { GrowsWithin (instructions_room (fields_of_lines (map H.line fields.now))) encoder_buf.old
+        encoder_buf.new }
+{
+    let max = handle.agreed_max();
+    let len = block.len();
+    append_fields(handle, fields, block, encoder_buf)?;
+    let count = handle.required_insert_count();
+    let prefix = HeaderPrefix::new(count, handle.base(), handle.total_inserted(), max);
+    put_in_front(&prefix, block, len)?;
+    Ok(count)
+}
+
+/// Adds the fields to a block in progress, one after the other. On error some of them were added: their insertions
+/// stay, and their instructions are written.
+fn append_fields<A: Allocator, B: Allocator, H: AsField>(
+    handle: &mut DynamicTableEncoder<'_>,
+    fields: &[H],
+    lines: &mut Vec<u8, A>,
+    encoder_buf: &mut Vec<u8, B>,
+) -> Result<(), NoMemory>
+    ensures same_table { handle.new.table.ghost_name ≡ handle.old.table.ghost_name }
+    ensures stream { handle.new.stream_id ≡ handle.old.stream_id }
+    ensures base { handle.new.base ≡ handle.old.base }
+    ensures ok { OnOk result (AddsLines (map H.line fields.now) (draft_of_lines handle.old.table.now handle.old.base
+        (map H.line fields.now))
+        handle.new.table.now lines.old.items lines.new.items encoder_buf.old.items encoder_buf.new.items) }
+    ensures err { OnErr result (StopsAmong (map H.line fields.now) handle.old.table.now handle.old.base
+        handle.new.table.now encoder_buf.old.items encoder_buf.new.items) }
+    ensures as_before { OnErr result (take (vec_len lines.old) lines.new.items ≡ lines.old.items) }
+    ensures capacity { vec_capacity lines.old ≤ vec_capacity lines.new }
+    ensures still { OnOk result
+        (vec_len lines.new ≤ vec_capacity lines.old → vec_capacity lines.new ≡ vec_capacity lines.old) }
+    ensures instructions { GrowsWithin (instructions_room (fields_of_lines (map H.line fields.now))) encoder_buf.old
+        encoder_buf.new }
+{
+    for field in fields {
+        append_field_line(handle, &field.as_field(), lines, encoder_buf)?;
+    }
+    Ok(())
+}
+
+/// Puts a prefix in front of the bytes after the first `len`. On error the vector is unchanged.
+#[inline(always)]
+fn put_in_front<A: Allocator>(
+    prefix: &HeaderPrefix,
+    block: &mut Vec<u8, A>,
+    len: usize,
+) -> Result<(), NoMemory>
+    requires { len ≤ vec_len block.old }
+    ensures longer { vec_len block.old ≤ vec_len block.new }
+    ensures ok { OnOk result (block.new.items
+        ≡ take len block.old.items ++ written_prefix (prefix_of prefix.now) ++ drop len block.old.items) }
+    ensures err { OnErr result (block.new.items ≡ block.old.items) }
+    ensures capacity { vec_capacity block.old ≤ vec_capacity block.new }
+    ensures still { OnOk result
+        (vec_len block.new ≤ vec_capacity block.old → vec_capacity block.new ≡ vec_capacity block.old) }
+{
+    let end = block.len();
+    prefix.encode(block)?;
+    let written = block.len() - end;
+    move_to_front(&mut block[len..], written);
+    Ok(())
+}
+
+/// Moves this many bytes from the end to the front. A few, as in nearly every prefix, are moved one by one: to move
+/// more at once takes room on the call stack, which is cleared first.
+fn move_to_front(bytes: &mut [u8], count: usize)
+    requires { count ≤ length bytes.old }
+    ensures len { length bytes.new ≡ length bytes.old }
+    ensures after { bytes.new
+        ≡ drop (length bytes.old - count) bytes.old ++ take (length bytes.old - count) bytes.old }
+{
+    if count > MOST_ONE_BY_ONE {
+        bytes.rotate_right(count);
+        return;
+    }
+    for _ in 0..count {
+        bytes.rotate_right(1);
+    }
+}
+
+/// Appends the block of the fields as `append_block` does, by what is chosen for each.
+fn append_chosen_block<A: Allocator, B: Allocator, H: AsField, C: Chooses>(
+    handle: &mut DynamicTableEncoder<'_>,
+    block: &mut Vec<u8, A>,
+    encoder_buf: &mut Vec<u8, B>,
+    fields: &[H],
+    chooser: &mut C,
+) -> Result<usize, NoMemory>
+    requires base { handle.old.base ≡ insert_count handle.old.table.now }
+    requires begins { handle.old.table.now.referenced ≡ [] }
+    ensures same_table { handle.new.table.ghost_name ≡ handle.old.table.ghost_name }
+    ensures stream { handle.new.stream_id ≡ handle.old.stream_id }
+    ensures ok { IfOk result (λ required. DraftsAlong C.chooses (map H.line fields.now) (map H.wish fields.now)
+        handle.old.table.now handle.new.table.now block.old.items block.new.items encoder_buf.old.items encoder_buf.new.items required) }
+    ensures err { OnErr result (GivesUpChosen (map H.line fields.now) handle.old.table.now
+        (without_references handle.new.table.now) encoder_buf.old.items encoder_buf.new.items) }
+    ensures as_before { OnErr result (take (vec_len block.old) block.new.items ≡ block.old.items) }
+    ensures capacity { vec_capacity block.old ≤ vec_capacity block.new }
+    ensures still { OnOk result
+        (vec_len block.new ≤ vec_capacity block.old → vec_capacity block.new ≡ vec_capacity block.old) }
+    ensures instructions { GrowsWithin (instructions_room (fields_of_lines (map H.line fields.now))) encoder_buf.old
+        encoder_buf.new }
+{
+    let max = handle.agreed_max();
+    let len = block.len();
+    chooser.begin(handle);
+    append_chosen_fields(handle, fields, chooser, block, encoder_buf)?;
+    let required = handle.required_insert_count();
+    let prefix = HeaderPrefix::new(required, handle.base(), handle.total_inserted(), max);
+    put_in_front(&prefix, block, len)?;
+    Ok(required)
+}
+
+/// Adds the fields to a block in progress by what is chosen for each, one after the other. On error some of them were
+/// added: what they inserted stays, and its instructions are written.
+fn append_chosen_fields<A: Allocator, B: Allocator, H: AsField, C: Chooses>(
+    handle: &mut DynamicTableEncoder<'_>,
+    fields: &[H],
+    chooser: &mut C,
+    lines: &mut Vec<u8, A>,
+    encoder_buf: &mut Vec<u8, B>,
+) -> Result<(), NoMemory>
+    ensures same_table { handle.new.table.ghost_name ≡ handle.old.table.ghost_name }
+    ensures stream { handle.new.stream_id ≡ handle.old.stream_id }
+    ensures base { handle.new.base ≡ handle.old.base }
+    ensures ok { OnOk result (AddsAlong C.chooses (map H.line fields.now) (map H.wish fields.now)
+        handle.old.table.now handle.old.base handle.new.table.now chooser.old chooser.new lines.old.items lines.new.items encoder_buf.old.items encoder_buf.new.items) }
+    ensures err { OnErr result (StopsAmongChosen (map H.line fields.now) handle.old.table.now handle.old.base
+        handle.new.table.now encoder_buf.old.items encoder_buf.new.items) }
+    ensures as_before { OnErr result (take (vec_len lines.old) lines.new.items ≡ lines.old.items) }
+    ensures capacity { vec_capacity lines.old ≤ vec_capacity lines.new }
+    ensures still { OnOk result
+        (vec_len lines.new ≤ vec_capacity lines.old → vec_capacity lines.new ≡ vec_capacity lines.old) }
+    ensures instructions { GrowsWithin (instructions_room (fields_of_lines (map H.line fields.now))) encoder_buf.old
+        encoder_buf.new }
+{
+    for field in fields {
+        append_chosen_line(
+            handle,
+            &field.as_field(),
+            field.wish(),
+            chooser,
+            lines,
+            encoder_buf,
+        )?;
+    }
+    Ok(())
 }

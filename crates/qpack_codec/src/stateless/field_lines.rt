@@ -11,7 +11,7 @@ ghost use Rattle.qpack_base.specs.Writes.{Writes};
 ghost use Rattle.qpack_codec.specs.declared.error.EncoderError.TheVariants.{Memory};
 
 use crate::encoder::AsField;
-use crate::encoder::room::for_memory;
+use crate::encoder::fields::for_memory;
 use crate::error::EncoderError;
 use qpack_base::coding::NoMemory;
 use qpack_base::field::FieldLine;

@@ -2,7 +2,7 @@ use Rattle.std.proofs.Common.{◌≡◌, length}
 use Rattle.qpack_spec.specs.Instruction.{decoder_instruction_form}
 use Rattle.qpack_spec.specs.Table.{apply_decoder_instruction}
 use Rattle.qpack_codec.specs.Hearing.{StopsHearing}
-use Rattle.qpack_codec.proofs.encoder.instructions.take_instructions.Given as goal
+use Rattle.qpack_codec.proofs.encoder.take_instructions.Given as goal
 use Rattle.qpack_codec.proofs.Taking.{HasTaken}
 
 abbrev pub invariant-loop : goal.invariant-loop

@@ -5,7 +5,7 @@ use Rattle.qpack_codec.proofs.AddedFields.{adds_none, adds_next, stops_next}
 use Rattle.qpack_codec.proofs.WrittenBlocks.{take-append_front}
 use Rattle.qpack_codec.proofs.Stills.{still_next, longer_written}
 use Rattle.qpack_codec.proofs.InstructionsRoom.{grows_none, grows_next, grows_front}
-use Rattle.qpack_codec.proofs.encoder.block.append_fields.Goals as goal
+use Rattle.qpack_codec.proofs.encoder.sections.append_fields.Goals as goal
 
 pub loop-field-init : goal.loop-field-init
 loop-field-init g c =

@@ -1,6 +1,6 @@
 use Rattle.std.proofs.Common.{◌≡◌, length}
 use Rattle.qpack_codec.proofs.Turns.{turned}
-use Rattle.qpack_codec.proofs.encoder.block.move_to_front.Given as goal
+use Rattle.qpack_codec.proofs.encoder.sections.move_to_front.Given as goal
 
 abbrev pub invariant-loop : goal.invariant-loop
 invariant-loop l = record {

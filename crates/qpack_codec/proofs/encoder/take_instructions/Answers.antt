@@ -3,7 +3,7 @@ use Rattle.std.proofs.lemmas.Result.{err_from_is_err_and}
 use Rattle.qpack_spec.specs.Instruction.{decoder_instruction_form}
 use Rattle.qpack_spec.specs.Table.{apply_decoder_instruction}
 use Rattle.qpack_codec.specs.Hearing.{StopsHearing}
-use Rattle.qpack_codec.proofs.encoder.instructions.take_instructions.Goals as goal
+use Rattle.qpack_codec.proofs.encoder.take_instructions.Goals as goal
 use Rattle.qpack_codec.proofs.Taking.{taken_none, taken_more, taken_all, taken_until, one_was, one_shortens}
 
 pub loop-init : goal.loop-init

@@ -1,6 +1,6 @@
 use Rattle.std.proofs.Common.{◌∙◌, arith}
 use Rattle.qpack_codec.proofs.Turns.{turned_more}
-use Rattle.qpack_codec.proofs.encoder.block.move_to_front.Goals as goal
+use Rattle.qpack_codec.proofs.encoder.sections.move_to_front.Goals as goal
 
 pub loop-preserved : goal.loop-preserved
 loop-preserved c = record {

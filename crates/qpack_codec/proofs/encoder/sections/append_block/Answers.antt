@@ -3,7 +3,7 @@ use Rattle.std.proofs.lemmas.Result.{err_from_is_err_and}
 use Rattle.qpack_codec.proofs.DraftedBlocks.{drafts_block, gives_up, gives_up_all}
 use Rattle.qpack_codec.proofs.ReferencedRoom.{room_referenced}
 use Rattle.qpack_codec.proofs.Stills.{still_next}
-use Rattle.qpack_codec.proofs.encoder.block.append_block.Goals as goal
+use Rattle.qpack_codec.proofs.encoder.sections.append_block.Goals as goal
 
 pub returns-in_err-append_fields-clause-err : goal.returns-in_err-append_fields-clause-err
 returns-in_err-append_fields-clause-err g c =
@@ -18,7 +18,7 @@ new-prefix-requires-clause-room g c _ some =
     room_referenced c.agreed_max-max.result c.args.handle.now.base c.args.handle.now.table.now
     (map g.H.AsField.line c.args.fields.now) c.append_fields.new.handle.table.now c.requires.begins
     c.agreed_max-max.ensures.most c.agreed_max-max.ensures.fits c.in_ok-append_fields.ensures.ok.table
-    (omega (arith, some, c.required_insert_count-required.ensures.exact))
+    (omega (arith, some, c.required_insert_count-count.ensures.exact))
 
 pub returns-in_err-put_in_front-clause-err : goal.returns-in_err-put_in_front-clause-err
 returns-in_err-put_in_front-clause-err g c =
@@ -35,9 +35,9 @@ returns-clause-ok g c =
     drafts_block c.args.handle.now.table.now c.args.handle.now.base (map g.H.AsField.line c.args.fields.now)
     c.append_fields.new.handle.table.now c.args.block.now.items c.append_fields.new.lines.items
     c.put_in_front.new.block.items c.args.encoder_buf.now.items c.append_fields.new.encoder_buf.items
-    c.len-len.result c.required_insert_count-required.result c.agreed_max-max.result c.base.result _
+    c.len-len.result c.required_insert_count-count.result c.agreed_max-max.result c.base.result _
     c.requires.begins c.requires.base c.in_ok-append_fields.ensures.ok
-    (omega (arith, c.len-len.ensures, c.args.block.now.ok.0)) c.required_insert_count-required.ensures.exact
+    (omega (arith, c.len-len.ensures, c.args.block.now.ok.0)) c.required_insert_count-count.ensures.exact
     c.agreed_max-max.ensures.exact (c.base.ensures ∙ c.append_fields.ensures.base) c.new-prefix.ensures
     c.in_ok-put_in_front.ensures.ok
 

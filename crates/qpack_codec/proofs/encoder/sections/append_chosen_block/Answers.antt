@@ -3,7 +3,7 @@ use Rattle.std.proofs.lemmas.Result.{err_from_is_err_and}
 use Rattle.qpack_codec.proofs.ChosenBlocks.{drafts_along, gives_up_chosen, gives_up_all_chosen}
 use Rattle.qpack_codec.proofs.ChosenRoom.{room_chosen}
 use Rattle.qpack_codec.proofs.Stills.{still_next}
-use Rattle.qpack_codec.proofs.encoder.chosen_block.append_chosen_block.Goals as goal
+use Rattle.qpack_codec.proofs.encoder.sections.append_chosen_block.Goals as goal
 
 pub returns-in_err-append_chosen_fields-clause-err : goal.returns-in_err-append_chosen_fields-clause-err
 returns-in_err-append_chosen_fields-clause-err g c =

@@ -1,6 +1,6 @@
 use Rattle.std.proofs.Common.{◌∙◌, arith}
 use Rattle.qpack_codec.proofs.Rooms.{capacity_most, no_err}
-use Rattle.qpack_codec.proofs.encoder.capacity.set_dynamic_table_size.Goals as goal
+use Rattle.qpack_codec.proofs.encoder.sections.set_dynamic_table_size.Goals as goal
 
 pub returns-in_err-encode-clause-sets : goal.returns-in_err-encode-clause-sets
 returns-in_err-encode-clause-sets g c =

@@ -2,7 +2,7 @@ use Rattle.std.proofs.Common.{refl}
 use Rattle.std.proofs.lemmas.Result.{err_from_is_err_and}
 use Rattle.qpack_wire.specs.StreamLines.{decoder_instruction_of}
 use Rattle.qpack_codec.proofs.Hearing.{line_refused, no_line, unread, found_line, stops_at_table}
-use Rattle.qpack_codec.proofs.encoder.instructions.take_instruction.Goals as goal
+use Rattle.qpack_codec.proofs.encoder.take_instruction.Goals as goal
 
 pub returns-in_err-line-clause-hears : goal.returns-in_err-line-clause-hears
 returns-in_err-line-clause-hears c =

@@ -7,7 +7,7 @@ use Rattle.qpack_codec.proofs.ChosenFields.{along_none, along_next, stops_chosen
 use Rattle.qpack_codec.proofs.WrittenBlocks.{take-append_front}
 use Rattle.qpack_codec.proofs.Stills.{still_next, longer_written}
 use Rattle.qpack_codec.proofs.InstructionsRoom.{grows_none, grows_next, grows_front}
-use Rattle.qpack_codec.proofs.encoder.chosen_block.append_chosen_fields.Goals as goal
+use Rattle.qpack_codec.proofs.encoder.sections.append_chosen_fields.Goals as goal
 
 pub loop-field-init : goal.loop-field-init
 loop-field-init g c =
