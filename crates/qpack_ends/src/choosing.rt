@@ -9,19 +9,10 @@ ghost use Rattle.qpack_codec.specs.declared.encoder.choices.Choice.TheVariants.{
 ghost use Rattle.qpack_codec.specs.declared.encoder.choices.Wish.TheVariants.{Insert as Asked, Reuse as Reused};
 ghost use Rattle.qpack_ends.specs.Wishes.{KeepsWish, by_wish};
 
-use crate::choosing::copies::Copies;
-use crate::choosing::draining::Draining;
-use crate::choosing::history::History;
-use crate::choosing::names::NameCredit;
 use qpack_base::field::FieldLine;
 use qpack_codec::encoder::{Choice, Chooses, Wish};
 use qpack_table::dynamic::{DynamicTableEncoder, SoughtField};
-use std::alloc::Global;
-
-mod copies;
-mod draining;
-mod history;
-mod names;
+use std::alloc::{AllocError, Global};
 
 /// After an insertion found no room, draining entries are not referenced for this many sections.
 const SECTIONS_WITHOUT_ROOM: u8 = 16;
@@ -243,4 +234,226 @@ impl Chooses for Chooser {
 fn leaves_room(block: &DynamicTableEncoder<'_>, field: &FieldLine<'_>) -> bool {
     block.is_below_limit()
         && block.used().saturating_add(field.mem_size()) <= block.max_size() / 4 * 3
+}
+
+/// Which entries drain: the oldest, which are to be evicted next (RFC 9204, section 2.1.1.1).
+///
+/// The entries that drain: the free bytes and the entries older than one of them are less than a quarter of the capacity.
+/// It moves forward only, until the capacity changes.
+#[derive(Debug, Drop)]
+struct Draining {
+    /// The absolute index of the newest entry that drains, or of one that was evicted.
+    newest: usize,
+    /// The sizes of the live entries after that one, in bytes, as of `inserted` insertions.
+    rest: usize,
+    inserted: usize,
+    /// The capacity, in bytes.
+    capacity: usize,
+}
+
+impl Draining {
+    /// Returns a state in which no entry drains.
+    fn new() -> Draining {
+        Draining {
+            newest: 0,
+            rest: 0,
+            inserted: 0,
+            capacity: 0,
+        }
+    }
+
+    /// Returns whether an entry drains.
+    fn contains(&self, entry: usize) -> bool {
+        entry <= self.newest
+    }
+
+    /// Notes which entries drain when a section begins.
+    fn advance(&mut self, block: &DynamicTableEncoder<'_>) {
+        self.count(block);
+        let most = self.capacity - self.capacity / 4;
+        for entry in self.newest..self.inserted {
+            if self.rest <= most {
+                return;
+            }
+            let entry = entry.saturating_add(1);
+            let size = block.entry_size(entry).unwrap_or(0);
+            self.rest = self.rest.saturating_sub(size);
+            self.newest = entry;
+        }
+    }
+
+    /// Counts the entries that were inserted since, and passes those that were evicted.
+    fn count(&mut self, block: &DynamicTableEncoder<'_>) {
+        let (inserted, dropped, capacity) = (
+            block.total_inserted(),
+            block.total_dropped(),
+            block.max_size(),
+        );
+        if self.newest <= dropped || self.capacity != capacity {
+            self.newest = dropped;
+            self.rest = block.used();
+        } else {
+            for entry in self.inserted..inserted {
+                let size = block.entry_size(entry.saturating_add(1)).unwrap_or(0);
+                self.rest = self.rest.saturating_add(size);
+            }
+        }
+        self.inserted = inserted;
+        self.capacity = capacity;
+    }
+}
+
+/// How many copies are remembered.
+const MOST_COPIES: usize = 16;
+
+/// Two equal entries, by their absolute indexes.
+#[derive(Debug, Clone, Copy, Drop)]
+struct Pair {
+    copy: usize,
+    original: usize,
+}
+
+/// The latest copies of draining entries, the latest first; 0 for none. Until the decoder is known to have received a
+/// copy, its original may be referenced.
+#[derive(Debug, Drop)]
+struct Copies {
+    latest: [Pair; MOST_COPIES],
+}
+
+impl Copies {
+    /// Returns a memory of no copies.
+    fn new() -> Copies {
+        let none = Pair {
+            copy: 0,
+            original: 0,
+        };
+        Copies {
+            latest: [none; MOST_COPIES],
+        }
+    }
+
+    /// Notes that an entry is inserted as a copy of another.
+    fn note(&mut self, copy: usize, original: usize) {
+        self.latest.rotate_right(1);
+        self.latest[0] = Pair { copy, original };
+    }
+
+    /// Returns the entry that one is a copy of, if that is remembered.
+    fn original_of(&self, copy: usize) -> Option<usize> {
+        let pair = self.latest.iter().find(|pair| pair.copy == copy)?;
+        Some(pair.original)
+    }
+}
+
+/// How many tags a set holds.
+const WAYS: usize = 4;
+
+/// The bytes of capacity for each tag.
+const BYTES_A_TAG: usize = 128;
+
+/// The least and the greatest number of sets.
+const LEAST_SETS: usize = 4;
+
+const MOST_SETS: usize = 64;
+
+/// The fields that were seen lately and not referenced: one that comes again is worth an entry.
+///
+/// Tags of 16 bits of the fields that were seen lately, in sets of four, each set from the latest to the oldest. A field
+/// that was not seen may have the tag of one that was.
+#[derive(Debug, Drop)]
+struct History {
+    tags: Vec<u16>,
+}
+
+impl History {
+    /// Returns a history that keeps nothing yet.
+    fn new(alloc: Global) -> History {
+        History {
+            tags: Vec::new(alloc),
+        }
+    }
+
+    /// Makes it as large as a capacity asks for. If memory is refused it does not change.
+    fn fit(&mut self, capacity: usize) {
+        let sets = (capacity / (BYTES_A_TAG * WAYS)).clamp(LEAST_SETS, MOST_SETS);
+        if self.tags.len() != sets * WAYS {
+            let _ = self.resize(sets * WAYS);
+        }
+    }
+
+    fn resize(&mut self, len: usize) -> Result<(), AllocError> {
+        self.tags.truncate(len);
+        for _ in self.tags.len()..len {
+            self.tags.push(0)?;
+        }
+        Ok(())
+    }
+
+    /// Returns whether a field of this hash was seen lately, and keeps that it was seen.
+    fn see(&mut self, hash: u32) -> bool {
+        let sets = self.tags.len() / WAYS;
+        if sets == 0 {
+            return false;
+        }
+        let hash = hash as usize;
+        let first = hash % sets * WAYS;
+        let tag = (hash / sets & 0xffff) as u16 | 1;
+        let set = &mut self.tags[first..first + WAYS];
+        if set.contains(&tag) {
+            return true;
+        }
+        set.rotate_right(1);
+        set[0] = tag;
+        false
+    }
+}
+
+/// The most fields that may be inserted for their names before one of them is referenced.
+const MOST_FOR_NAMES: u8 = 4;
+
+/// The first reference to such an entry allows this many more.
+const GAIN: u8 = 2;
+
+/// The number of such entries that are watched for their first reference.
+const WATCHED: usize = 8;
+
+/// How many more fields may be inserted for their names alone: a few at first, and more once their names are used.
+#[derive(Debug, Drop)]
+struct NameCredit {
+    left: u8,
+    /// The absolute indexes of the latest entries that were inserted so and not referenced since, the latest first; 0
+    /// for none.
+    watched: [usize; WATCHED],
+}
+
+impl NameCredit {
+    /// Returns the credit of a new connection.
+    fn new() -> NameCredit {
+        NameCredit {
+            left: MOST_FOR_NAMES,
+            watched: [0; WATCHED],
+        }
+    }
+
+    /// Returns whether one more field may be inserted.
+    fn is_left(&self) -> bool {
+        self.left > 0
+    }
+
+    /// Notes that an entry is inserted for its name.
+    fn spend(&mut self, entry: usize) {
+        self.left = self.left.saturating_sub(1);
+        self.watched.rotate_right(1);
+        self.watched[0] = entry;
+    }
+
+    /// Notes that an entry is referenced, by an equal field or for its name.
+    fn note_reference(&mut self, entry: usize) {
+        for watched in &mut self.watched {
+            if *watched == entry {
+                *watched = 0;
+                self.left = self.left.saturating_add(GAIN).min(MOST_FOR_NAMES);
+            }
+        }
+    }
 }

@@ -1,21 +1,18 @@
 //! The decoder stream as a strict encoder receives it: each byte once, cut anywhere (RFC 9204, section 4.4).
 
-ghost use Rattle.std.specs.Prelude.{◌≡◌, ℕ, [], ◌∷◌, ◌++◌, ◌<◌, ◌+◌, List, Ok, false, length, nat_lt};
+ghost use Rattle.std.specs.Prelude.{◌≡◌, ℕ, [], ◌∷◌, ◌++◌, ◌<◌, ◌+◌, List, Ok, false, length, nat_lt, ◌≤◌};
 ghost use Rattle.qpack_spec.specs.Instruction.{DecoderInstruction, Acknowledgment, Increment};
 ghost use Rattle.qpack_spec.specs.Table.{insert_count, with_increment};
 ghost use Rattle.qpack_wire.specs.StreamLines.{decoder_instruction_of};
 ghost use Rattle.qpack_ends.specs.Hearing.{strict_hear, known_at_least, Applies, HearsNext, Receives};
 ghost use Rattle.qpack_ends.specs.Hearing.{decoder_stream_error, ReceivesMore};
 
-use crate::decoder_stream::pending::Pending;
 use crate::place::Place;
 use qpack_base::coding::Cursor;
 use qpack_table::dynamic::DynamicTable;
 use qpack_wire::stream::{DecoderLine, HeaderAck, InsertCountIncrement, StreamCancel, next_line};
 use std::marker::Model;
 use thiserror::Error;
-
-mod pending;
 
 /// QPACK_DECODER_STREAM_ERROR: the decoder stream can't be interpreted (RFC 9204, section 6).
 pub const DECODER_STREAM_ERROR: u64 = 0x202;
@@ -240,4 +237,59 @@ fn raise_to(table: &mut DynamicTable, count: usize)
 {
     let missing = count.saturating_sub(table.known_received_count());
     table.update_largest_received(missing);
+}
+
+/// The length limit of an instruction: an integer with nine further bytes (RFC 9204, section 4.1.1).
+const MOST_BYTES: usize = 10;
+
+/// The bytes of an instruction that is not whole, which lie in the value itself.
+#[derive(Debug, Drop)]
+struct Pending {
+    bytes: [u8; MOST_BYTES],
+    len: usize,
+}
+
+impl Model for Pending {
+    ghost use Rattle.std.specs.Prelude.{ℕ, List, ◌≤◌, take};
+
+    ghost Value = { List ℕ };
+
+    ghost view = { λ p. take p.len p.bytes };
+
+    ghost invariant = { λ p. p.len ≤ 10 };
+}
+
+impl Pending {
+    /// Returns an empty list of bytes.
+    fn new() -> Pending
+        ensures { result ≡ [] }
+    {
+        Pending {
+            bytes: [0; MOST_BYTES],
+            len: 0,
+        }
+    }
+
+    /// Returns the bytes.
+    fn as_slice(&self) -> &[u8]
+        ensures { result.now ≡ self.now }
+    {
+        &self.bytes[..self.len]
+    }
+
+    /// Appends a byte.
+    fn push(&mut self, byte: u8)
+        requires { length self.old < 10 }
+        ensures { self.new ≡ self.old ++ byte ∷ [] }
+    {
+        self.bytes[self.len] = byte;
+        self.len += 1;
+    }
+
+    /// Drops the bytes.
+    fn clear(&mut self)
+        ensures { self.new ≡ [] }
+    {
+        self.len = 0;
+    }
 }
