@@ -13,7 +13,7 @@ ghost use Rattle.qpack_wire.specs.Instructions.{decoder_instruction_of_header_ac
 ghost use Rattle.qpack_wire.specs.Instructions.{decoder_instruction_of_stream_cancel};
 
 use crate::form::read_number;
-use crate::stream::ends::or_none;
+use crate::stream::lines::or_none;
 use qpack_base::coding::{Cursor, NoMemory};
 use qpack_base::parse_error::ParseError;
 use qpack_base::prefix_int;

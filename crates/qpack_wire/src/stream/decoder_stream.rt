@@ -10,8 +10,7 @@ use crate::stream::decoder_instructions::{
     self, ACKNOWLEDGMENT, ACKNOWLEDGMENT_SIZE, CANCELLATION, CANCELLATION_SIZE, HeaderAck,
     InsertCountIncrement, StreamCancel,
 };
-use crate::stream::ends::or_none;
-use crate::stream::lines::Wire;
+use crate::stream::lines::{Wire, or_none};
 use qpack_base::coding::{Cursor, NoMemory};
 use qpack_base::parse_error::ParseError;
 use qpack_base::prefix_int;

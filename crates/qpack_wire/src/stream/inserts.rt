@@ -15,7 +15,7 @@ ghost use Rattle.qpack_wire.specs.Instructions.{encoder_instruction_of_insert_wi
 ghost use Rattle.qpack_wire.specs.Memory.{AsksForMemory, AsksAt};
 
 use crate::form::{VALUE_SIZE, put_index_and_value, put_name_and_value};
-use crate::stream::ends::or_none;
+use crate::stream::lines::or_none;
 use qpack_base::coding::Cursor;
 use qpack_base::parse_error::ParseError;
 use qpack_base::{prefix_int, prefix_string};

@@ -4,12 +4,13 @@ ghost use Rattle.std.specs.Prelude.{◌≡◌, ℕ, List, Result, Err};
 ghost use Rattle.qpack_base.specs.Writes.{Writes};
 ghost use Rattle.qpack_base.specs.declared.parse_error.ParseError.TheVariants.{Memory};
 ghost use Rattle.qpack_wire.specs.Alone.{KindFault};
-ghost use Rattle.qpack_wire.specs.StreamAnswers.{DecodesInstruction, StaysUnlessRead, ReadsStream};
+ghost use Rattle.qpack_wire.specs.StreamAnswers.{DecodesInstruction, StaysUnlessRead, ReadsStream, without_end};
 ghost use Rattle.qpack_wire.specs.WireLaws.{WrittenIsSpelled, WrittenIsReadBack, SpellingsHaveOneInstruction};
 ghost use Rattle.qpack_wire.specs.WireLaws.{NoInstructionBeginsAnother};
 
 use qpack_base::coding::{Cursor, NoMemory};
 use qpack_base::parse_error::ParseError;
+use qpack_base::{prefix_int, prefix_string};
 use std::alloc::{Allocator, Global};
 
 /// A line of a stream.
@@ -82,5 +83,17 @@ pub fn next_line<W: Wire>(alloc: Global, cursor: &mut Cursor) -> Result<Option<W
         }
         Ok(None) => Ok(None),
         Err(e) => Err(e),
+    }
+}
+
+/// Returns the result, with `None` in place of an early end: the rest of the line has not come yet.
+pub(crate) fn or_none<T: Drop>(answer: Result<T, ParseError>) -> Result<Option<T>, ParseError>
+    ensures { result ≡ without_end answer }
+{
+    match answer {
+        Ok(value) => Ok(Some(value)),
+        Err(ParseError::Integer(prefix_int::Error::UnexpectedEnd)) => Ok(None),
+        Err(ParseError::String(prefix_string::Error::UnexpectedEnd)) => Ok(None),
+        Err(error) => Err(error),
     }
 }

@@ -11,7 +11,7 @@ ghost use Rattle.qpack_wire.specs.Instructions.{duplicate, dynamic_table_size_up
 ghost use Rattle.qpack_wire.specs.Instructions.{encoder_instruction_of_dynamic_table_size_update};
 
 use crate::form::read_number;
-use crate::stream::ends::or_none;
+use crate::stream::lines::or_none;
 use qpack_base::coding::{Cursor, NoMemory};
 use qpack_base::parse_error::ParseError;
 use qpack_base::prefix_int;
