@@ -15,7 +15,7 @@ use Rattle.std.specs.declared.cmp.Ordering.TheVariants.{Less, Equal, Greater}
 use Rattle.qpack_spec.proofs.Lists.{every_weaker}
 use Rattle.qpack_table.specs.Commits.{at_order, in_order, AreNumbered, key_cmp}
 use Rattle.qpack_table.specs.BlockedBlocks.{BlockedKeys, numbered, counts_of, next_key, IsKeptBehind}
-use Rattle.qpack_table.specs.declared.dynamic.commits.CommitKey.{CommitKey}
+use Rattle.qpack_table.specs.declared.dynamic.open_blocks.CommitKey.{CommitKey}
 use Rattle.qpack_table.proofs.Commits.{key_exact, key_itself, last_in_order, length_in_order, numbered_more, one_more}
 use Rattle.qpack_table.proofs.Commits.{le_number, every_in_order}
 

@@ -16,7 +16,7 @@ use Rattle.std.specs.declared.cmp.Ordering.TheVariants.{Less, Equal, Greater}
 use Rattle.std.specs.Ordering.{nat_cmp, is_eq, is_gt, ordering_then, MatchOrdering}
 use Rattle.qpack_spec.proofs.Lists.{every_append, every_weaker}
 use Rattle.qpack_table.specs.Commits.{at_order, in_order, AreNumbered, IsOldest, HasNone, key_cmp}
-use Rattle.qpack_table.specs.declared.dynamic.commits.CommitKey.{CommitKey}
+use Rattle.qpack_table.specs.declared.dynamic.open_blocks.CommitKey.{CommitKey}
 
 -- ---- keys
 

@@ -15,7 +15,7 @@ use Rattle.qpack_spec.specs.Table.{without_oldest}
 use Rattle.qpack_table.specs.Tables.{references_in, IsTaken}
 use Rattle.qpack_table.specs.Commits.{at_order, in_order, AreNumbered, IsOldest, HasNone, key_cmp}
 use Rattle.qpack_table.specs.OpenBlocks.{block_of, blocks_of}
-use Rattle.qpack_table.specs.declared.dynamic.commits.CommitKey.{CommitKey}
+use Rattle.qpack_table.specs.declared.dynamic.open_blocks.CommitKey.{CommitKey}
 use Rattle.qpack_table.proofs.References.{times_append, references_append}
 use Rattle.qpack_table.proofs.Commits.{same_key, found_key, key_itself, others_left, later_left}
 use Rattle.qpack_table.proofs.Commits.{last_in_order, length_in_order, every_in_order}

@@ -3,7 +3,7 @@ use Rattle.std.specs.Prelude.{ℕ, List, map}
 use Rattle.std.specs.Global.{Vec}
 use Rattle.qpack_spec.specs.Table as table
 use Rattle.qpack_table.specs.Commits.{in_order}
-use Rattle.qpack_table.specs.declared.dynamic.commits.CommitKey.{CommitKey}
+use Rattle.qpack_table.specs.declared.dynamic.open_blocks.CommitKey.{CommitKey}
 
 -- a block that is found by its stream
 abbrev pub block_of : CommitKey × Vec ℕ → table.UnacknowledgedBlock

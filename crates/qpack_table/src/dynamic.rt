@@ -11,16 +11,13 @@ use std::alloc::{AllocError, AllocFailed};
 use thiserror::Error as ThisError;
 
 mod block;
-mod blocked_blocks;
 mod capacities;
-mod commits;
 mod encoder;
 mod entry;
 mod entry_index;
 mod growth;
 mod index;
 mod lookups;
-mod newest;
 mod open_blocks;
 mod sought;
 mod steps;

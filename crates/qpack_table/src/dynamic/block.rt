@@ -10,9 +10,8 @@ ghost use Rattle.qpack_spec.specs.Table.{commit};
 ghost use Rattle.qpack_table.specs.Handles.{Commits, OpensOrBlocks};
 
 use crate::dynamic::Error;
-use crate::dynamic::blocked_blocks::BlockedBlocks;
 use crate::dynamic::entry::{Entry, clear_references, lower_uses};
-use crate::dynamic::open_blocks::OpenBlocks;
+use crate::dynamic::open_blocks::{BlockedBlocks, OpenBlocks};
 use crate::dynamic::table::DynamicTable;
 use std::alloc::AllocError;
 use std::collections::VecDeque;

@@ -24,12 +24,11 @@ ghost use Rattle.qpack_table.specs.declared.dynamic.Error.TheVariants.{MaximumTa
 
 use crate::dynamic::Error;
 use crate::dynamic::block::make_room;
-use crate::dynamic::blocked_blocks::BlockedBlocks;
 use crate::dynamic::capacities::{Capacities, GREATEST_CAPACITY};
 use crate::dynamic::entry::{Entry, drop_oldest, replace_oldest};
 use crate::dynamic::entry_index::{EntryIndex, NoIndex};
 use crate::dynamic::index::{Hashes, Index};
-use crate::dynamic::open_blocks::OpenBlocks;
+use crate::dynamic::open_blocks::{BlockedBlocks, OpenBlocks};
 use crate::vas::VirtualAddressSpace;
 use qpack_base::field::{FieldLine, HeaderField};
 use std::alloc::{AllocError, Global};

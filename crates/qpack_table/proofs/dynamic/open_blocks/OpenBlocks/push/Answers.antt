@@ -1,7 +1,7 @@
 use Rattle.std.proofs.Common.{◌+◌, ◌∷◌, ◌++◌, [], List, refl, ap, ◌∙◌, arith}
 use Rattle.qpack_spec.specs.Table.{UnacknowledgedBlock}
 use Rattle.qpack_table.specs.OpenBlocks.{block_of}
-use Rattle.qpack_table.specs.declared.dynamic.commits.CommitKey.{CommitKey}
+use Rattle.qpack_table.specs.declared.dynamic.open_blocks.CommitKey.{CommitKey}
 use Rattle.qpack_table.proofs.Commits.{numbered_more}
 use Rattle.qpack_table.proofs.OpenBlocks.{pushed, few_blocks}
 use Rattle.qpack_table.proofs.dynamic.open_blocks.OpenBlocks.push.Goals as goal

@@ -1,7 +1,7 @@
 use Rattle.std.proofs.Common.{length, sym, ap, ◌∙◌}
 use Rattle.qpack_table.specs.BlockedBlocks.{BlockedKeys, counts_of}
 use Rattle.qpack_table.proofs.BlockedBlocks.{length_counts}
-use Rattle.qpack_table.proofs.dynamic.blocked_blocks.BlockedBlocks.len.Goals as goal
+use Rattle.qpack_table.proofs.dynamic.open_blocks.BlockedBlocks.len.Goals as goal
 
 pub returns : goal.returns
 returns c = c.len.ensures.len

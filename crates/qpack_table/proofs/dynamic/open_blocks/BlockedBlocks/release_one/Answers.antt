@@ -1,7 +1,7 @@
 use Rattle.std.proofs.Common.{arith}
 use Rattle.qpack_table.proofs.BlockedBlocks.{popped, one_released, numbered_released, one_fewer, none_covered}
 use Rattle.qpack_table.proofs.BlockedBlocks.{none_there, no_keys}
-use Rattle.qpack_table.proofs.dynamic.blocked_blocks.BlockedBlocks.release_one.Goals as goal
+use Rattle.qpack_table.proofs.dynamic.open_blocks.BlockedBlocks.release_one.Goals as goal
 
 pub returns-in_default-clause-none : goal.returns-in_default-clause-none
 returns-in_default-clause-none c is = rw (← c.self.view_is)

@@ -1,7 +1,7 @@
 use Rattle.std.proofs.Common.{refl, arith}
 use Rattle.qpack_table.specs.BlockedBlocks.{BlockedKeys, next_key}
 use Rattle.qpack_table.proofs.BlockedBlocks.{numbered_pushed, kept_behind, counts_pushed}
-use Rattle.qpack_table.proofs.dynamic.blocked_blocks.BlockedBlocks.push.Goals as goal
+use Rattle.qpack_table.proofs.dynamic.open_blocks.BlockedBlocks.push.Goals as goal
 
 pub invariant_of-self-2 : goal.invariant_of-self-2
 invariant_of-self-2 c =
