@@ -33,7 +33,7 @@ use Rattle.qpack_ends.specs.Decoders.{IsNotAnswered, StopsDecoding, Decodes}
 use Rattle.qpack_connection.specs.LawfulEncoders.{Encoder, IsLawful}
 use Rattle.qpack_ends.specs.Receiving.{Receives}
 use Rattle.qpack_connection.specs.RefinedDecodes.{AnswersSection, MayWait}
-use Rattle.qpack_ends.specs.declared.place.Place.{Place}
+use Rattle.qpack_ends.specs.declared.encoder_stream.Place.{Place}
 use Rattle.qpack_ends.specs.Receiving.{HasReceived}
 use Rattle.qpack_spec.specs.Form.{Truncates}
 use Rattle.qpack_spec.specs.LawfulEncoders.{IsLawfulEncoder}

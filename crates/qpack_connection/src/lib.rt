@@ -17,12 +17,13 @@ pub use qpack_ends::decoder_stream::{
     DECODER_STREAM_ERROR, DecoderStream, DecoderStreamError, HearingError,
 };
 pub use qpack_ends::encoder::{ConnectionEncoder, EncoderSettings, EncodingError};
-pub use qpack_ends::encoder_stream::{ENCODER_STREAM_ERROR, EncoderStream, EncoderStreamError};
+pub use qpack_ends::encoder_stream::{
+    ENCODER_STREAM_ERROR, EncoderStream, EncoderStreamError, Place,
+};
 pub use qpack_ends::field_section::{FieldSection, Fields};
-pub use qpack_ends::place::Place;
 pub use qpack_ends::section::{
     DECOMPRESSION_FAILED, LineError, Reading, SectionError, longest_section, read_section,
 };
 pub use qpack_ends::{
-    blocked, decoder, decoder_stream, encoder, encoder_stream, field_section, place, section,
+    blocked, decoder, decoder_stream, encoder, encoder_stream, field_section, section,
 };

@@ -6,7 +6,7 @@ use Rattle.qpack_codec.specs.declared.error.DecoderError.{DecoderError}
 use Rattle.qpack_codec.specs.declared.error.DecoderError.TheVariants as decoder
 use Rattle.qpack_ends.specs.Receiving.{bad_bytes, bad_instruction, no_capacity, too_large}
 use Rattle.qpack_ends.specs.Receiving.{Refuses, StopsStrictly, TakesAllStrictly, answer_at}
-use Rattle.qpack_ends.specs.declared.place.Place.{Place}
+use Rattle.qpack_ends.specs.declared.encoder_stream.Place.{Place}
 use Rattle.std.specs.Prelude.{⊤}
 use Rattle.qpack_ends.specs.Decoders.{stream_failure}
 use Rattle.qpack_ends.specs.declared.decoder.DecodingError.TheVariants as decoding

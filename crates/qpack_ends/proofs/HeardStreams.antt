@@ -21,7 +21,7 @@ use Rattle.qpack_ends.specs.Hearing.{bad_bytes, bad_instruction, StreamView, Sta
 use Rattle.qpack_ends.specs.Hearing.{HearsMore}
 use Rattle.qpack_ends.specs.Places.{first_place, passed, behind}
 use Rattle.qpack_ends.specs.declared.decoder_stream.DecoderStreamError.{DecoderStreamError}
-use Rattle.qpack_ends.specs.declared.place.Place.{Place}
+use Rattle.qpack_ends.specs.declared.encoder_stream.Place.{Place}
 use Rattle.qpack_ends.specs.declared.decoder_stream.HearingError.{HearingError}
 
 -- ---- what waits is short

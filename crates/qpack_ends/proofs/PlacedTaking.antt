@@ -8,7 +8,7 @@ use Rattle.qpack_spec.proofs.Taking.{joined_last, applied_last}
 use Rattle.qpack_codec.specs.Taking.{TakesOneOf, EndsTakingOf}
 use Rattle.qpack_codec.specs.declared.error.DecoderError.{DecoderError}
 use Rattle.qpack_ends.specs.Places.{first_place, passed}
-use Rattle.qpack_ends.specs.declared.place.Place.{Place}
+use Rattle.qpack_ends.specs.declared.encoder_stream.Place.{Place}
 use Rattle.qpack_ends.specs.Receiving.{strict_apply, StopsStrictly, PassesOne, TakesFrom, TakesNextStrictly}
 use Rattle.qpack_ends.specs.Receiving.{TakesAllStrictly, IsBehind}
 

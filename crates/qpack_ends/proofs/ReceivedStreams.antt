@@ -17,7 +17,7 @@ use Rattle.qpack_codec.specs.Receiving.{AsksToTake}
 use Rattle.qpack_codec.specs.declared.error.DecoderError.{DecoderError}
 use Rattle.qpack_codec.specs.declared.error.DecoderError.TheVariants.{Memory}
 use Rattle.qpack_ends.specs.Places.{first_place, passed, behind}
-use Rattle.qpack_ends.specs.declared.place.Place.{Place}
+use Rattle.qpack_ends.specs.declared.encoder_stream.Place.{Place}
 use Rattle.qpack_ends.specs.Receiving.{strict_apply, Refuses, StopsStrictly, TakesAllStrictly, MayGrow}
 use Rattle.qpack_ends.specs.Receiving.{bad_bytes, bad_instruction, no_capacity, too_large}
 use Rattle.qpack_ends.specs.Receiving.{StreamView, HasReceived, Receives, HasRefused, TakesUpTo, TakesFrom}

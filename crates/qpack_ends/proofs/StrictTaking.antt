@@ -10,7 +10,7 @@ use Rattle.qpack_codec.specs.Receiving.{Stops, no_memory, TakesNext}
 use Rattle.qpack_codec.specs.Receiving as decoder
 use Rattle.qpack_codec.specs.Taking.{EndsTakingOf}
 use Rattle.qpack_codec.specs.declared.error.DecoderError.{DecoderError}
-use Rattle.qpack_ends.specs.declared.place.Place.{Place}
+use Rattle.qpack_ends.specs.declared.encoder_stream.Place.{Place}
 use Rattle.qpack_ends.specs.Receiving.{inserts, strict_apply, begins_insertion, begins_unlawfully, bad_bytes}
 use Rattle.qpack_ends.specs.Receiving.{bad_instruction, StopsStrictly, TakesNextStrictly, TakesAllStrictly}
 

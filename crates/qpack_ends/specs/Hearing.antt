@@ -13,7 +13,7 @@ use Rattle.qpack_ends.specs.Places.{behind}
 use Rattle.qpack_ends.specs.declared.decoder_stream.DecoderStreamError.{DecoderStreamError}
 use Rattle.qpack_ends.specs.declared.decoder_stream.HearingError.{HearingError}
 use Rattle.qpack_ends.specs.declared.decoder_stream.HearingError.TheVariants as error
-use Rattle.qpack_ends.specs.declared.place.Place.{Place}
+use Rattle.qpack_ends.specs.declared.encoder_stream.Place.{Place}
 -- ---- one instruction
 
 -- what a strict encoder makes of an instruction, why it refuses one, and what it makes of some in turn

@@ -1,7 +1,7 @@
 -- Where instructions are on their stream (RFC 9204, section 4.2).
 use Rattle.std.specs.Prelude.{ℕ, ◌+◌, List, length}
 use Rattle.qpack_spec.specs.Stateless.{saturated_size}
-use Rattle.qpack_ends.specs.declared.place.Place.{Place}
+use Rattle.qpack_ends.specs.declared.encoder_stream.Place.{Place}
 
 -- the first instruction's place
 abbrev pub first_place : Place

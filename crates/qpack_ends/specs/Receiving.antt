@@ -16,7 +16,7 @@ use Rattle.qpack_codec.specs.Taking.{TakesNextOf, EndsTakingOf}
 use Rattle.qpack_codec.specs.declared.error.DecoderError.{DecoderError}
 use Rattle.qpack_codec.specs.declared.error.DecoderError.TheVariants as decoder
 use Rattle.qpack_ends.specs.Places.{first_place, passed, behind}
-use Rattle.qpack_ends.specs.declared.place.Place.{Place}
+use Rattle.qpack_ends.specs.declared.encoder_stream.Place.{Place}
 use Rattle.qpack_ends.specs.declared.encoder_stream.EncoderStreamError.{EncoderStreamError}
 use Rattle.qpack_ends.specs.declared.encoder_stream.EncoderStreamError.TheVariants.{Refused, Memory}
 -- ---- one instruction

@@ -18,9 +18,8 @@ ghost use Rattle.qpack_ends.specs.declared.decoder.DecodingError.TheVariants.{Me
 ghost use Rattle.qpack_ends.specs.declared.decoder.SettingsError.TheVariants.{CapacityTooLarge};
 
 use crate::blocked::{BlockedStream, BlockedStreams, NotBlocked};
-use crate::encoder_stream::{ENCODER_STREAM_ERROR, EncoderStream, EncoderStreamError};
+use crate::encoder_stream::{ENCODER_STREAM_ERROR, EncoderStream, EncoderStreamError, Place};
 use crate::field_section::FieldSection;
-use crate::place::Place;
 use crate::section::{DECOMPRESSION_FAILED, Reading, SectionError, read_section};
 use crate::unsent::Unsent;
 use qpack_base::coding::{Cursor, NoMemory};

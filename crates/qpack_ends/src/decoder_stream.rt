@@ -7,7 +7,7 @@ ghost use Rattle.qpack_wire.specs.StreamLines.{decoder_instruction_of};
 ghost use Rattle.qpack_ends.specs.Hearing.{strict_hear, known_at_least, Applies, HearsNext, Receives};
 ghost use Rattle.qpack_ends.specs.Hearing.{decoder_stream_error, ReceivesMore};
 
-use crate::place::Place;
+use crate::encoder_stream::Place;
 use qpack_base::coding::Cursor;
 use qpack_table::dynamic::DynamicTable;
 use qpack_wire::stream::{DecoderLine, HeaderAck, InsertCountIncrement, StreamCancel, next_line};

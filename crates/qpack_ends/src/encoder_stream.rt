@@ -1,6 +1,6 @@
 //! The encoder stream as a strict decoder receives it: each byte once, cut anywhere (RFC 9204, section 4.3).
 
-ghost use Rattle.std.specs.Prelude.{◌≡◌, ◌<◌, ◌≤◌, ℕ, [], ◌∷◌, List, length, Err, OnOk};
+ghost use Rattle.std.specs.Prelude.{◌≡◌, ◌<◌, ◌≤◌, ℕ, [], ◌∷◌, List, length, Err, OnOk, ◌+◌, ◌-◌, ◌^◌, min};
 ghost use Rattle.qpack_spec.specs.Form.{Truncates};
 ghost use Rattle.qpack_spec.specs.Instruction.{encoder_instruction_form};
 ghost use Rattle.qpack_spec.specs.Table.{Table, insert_count};
@@ -11,8 +11,8 @@ ghost use Rattle.qpack_ends.specs.Receiving.{stream_error_at, answer_at, stream_
 ghost use Rattle.qpack_table.specs.declared.dynamic.Error.TheVariants.{MaxTableSizeReached};
 ghost use Rattle.qpack_codec.specs.declared.error.DecoderError.TheVariants.{DynamicTable as DynamicTableError, Memory};
 ghost use Rattle.qpack_ends.specs.declared.encoder_stream.EncoderStreamError.TheVariants.{Memory as NoRoom};
+ghost use Rattle.qpack_ends.specs.Places.{first_place, passed};
 
-use crate::place::Place;
 use qpack_base::coding::Cursor;
 use qpack_codec::decoder::{DecoderError, take_instruction};
 use qpack_table::dynamic::{self, DynamicTable, EntryIndex};
@@ -312,4 +312,35 @@ fn does_not_fit() -> DecoderError
     ensures { result ≡ DynamicTableError MaxTableSizeReached }
 {
     DecoderError::DynamicTable(dynamic::Error::MaxTableSizeReached)
+}
+
+/// Where an instruction is on its stream. Both numbers saturate.
+#[derive(Clone, Copy, Debug, PartialEq, Eq, Drop)]
+pub struct Place {
+    /// The instruction's number, from 1.
+    pub number: u64,
+    /// Where it begins, in bytes from the stream's start.
+    pub offset: u64,
+}
+
+impl Place {
+    /// Returns the first instruction's place.
+    pub fn first() -> Place
+        ensures { result ≡ first_place }
+    {
+        Place {
+            number: 1,
+            offset: 0,
+        }
+    }
+
+    /// Returns the place after an instruction of this many bytes.
+    pub fn pass(self, len: usize) -> Place
+        ensures { result ≡ passed self 1 len }
+    {
+        Place {
+            number: self.number.saturating_add(1),
+            offset: self.offset.saturating_add(len as u64),
+        }
+    }
 }
