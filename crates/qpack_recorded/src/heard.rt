@@ -26,6 +26,20 @@ impl Sender {
         })
     }
 
+    /// Takes all lines, and returns how many sections are acknowledged or cancelled.
+    fn take_all(
+        &mut self,
+        alloc: Global,
+        lists: &[Vec<HeaderField>],
+        lines: &[Line],
+    ) -> Result<usize> {
+        for line in lines {
+            self.take(alloc, lists, line)?;
+        }
+        ensure!(self.encoded == lists.len(), "a list is not encoded");
+        Ok(self.encoded.saturating_sub(self.end.unacknowledged()))
+    }
+
     /// Writes what the server wrote, or receives what the browser wrote.
     fn take(&mut self, alloc: Global, lists: &[Vec<HeaderField>], line: &Line) -> Result<()> {
         match line.kind {
@@ -68,10 +82,5 @@ pub(crate) fn hold(
     max_capacity: usize,
     max_blocked: usize,
 ) -> Result<usize> {
-    let mut sender = Sender::new(alloc, max_capacity, max_blocked)?;
-    for line in lines {
-        sender.take(alloc, lists, line)?;
-    }
-    ensure!(sender.encoded == lists.len(), "a list is not encoded");
-    Ok(sender.encoded.saturating_sub(sender.end.unacknowledged()))
+    Sender::new(alloc, max_capacity, max_blocked)?.take_all(alloc, lists, lines)
 }

@@ -71,6 +71,15 @@ impl Judge {
         })
     }
 
+    /// Reads all lines, and returns how many sections were decoded.
+    fn read_all(&mut self, of: Recording<'_>) -> Result<usize> {
+        for line in of.lines {
+            self.read(of, line)?;
+        }
+        ensure!(self.decoded == of.lists.len(), "a list is not decoded");
+        Ok(self.decoded)
+    }
+
     /// Reads a line.
     fn read(&mut self, of: Recording<'_>, line: &Line) -> Result<()> {
         match line.kind {
@@ -150,10 +159,5 @@ impl Judge {
 
 /// Reads a recording, and returns how many sections it has.
 pub(crate) fn hold(alloc: Global, of: Recording<'_>) -> Result<usize> {
-    let mut judge = Judge::new(alloc, of.max_capacity)?;
-    for line in of.lines {
-        judge.read(of, line)?;
-    }
-    ensure!(judge.decoded == of.lists.len(), "a list is not decoded");
-    Ok(judge.decoded)
+    Judge::new(alloc, of.max_capacity)?.read_all(of)
 }

@@ -49,9 +49,18 @@ fn without_place(error: DecoderError) -> DecoderError {
 /// Returns whether `on_encoder_recv` takes a list. Fails if it differs from the plain reading.
 fn receives(alloc: Global, capacity: usize, bytes: &[u8]) -> Result<bool> {
     let mut decoder = Decoder::from(table(alloc, capacity)?);
+    is_received(&mut decoder, capacity, bytes, &mut Vec::new(alloc))
+}
+
+/// Does what `receives` does, by this decoder, which is of the same capacity. What it writes is appended.
+fn is_received(
+    decoder: &mut Decoder,
+    capacity: usize,
+    bytes: &[u8],
+    written: &mut Vec<u8>,
+) -> Result<bool> {
     let mut cursor = Cursor::new(bytes);
-    let mut written = Vec::new(alloc);
-    let answer = decoder.on_encoder_recv(&mut cursor, &mut written);
+    let answer = decoder.on_encoder_recv(&mut cursor, written);
     let outcome = Outcome {
         answer: answer.map_err(without_place),
         left: cursor.remaining(),
@@ -70,6 +79,11 @@ fn receives(alloc: Global, capacity: usize, bytes: &[u8]) -> Result<bool> {
 /// Returns whether `on_decoder_recv` takes a list, which leaves the table. Fails if it differs from the plain reading.
 fn hears(alloc: Global, capacity: usize, bytes: &[u8]) -> Result<bool> {
     let mut encoder = Encoder::from(table(alloc, capacity)?);
+    is_heard(&mut encoder, capacity, bytes)
+}
+
+/// Does what `hears` does, by this encoder, which is of the same capacity.
+fn is_heard(encoder: &mut Encoder, capacity: usize, bytes: &[u8]) -> Result<bool> {
     let mut cursor = Cursor::new(bytes);
     let answer = encoder.on_decoder_recv(&mut cursor);
     let outcome = (answer, cursor.remaining());
