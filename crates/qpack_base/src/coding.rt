@@ -190,7 +190,7 @@ impl<A: Allocator> BufMutExt for Vec<u8, A> {
 }
 
 /// Makes room for this many more bytes. If it is free already, nothing changes and no memory is taken.
-pub(crate) fn make_room<A: Allocator>(
+pub fn make_room<A: Allocator>(
     buf: &mut Vec<u8, A>,
     additional: usize,
 ) -> std::result::Result<(), NoMemory>

@@ -22,9 +22,9 @@ ghost use Rattle.qpack_codec.specs.Encoding.{draft_at, Adds, AddsLines, GrowsWit
 
 use crate::encoder::choices::{Choice, Chooses, Wish};
 use crate::encoder::fields::{
-    append_inserted, append_literal, instruction_room, make_room, write_instruction,
+    append_inserted, append_literal, instruction_room, write_instruction,
 };
-use qpack_base::coding::NoMemory;
+use qpack_base::coding::{NoMemory, make_room};
 use qpack_base::field::FieldLine;
 use qpack_base::static_::{StaticMatch, StaticTable};
 use qpack_table::dynamic::{DynamicLookupResult, DynamicTableEncoder, SoughtField};

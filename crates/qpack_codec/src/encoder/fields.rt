@@ -2,7 +2,7 @@
 //! 2.1).
 
 ghost use Rattle.std.specs.Prelude.{◌≡◌, ◌*◌, ◌≤◌, [], ◌∷◌, false, None, length, take, IfErr, OnOk, OnErr, vec_len};
-ghost use Rattle.std.specs.Prelude.{vec_capacity, ◌+◌, IsOk};
+ghost use Rattle.std.specs.Prelude.{vec_capacity};
 ghost use Rattle.qpack_spec.specs.Field.{field_size};
 ghost use Rattle.qpack_spec.specs.Handle.{Insertion, insert_field, with_insertion, with_found, find_field};
 ghost use Rattle.qpack_spec.specs.Handle.{line_of as line_of_insertion, literal_at};
@@ -14,7 +14,7 @@ ghost use Rattle.qpack_table.specs.Handles.{insertion_of, lookup_of, IsFoundIn};
 ghost use Rattle.qpack_codec.specs.Encoding.{written_insertion, draft_at, draft_of_field, Adds, GrowsWithin, StopsAdding};
 ghost use Rattle.qpack_codec.specs.Encoding.{draft_of_line, AddsLines, AreAlike};
 
-use qpack_base::coding::NoMemory;
+use qpack_base::coding::{NoMemory, make_room};
 use qpack_base::field::FieldLine;
 use qpack_base::prefix_string;
 use qpack_base::static_::{StaticMatch, StaticTable};
@@ -253,25 +253,6 @@ pub(super) fn append_literal<A: Allocator>(
             for_memory(Literal::write_marked(field.name, value, never_indexed, buf))
         }
     }
-}
-
-/// Makes room for this many more bytes. If it is free already, nothing changes and no memory is taken.
-pub(super) fn make_room<A: Allocator>(
-    buf: &mut Vec<u8, A>,
-    additional: usize,
-) -> Result<(), NoMemory>
-    ensures items { buf.new.items ≡ buf.old.items }
-    ensures len { vec_len buf.new ≡ vec_len buf.old }
-    ensures ok { OnOk result (vec_len buf.new + additional ≤ vec_capacity buf.new) }
-    ensures succeeds { vec_len buf.old + additional ≤ vec_capacity buf.old → IsOk result }
-    ensures still { vec_len buf.old + additional ≤ vec_capacity buf.old → vec_capacity buf.new ≡ vec_capacity buf.old }
-    ensures capacity { vec_capacity buf.old ≤ vec_capacity buf.new }
-{
-    if additional <= buf.capacity().saturating_sub(buf.len()) {
-        return Ok(());
-    }
-    buf.reserve(additional)?;
-    Ok(())
 }
 
 /// Returns the result of a writer that fails only for memory, with an error that fits a register.

@@ -18,10 +18,10 @@ ghost use Rattle.qpack_wire.specs.Prefixes.{prefix_of};
 
 use crate::encoder::choices::{AsField, Chooses};
 use crate::encoder::chosen_fields::append_chosen_line;
-use crate::encoder::fields::{append_field_line, make_room};
+use crate::encoder::fields::append_field_line;
 use crate::error::EncoderError;
 use crate::stateless::field_lines::append_section;
-use qpack_base::coding::NoMemory;
+use qpack_base::coding::{NoMemory, make_room};
 use qpack_table::dynamic::{DynamicTable, DynamicTableEncoder};
 use qpack_wire::block::HeaderPrefix;
 use qpack_wire::stream::DynamicTableSizeUpdate;
