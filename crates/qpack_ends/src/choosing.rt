@@ -238,8 +238,8 @@ fn leaves_room(block: &DynamicTableEncoder<'_>, field: &FieldLine<'_>) -> bool {
 
 /// Which entries drain: the oldest, which are to be evicted next (RFC 9204, section 2.1.1.1).
 ///
-/// The entries that drain: the free bytes and the entries older than one of them are less than a quarter of the capacity.
-/// It moves forward only, until the capacity changes.
+/// An entry drains if the free bytes and the entries older than it are less than a quarter of the capacity. The newest
+/// that drains moves forward only, until the capacity changes.
 #[derive(Debug, Drop)]
 struct Draining {
     /// The absolute index of the newest entry that drains, or of one that was evicted.

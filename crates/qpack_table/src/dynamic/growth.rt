@@ -1,5 +1,5 @@
-//! How much room the vectors and deques of a table make where they have none. Each grows by half, from a first size of
-//! its own. So no two of them grow for the same entry, except for the first.
+//! How much room a table makes for entries, and its index for hashes and rows, where they have none. Each of the three
+//! grows by half, from a first size of its own. So no two of them grow for the same entry, except for the first.
 
 ghost use Rattle.std.specs.Prelude.{◌≡◌, ◌+◌, ◌/◌, ◌<◌, ◌≤◌, max, length, OnOk, OnErr, IsOk};
 ghost use Rattle.std.specs.VecDeque.{deque_capacity};

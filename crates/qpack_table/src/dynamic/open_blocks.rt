@@ -20,8 +20,8 @@ pub(super) struct CommitKey {
     pub(super) order: u64,
 }
 
-/// The number of blocks at which no more are opened.
-const MOST_BLOCKS: u64 = 1 << 62;
+/// The number of commits at which no more are kept.
+const MOST_COMMITS: u64 = 1 << 62;
 
 /// The blocks that are to be acknowledged, in the order of their commits.
 #[derive(Debug, Drop)]
@@ -93,7 +93,7 @@ impl OpenBlocks {
         ensures err { OnErr result (self.new ≡ self.old) }
     {
         let order = self.opened;
-        if order >= MOST_BLOCKS {
+        if order >= MOST_COMMITS {
             return Err(AllocError);
         }
         let key = CommitKey {
@@ -125,9 +125,6 @@ fn oldest_entry(
         None
     }
 }
-
-/// The number of blocks at which no more are kept.
-const MOST_BLOCKED: u64 = 1 << 62;
 
 /// The required insert counts of blocks that may be blocked, in the order of their commits.
 #[derive(Debug, Drop)]
@@ -176,7 +173,7 @@ impl BlockedBlocks {
         ensures err { OnErr result (self.new ≡ self.old) }
     {
         let order = self.kept;
-        if order >= MOST_BLOCKED {
+        if order >= MOST_COMMITS {
             return Err(AllocError);
         }
         let key = CommitKey {
