@@ -1,8 +1,9 @@
-/* bench CORPUS ROUNDS [CAPACITY [UNTIMED]]: ns a field across the boundary, this library and nghttp3 in turn in one
- * run over the corpus, the least of so many rounds, less what the clock takes; the same, of a fiftieth of the rounds,
- * with a table of 30,000 entries; and ns of calls that do nothing. Each list is on a stream of its own, and
+/* bench CORPUS ROUNDS [CAPACITY [UNTIMED [COLD]]]: ns a field across the boundary, this library and nghttp3 in turn in
+ * one run over the corpus, the least of so many rounds, less what the clock takes; the same, of a fiftieth of the
+ * rounds, with a table of 30,000 entries; and ns of calls that do nothing. Each list is on a stream of its own, and
  * acknowledged. Of both, what is decoded is copied to memory of the caller. With a capacity the lists are timed at that
- * one alone, but for the first of them, as many as UNTIMED says. */
+ * one alone, but for the first of them, as many as UNTIMED says. COLD is how many KiB of other memory are written after
+ * each phase, so that the next one finds little in the caches. */
 #include "tests/common.h"
 
 static uint8_t section[1 << 16], stream[1 << 16], bytes[1 << 16];
@@ -34,10 +35,25 @@ static void measure_clock(void) {
   }
 }
 
-/* Adds the time since |*since|, less what the look at the clock takes, to a phase, which ends now, as the next begins. */
+/* Memory that neither library uses, and how much of it is written after a phase. */
+static uint8_t *other;
+static size_t other_len;
+
+/* Writes a byte of each line of the other memory, which takes the place of what the caches held. */
+static void write_other_memory(void) {
+  volatile uint8_t *byte = other;
+  for (size_t i = 0; i < other_len; i += 64) byte[i]++;
+}
+
+/* Adds the time since |*since|, less what the look at the clock takes, to a phase, which ends now. The next begins when
+ * the other memory is written. */
 static void end_phase(times *t, int phase, double *since) {
   double until = now();
   t->phase[phase] += until - *since - clock_cost;
+  if (other_len) {
+    write_other_memory();
+    until = now();
+  }
   *since = until;
 }
 
@@ -275,11 +291,15 @@ static void compare_file(size_t capacity, size_t untimed, int rounds) {
 }
 
 int main(int argc, char **argv) {
-  CHECK(argc >= 3 && argc <= 5);
+  CHECK(argc >= 3 && argc <= 6);
   read_corpus(argv[1], 0);
   int rounds = atoi(argv[2]);
   ncounted = nfields;
   measure_clock();
+  if (argc > 5) {
+    other_len = strtoull(argv[5], NULL, 10) << 10;
+    CHECK(other = calloc(1, other_len));
+  }
   printf("a look at the clock takes %.0f ns, which are taken off\n", clock_cost);
   if (argc > 3) {
     compare_file(strtoull(argv[3], NULL, 10), argc > 4 ? strtoull(argv[4], NULL, 10) : 0, rounds);
