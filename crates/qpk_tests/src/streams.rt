@@ -2,7 +2,7 @@
 
 use crate::running::{REFUSED_MEMORY, REFUSED_OUTPUT, USAGE, wants_memory, words};
 use qpk::serve::serve;
-use std::alloc::Global;
+use std::alloc::{AllocError, Global};
 use std::io::{self, Cursor, ErrorKind, Read, Write};
 use std::test::Fail;
 
@@ -107,19 +107,26 @@ const REFUSED: [Run; 5] = [
     ("encode decode", "", "", USAGE),
 ];
 
-/// Runs a command on writers with room for this many bytes.
+/// Runs a command on an output and faults, and returns its status.
 fn run_on(
     alloc: Global,
     (line, input, ..): Run,
-    room: usize,
-    told: usize,
-) -> Result<(u8, NarrowWriter, NarrowWriter), Fail> {
+    out: &mut NarrowWriter,
+    faults: &mut NarrowWriter,
+) -> Result<u8, AllocError> {
     let words = words(alloc, line)?;
-    let mut out = NarrowWriter::new(room);
-    let mut faults = NarrowWriter::new(told);
-    let mut input = Cursor::new(input.as_bytes());
-    let status = serve(alloc, &words, &mut input, &mut out, &mut faults);
-    Ok((status, out, faults))
+    Ok(serve(
+        alloc,
+        &words,
+        &mut Cursor::new(input.as_bytes()),
+        out,
+        faults,
+    ))
+}
+
+/// Returns the first bytes of a text, or all if it has no more.
+fn front(text: &str, len: usize) -> &[u8] {
+    text.as_bytes().get(..len).unwrap_or(text.as_bytes())
 }
 
 // An output that is closed, or full before everything is written, gets a front of it.
@@ -127,10 +134,10 @@ fn run_on(
 fn an_output_that_fails_is_told(rt: HostRuntime) -> Result<(), Fail> {
     for case in ANSWERED {
         for room in 0..case.2.len() {
-            let (status, out, faults) = run_on(rt.alloc(), case, room, 64)?;
-            assert_eq!(rt; status, 1);
+            let (mut out, mut faults) = (NarrowWriter::new(room), NarrowWriter::new(64));
+            assert_eq!(rt; run_on(rt.alloc(), case, &mut out, &mut faults)?, 1);
             if faults.taken() != REFUSED_MEMORY.as_bytes() {
-                assert_eq!(rt; out.taken(), case.2.as_bytes().get(..room).unwrap_or(b""));
+                assert_eq!(rt; out.taken(), front(case.2, room));
                 assert_eq!(rt; faults.taken(), REFUSED_OUTPUT.as_bytes());
             }
         }
@@ -143,12 +150,11 @@ fn an_output_that_fails_is_told(rt: HostRuntime) -> Result<(), Fail> {
 fn faults_that_can_not_be_written_are_passed_over(rt: HostRuntime) -> Result<(), Fail> {
     for case in REFUSED {
         for room in 0..100 {
-            let (status, out, faults) = run_on(rt.alloc(), case, 64, room)?;
-            assert_eq!(rt; status, 1);
-            assert_eq!(rt; out.taken(), b"".as_slice());
-            let line = case.3.as_bytes();
+            let (mut out, mut faults) = (NarrowWriter::new(64), NarrowWriter::new(room));
+            assert_eq!(rt; run_on(rt.alloc(), case, &mut out, &mut faults)?, 1);
+            assert!(rt; out.taken().is_empty());
             if !REFUSED_MEMORY.as_bytes().starts_with(faults.taken()) {
-                assert_eq!(rt; faults.taken(), line.get(..room).unwrap_or(line));
+                assert_eq!(rt; faults.taken(), front(case.3, room));
             }
         }
     }
@@ -159,29 +165,25 @@ fn faults_that_can_not_be_written_are_passed_over(rt: HostRuntime) -> Result<(),
 #[test]
 fn closed_faults_do_not_matter_to_an_answer(rt: HostRuntime) -> Result<(), Fail> {
     for case in ANSWERED {
-        let (status, out, faults) = run_on(rt.alloc(), case, 64, 0)?;
-        assert_eq!(rt; faults.taken(), b"".as_slice());
-        if status == 0 {
-            assert_eq!(rt; out.taken(), case.2.as_bytes());
-        } else {
-            assert_eq!(rt; out.taken(), b"".as_slice());
-        }
+        let (mut out, mut faults) = (NarrowWriter::new(64), NarrowWriter::new(0));
+        let status = run_on(rt.alloc(), case, &mut out, &mut faults)?;
+        let expected = if status == 0 { case.2 } else { "" };
+        assert!(rt; faults.taken().is_empty());
+        assert_eq!(rt; out.taken(), expected.as_bytes());
     }
     Ok(())
 }
 
+const LISTS: Run = ("encode --qif 0 0 0", "a\tb\r\n", "", NOTE);
+
 // What is said of header lists is passed over too where it can't be written.
 #[test]
 fn a_note_that_can_not_be_written_is_passed_over(rt: HostRuntime) -> Result<(), Fail> {
-    const LISTS: Run = ("encode --qif 0 0 0", "a\tb\r\n", "", NOTE);
     for room in [0, 3, 63, 64] {
-        let (status, out, faults) = run_on(rt.alloc(), LISTS, 64, room)?;
-        if status == 0 {
+        let (mut out, mut faults) = (NarrowWriter::new(64), NarrowWriter::new(room));
+        if run_on(rt.alloc(), LISTS, &mut out, &mut faults)? == 0 {
             assert!(rt; !out.taken().is_empty());
-            assert_eq!(rt;
-                faults.taken(),
-                NOTE.as_bytes().get(..room).unwrap_or(NOTE.as_bytes())
-            );
+            assert_eq!(rt; faults.taken(), front(NOTE, room));
         } else {
             assert!(rt; REFUSED_MEMORY.as_bytes().starts_with(faults.taken()));
         }
