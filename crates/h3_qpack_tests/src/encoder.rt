@@ -148,17 +148,32 @@ fn encode_alone(
 
 /// An encoder of capacity 4096, whose three blocks on stream 4 wait for an acknowledgment, and these blocks.
 fn encoder_of_three_blocks(alloc: Global) -> Result<(Encoder, Vec<u8>), EncoderError> {
+    let mut encoder = encoder_of_three_blocked(alloc)?;
+    let mut blocks = Vec::new(alloc);
+    encode_three(alloc, &mut encoder, &mut blocks)?;
+    Ok((encoder, blocks))
+}
+
+/// An encoder of capacity 4096, three of whose blocks may be blocked.
+fn encoder_of_three_blocked(alloc: Global) -> Result<Encoder, dynamic::Error> {
     let mut table = DynamicTable::new(alloc);
     table.set_max_size(4096)?;
     table.set_max_blocked(3)?;
-    let mut encoder = Encoder::from(table);
+    Ok(Encoder::from(table))
+}
+
+/// Encodes `foo: bar` alone three times.
+fn encode_three(
+    alloc: Global,
+    encoder: &mut Encoder,
+    blocks: &mut Vec<u8>,
+) -> Result<(), EncoderError> {
     let foo = field(alloc, b"foo", b"bar")?;
-    let mut blocks = Vec::new(alloc);
     let mut instructions = Vec::new(alloc);
     for _ in 0..3 {
-        encode_alone(&mut encoder, &foo, &mut blocks, &mut instructions)?;
+        encode_alone(encoder, &foo, blocks, &mut instructions)?;
     }
-    Ok((encoder, blocks))
+    Ok(())
 }
 
 /// Such an encoder takes these steps so.
@@ -196,19 +211,36 @@ fn encoder_of_sixty_six(alloc: Global) -> Result<Encoder, dynamic::Error> {
     Ok(Encoder::from(table))
 }
 
-/// What such an encoder writes of `n: 65`, then after an increment of 65 of it again and of `n: 66`: the required
-/// insert counts, and the blocks.
+/// Encodes `n: N` alone on stream 4, after the blocks before, and returns its required insert count.
+fn encode_numbered(
+    alloc: Global,
+    encoder: &mut Encoder,
+    n: usize,
+    blocks: &mut Vec<u8>,
+) -> Result<usize, EncoderError> {
+    let numbered = numbered(alloc, n)?;
+    encode_alone(encoder, &numbered, blocks, &mut Vec::new(alloc))
+}
+
+/// Encodes `n: 65`, then after an increment of 65 the same again and `n: 66`. Returns the required insert counts.
+fn encode_around_an_increment(
+    alloc: Global,
+    encoder: &mut Encoder,
+    blocks: &mut Vec<u8>,
+) -> Result<[usize; 3], EncoderError> {
+    let before = encode_numbered(alloc, encoder, 65, blocks)?;
+    encoder.on_decoder_recv(&mut Cursor::new(b"\x3f\x02"))?;
+    let behind = encode_numbered(alloc, encoder, 65, blocks)?;
+    let past = encode_numbered(alloc, encoder, 66, blocks)?;
+    Ok([before, behind, past])
+}
+
+/// What such an encoder writes around an increment: the required insert counts, and the blocks.
 fn write_around_an_increment(alloc: Global) -> Result<([usize; 3], Vec<u8>), EncoderError> {
     let mut encoder = encoder_of_sixty_six(alloc)?;
-    let last = numbered(alloc, 65)?;
-    let unknown = numbered(alloc, 66)?;
     let mut blocks = Vec::new(alloc);
-    let mut instructions = Vec::new(alloc);
-    let before = encode_alone(&mut encoder, &last, &mut blocks, &mut instructions)?;
-    encoder.on_decoder_recv(&mut Cursor::new(b"\x3f\x02"))?;
-    let behind = encode_alone(&mut encoder, &last, &mut blocks, &mut instructions)?;
-    let past = encode_alone(&mut encoder, &unknown, &mut blocks, &mut instructions)?;
-    Ok(([before, behind, past], blocks))
+    let required = encode_around_an_increment(alloc, &mut encoder, &mut blocks)?;
+    Ok((required, blocks))
 }
 
 #[test]

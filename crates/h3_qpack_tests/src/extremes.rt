@@ -125,23 +125,37 @@ fn takes(session: &mut Session, event: Event) -> bool {
     }
 }
 
-/// Encodes a block for each stream, of which the first has its insertion reported before the others; then decodes all,
-/// and acknowledges them from the newest on. Returns whether each event was taken.
+/// Encodes a block for each stream, of which the first has its insertion reported before the others. Returns whether each
+/// event was taken.
+fn takes_blocks(alloc: Global, session: &mut Session) -> Result<bool, NoMemory> {
+    for stream in 0..STREAMS {
+        let is_taken = takes(session, encode(alloc, stream)?);
+        if !is_taken || stream == 0 && !takes_reports(session) {
+            return Ok(false);
+        }
+    }
+    Ok(true)
+}
+
+/// Brings all bytes of both streams to the other end. Returns whether they were taken.
+fn takes_reports(session: &mut Session) -> bool {
+    takes(session, Event::ToDecoder(usize::MAX)) && takes(session, Event::ToEncoder(usize::MAX))
+}
+
+/// Decodes all blocks, and acknowledges them from the newest on. Returns whether each event was taken.
+fn takes_answers(session: &mut Session) -> bool {
+    (0..STREAMS).all(|stream| takes(session, Event::Decode(stream)))
+        && (0..STREAMS)
+            .rev()
+            .all(|stream| takes(session, Event::Ack(stream)))
+        && takes(session, Event::ToEncoder(usize::MAX))
+}
+
+/// Returns whether a session takes a block for each stream, and all answers to them.
 fn takes_all(alloc: Global) -> Result<bool, Fail> {
     let mut session = Session::new(alloc, 4096, 100)?;
-    let mut is_taken = true;
-    for stream in 0..STREAMS {
-        is_taken &= takes(&mut session, encode(alloc, stream)?);
-        is_taken &= stream > 0 || takes(&mut session, Event::ToDecoder(usize::MAX));
-        is_taken &= stream > 0 || takes(&mut session, Event::ToEncoder(usize::MAX));
-    }
-    for stream in 0..STREAMS {
-        is_taken &= takes(&mut session, Event::Decode(stream));
-    }
-    for stream in (0..STREAMS).rev() {
-        is_taken &= takes(&mut session, Event::Ack(stream));
-    }
-    Ok(is_taken & takes(&mut session, Event::ToEncoder(usize::MAX)))
+    let is_taken = takes_blocks(alloc, &mut session)?;
+    Ok(is_taken && takes_answers(&mut session))
 }
 
 #[test]
