@@ -29,24 +29,39 @@ impl Subject for Calls {
         answer: &mut String,
     ) -> Result<()> {
         match word {
-            "begins-decoder" => {
-                let settings = decoder::read_settings(words)?;
-                push_begun(answer, ConnectionDecoder::new(alloc, settings).err())?;
-            }
-            "begins-encoder" => {
-                let settings = encoder::read_settings(words)?;
-                push_begun(answer, ConnectionEncoder::new(alloc, settings).err())?;
-            }
-            "longest-section" => write!(answer, "{}", longest_section(words.number()?))?,
-            "codes" => write!(
-                answer,
-                "{DECOMPRESSION_FAILED:#x} {ENCODER_STREAM_ERROR:#x} {DECODER_STREAM_ERROR:#x}"
-            )?,
-            "lacks-memory" => push_lack_of_memory(words.word(), answer)?,
+            "begins-decoder" => begin_decoder(alloc, words, answer),
+            "begins-encoder" => begin_encoder(alloc, words, answer),
+            "longest-section" => push_longest_section(answer, words.number()?),
+            "codes" => push_codes(answer),
+            "lacks-memory" => push_lack_of_memory(words.word(), answer),
             _ => bail!("there is no call {word}"),
         }
-        Ok(())
     }
+}
+
+/// Begins a decoding end with the settings of words.
+fn begin_decoder(alloc: Global, words: &mut Words<'_>, answer: &mut String) -> Result<()> {
+    let settings = decoder::read_settings(words)?;
+    push_begun(answer, ConnectionDecoder::new(alloc, settings).err())
+}
+
+/// Begins an encoding end with the settings of words.
+fn begin_encoder(alloc: Global, words: &mut Words<'_>, answer: &mut String) -> Result<()> {
+    let settings = encoder::read_settings(words)?;
+    push_begun(answer, ConnectionEncoder::new(alloc, settings).err())
+}
+
+/// Appends the length of the longest section of a limit.
+fn push_longest_section(answer: &mut String, limit: u64) -> Result<()> {
+    Ok(write!(answer, "{}", longest_section(limit))?)
+}
+
+/// Appends the codes of the errors that end a connection.
+fn push_codes(answer: &mut String) -> Result<()> {
+    Ok(write!(
+        answer,
+        "{DECOMPRESSION_FAILED:#x} {ENCODER_STREAM_ERROR:#x} {DECODER_STREAM_ERROR:#x}"
+    )?)
 }
 
 /// Appends that an end begins, or why its settings are refused.

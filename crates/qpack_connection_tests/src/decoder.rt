@@ -1,6 +1,6 @@
 //! The decoding end of a connection.
 
-use crate::fields::push_reading;
+use crate::fields::{push_capacity, push_reading};
 use anyhow::{Result, bail, ensure};
 use h3_qpack::coding::Cursor;
 use h3_qpack::stream::{DecoderLine, HeaderAck, InsertCountIncrement, StreamCancel, next_line};
@@ -38,19 +38,9 @@ impl Subject for Decoder {
         match word {
             "receives" => self.receive(&words.bytes(alloc)?, answer),
             "decodes" => self.decode(words.number()?, &words.bytes(alloc)?, answer),
-            "cancels" => match self.end.cancel(words.number()?) {
-                Ok(()) => Ok(answer.push_str("done")?),
-                Err(error) => push_error(answer, error),
-            },
-            "sends" => {
-                push_bytes(answer, self.end.decoder_stream())?;
-                self.end.sent(usize::MAX);
-                Ok(())
-            }
-            "drops" => {
-                self.end.sent(words.count()?);
-                push_bytes(answer, self.end.decoder_stream())
-            }
+            "cancels" => push_done(answer, self.end.cancel(words.number()?)),
+            "sends" => self.send(answer),
+            "drops" => self.drop_bytes(words.count()?, answer),
             "holds" => push_bytes(answer, self.end.decoder_stream()),
             "tells" => push_told(alloc, answer, self.end.decoder_stream()),
             _ => self.push_state(word, answer),
@@ -78,6 +68,14 @@ pub(crate) fn read_settings(words: &mut Words<'_>) -> Result<DecoderSettings> {
     })
 }
 
+/// Appends that a call was done, or its error.
+fn push_done(answer: &mut String, done: Result<(), DecodingError>) -> Result<()> {
+    match done {
+        Ok(()) => Ok(answer.push_str("done")?),
+        Err(error) => push_error(answer, error),
+    }
+}
+
 /// Appends an error of a decoding end.
 fn push_error(answer: &mut String, error: DecodingError) -> Result<()> {
     push_refusal(answer, error.code(), &error)
@@ -94,6 +92,19 @@ impl Decoder {
             Ok(inserted) => Ok(write!(answer, "{inserted}")?),
             Err(error) => push_error(answer, error),
         }
+    }
+
+    /// Appends the decoder stream, and takes it away.
+    fn send(&mut self, answer: &mut String) -> Result<()> {
+        push_bytes(answer, self.end.decoder_stream())?;
+        self.end.sent(usize::MAX);
+        Ok(())
+    }
+
+    /// Takes bytes of the decoder stream away, and appends the others.
+    fn drop_bytes(&mut self, bytes: usize, answer: &mut String) -> Result<()> {
+        self.end.sent(bytes);
+        push_bytes(answer, self.end.decoder_stream())
     }
 
     /// Decodes a section; if it waits, returns how many streams are blocked too.
@@ -118,34 +129,39 @@ impl Decoder {
     fn push_state(&self, word: &str, answer: &mut String) -> Result<()> {
         let end = &self.end;
         match word {
-            "has" => write!(
-                answer,
-                "{} blocked, ready {:?}",
-                end.blocked(),
-                end.next_ready()
-            )?,
-            "state" => write!(
-                answer,
-                "{} to send, {} blocked, {} waiting, {} inserted",
-                end.decoder_stream().len(),
-                end.blocked(),
-                end.waiting(),
-                end.table().total_inserted()
-            )?,
-            "settings" => write!(answer, "{:?}", end.settings())?,
-            "capacity" => write!(
-                answer,
-                "{} of {}",
-                end.table().max_mem_size(),
-                end.table().agreed_max()
-            )?,
-            "failure" => match end.failure() {
-                Some(error) => push_error(answer, error)?,
-                None => answer.push_str("none")?,
-            },
+            "has" => push_ready(answer, end.blocked(), end.next_ready()),
+            "state" => self.push_counts(answer),
+            "settings" => Ok(write!(answer, "{:?}", end.settings())?),
+            "capacity" => push_capacity(answer, end.table()),
+            "failure" => push_failure(answer, end.failure()),
             _ => bail!("a decoder has no call {word}"),
         }
-        Ok(())
+    }
+
+    /// Appends the counts of its state.
+    fn push_counts(&self, answer: &mut String) -> Result<()> {
+        let end = &self.end;
+        Ok(write!(
+            answer,
+            "{} to send, {} blocked, {} waiting, {} inserted",
+            end.decoder_stream().len(),
+            end.blocked(),
+            end.waiting(),
+            end.table().total_inserted()
+        )?)
+    }
+}
+
+/// Appends how many streams are blocked, and the one that is ready next.
+fn push_ready(answer: &mut String, blocked: usize, ready: Option<u64>) -> Result<()> {
+    Ok(write!(answer, "{blocked} blocked, ready {ready:?}")?)
+}
+
+/// Appends why an end failed.
+fn push_failure(answer: &mut String, failure: Option<DecodingError>) -> Result<()> {
+    match failure {
+        Some(error) => push_error(answer, error),
+        None => Ok(answer.push_str("none")?),
     }
 }
 
@@ -155,17 +171,24 @@ fn push_told(alloc: Global, answer: &mut String, stream: &[u8]) -> Result<()> {
     let mut received = 0usize;
     let mut cursor = Cursor::new(stream);
     for _ in stream {
-        match next_line(alloc, &mut cursor)? {
-            Some(DecoderLine::InsertCountIncrement(InsertCountIncrement(increment))) => {
-                received = received.saturating_add(increment);
-            }
-            Some(DecoderLine::HeaderAck(HeaderAck(stream))) => write!(answer, "{stream}, ")?,
-            Some(DecoderLine::StreamCancel(StreamCancel(stream))) => {
-                write!(answer, "cancelled {stream}, ")?;
-            }
-            None => {}
-        }
+        let line = next_line(alloc, &mut cursor)?;
+        received = received.saturating_add(push_line(answer, line)?);
     }
     ensure!(cursor.remaining() == 0, "an instruction is cut");
     Ok(write!(answer, "{received} received")?)
+}
+
+/// Appends the stream of an instruction, and returns how many insertions it reports.
+fn push_line(answer: &mut String, line: Option<DecoderLine>) -> Result<usize> {
+    match line {
+        Some(DecoderLine::InsertCountIncrement(InsertCountIncrement(increment))) => {
+            return Ok(increment);
+        }
+        Some(DecoderLine::HeaderAck(HeaderAck(stream))) => write!(answer, "{stream}, ")?,
+        Some(DecoderLine::StreamCancel(StreamCancel(stream))) => {
+            write!(answer, "cancelled {stream}, ")?;
+        }
+        None => {}
+    }
+    Ok(0)
 }

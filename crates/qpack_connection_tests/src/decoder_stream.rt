@@ -1,5 +1,6 @@
 //! The decoder stream, received strictly.
 
+use crate::fields::push_count;
 use anyhow::{Result, bail};
 use h3_qpack::HeaderField;
 use h3_qpack::coding::Cursor;
@@ -76,29 +77,55 @@ impl Subject for Hearing {
         words: &mut Words<'_>,
         answer: &mut String,
     ) -> Result<()> {
-        let table = &mut self.table;
         match word {
-            "sends" => {
-                let stream = words.number()?;
-                let field = HeaderField::from_pair(alloc, words.word().as_bytes(), b"bar")?;
-                write!(answer, "{}", send(table, stream, &field)?)?;
+            "sends" => self.send_words(alloc, words, answer),
+            "receives" => {
+                let received = self.receive(&words.bytes(alloc)?);
+                push_done(answer, received)
             }
-            "receives" => match self.receive(&words.bytes(alloc)?) {
-                Ok(()) => answer.push_str("done")?,
-                Err(error) => push_refusal(answer, Some(error.code()), &error)?,
-            },
-            "waits" => write!(answer, "{}", self.stream.waiting())?,
-            "known" => write!(answer, "{}", table.known_received_count())?,
-            "unacknowledged" => write!(answer, "{}", table.unacknowledged_blocks())?,
-            "blocked" => write!(answer, "{}", table.blocked_blocks())?,
-            "oldest" => write!(answer, "{:?}", table.oldest_required(words.number()?))?,
-            _ => bail!("a decoder stream has no call {word}"),
+            "oldest" => {
+                let required = self.table.oldest_required(words.number()?);
+                Ok(write!(answer, "{required:?}")?)
+            }
+            _ => push_count(answer, self.count(word)?),
         }
-        Ok(())
+    }
+}
+
+/// Appends that a call was done, or its error.
+fn push_done(answer: &mut String, done: Result<(), DecoderStreamError>) -> Result<()> {
+    match done {
+        Ok(()) => Ok(answer.push_str("done")?),
+        Err(error) => push_refusal(answer, Some(error.code()), &error),
     }
 }
 
 impl Hearing {
+    /// Returns a count of its state.
+    fn count(&self, word: &str) -> Result<usize> {
+        Ok(match word {
+            "waits" => self.stream.waiting(),
+            "known" => self.table.known_received_count(),
+            "unacknowledged" => self.table.unacknowledged_blocks(),
+            "blocked" => self.table.blocked_blocks(),
+            _ => bail!("a decoder stream has no call {word}"),
+        })
+    }
+
+    /// Sends a section on a stream of words that references the entry of a name, and appends how many insertions it
+    /// requires.
+    fn send_words(
+        &mut self,
+        alloc: Global,
+        words: &mut Words<'_>,
+        answer: &mut String,
+    ) -> Result<()> {
+        let stream = words.number()?;
+        let field = HeaderField::from_pair(alloc, words.word().as_bytes(), b"bar")?;
+        let sent = send(&mut self.table, stream, &field);
+        push_count(answer, sent?)
+    }
+
     /// Receives bytes in pieces, until one is refused.
     fn receive(&mut self, bytes: &[u8]) -> Result<(), DecoderStreamError> {
         for piece in bytes.chunks(self.size.max(1)) {

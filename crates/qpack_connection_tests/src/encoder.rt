@@ -1,12 +1,12 @@
 //! The encoding end of a connection.
 
-use crate::fields::{push_reading, wish_fields};
+use crate::fields::{push_capacity, push_count, push_reading, wish_fields};
 use anyhow::{Result, bail, ensure};
 use h3_qpack::coding::Cursor;
 use h3_qpack::encoder::AsField;
-use qpack_ends::FieldSection;
 use qpack_ends::decoder::{ConnectionDecoder, DecoderSettings};
 use qpack_ends::encoder::{ConnectionEncoder, EncoderSettings, EncodingError};
+use qpack_ends::{FieldLine, FieldSection, WishedField};
 use qpack_testing::cases::{
     Field, Subject, Words, header_fields, push_bytes, push_refusal, read_fields,
 };
@@ -31,15 +31,12 @@ const MOST_BLOCKED: usize = 65_534;
 impl Subject for Encoder {
     fn begin(alloc: Global, settings: &mut Words<'_>, size: usize) -> Result<Encoder> {
         let end = read_settings(settings)?;
-        let is_of_header_fields = match settings.word() {
-            "" => false,
-            "of-header-fields" => true,
-            word => bail!("an encoder has no setting {word}"),
-        };
+        let is_of_header_fields = is_of_header_fields(settings.word())?;
+        let peer = peer_of(alloc, end)?;
         Ok(Encoder {
             end: ConnectionEncoder::new(alloc, end)?,
             section: Vec::new(alloc),
-            peer: peer_of(alloc, end)?,
+            peer,
             fields: FieldSection::new(alloc),
             is_of_header_fields,
             size,
@@ -54,34 +51,13 @@ impl Subject for Encoder {
         answer: &mut String,
     ) -> Result<()> {
         match word {
-            "encodes" => self.encode_words(alloc, words, answer),
-            "fills" => self.fill(alloc, words, answer),
-            "passes" => self.encode_and_pass(alloc, words, answer),
-            "hands-on" => {
-                let stream = words.number()?;
-                self.encode_again(alloc, stream)?;
-                self.pass(stream, answer)
-            }
+            "encodes" | "fills" | "passes" => self.call_with_fields(alloc, word, words, answer),
+            "hands-on" => self.hand_on(alloc, words, answer),
             "decodes-alone" => decode_alone(alloc, &self.section, answer),
-            "receives" => {
-                let received = self.receive(&words.bytes(alloc)?);
-                push_done(answer, received)
-            }
-            "takes-settings" => {
-                let taken = self.end.set_peer_settings(words.count()?, words.count()?);
-                if taken.is_ok() {
-                    self.peer = peer_of(alloc, self.end.settings())?;
-                }
-                push_done(answer, taken)
-            }
+            "receives" => self.receive(&words.bytes(alloc)?, answer),
+            "takes-settings" => self.take_settings(alloc, words, answer),
             "sets" => push_done(answer, self.end.set_capacity(words.count()?)),
-            "drops" => {
-                self.end.sent(words.count()?);
-                push_bytes(answer, self.end.encoder_stream())
-            }
-            "writes" => push_bytes(answer, &self.section),
-            "holds" => push_bytes(answer, self.end.encoder_stream()),
-            _ => self.push_state(word, answer),
+            _ => self.push_streams(word, words, answer),
         }
     }
 
@@ -94,6 +70,15 @@ impl Subject for Encoder {
             "receives 01",
             "receives nothing",
         ]
+    }
+}
+
+/// Whether header fields are passed, by the word of a setting.
+fn is_of_header_fields(word: &str) -> Result<bool> {
+    match word {
+        "" => Ok(false),
+        "of-header-fields" => Ok(true),
+        _ => bail!("an encoder has no setting {word}"),
     }
 }
 
@@ -118,7 +103,7 @@ fn peer_of(alloc: Global, settings: EncoderSettings) -> Result<ConnectionDecoder
 }
 
 /// Reads the fields of the words that are left.
-pub(crate) fn fields_of(alloc: Global, words: &mut Words<'_>) -> Result<Vec<Field>> {
+fn fields_of(alloc: Global, words: &mut Words<'_>) -> Result<Vec<Field>> {
     let fields = read_fields(alloc, words.rest)?;
     words.rest = "";
     Ok(fields)
@@ -156,16 +141,32 @@ impl Encoder {
         self.end.encode(stream, fields, &mut self.section)
     }
 
-    /// Encodes the fields of words on a stream, and returns how many insertions the section requires.
-    fn encode_words(
+    /// Makes a call for the fields of words, and a stream or a number of streams.
+    fn call_with_fields(
         &mut self,
         alloc: Global,
+        word: &str,
         words: &mut Words<'_>,
         answer: &mut String,
     ) -> Result<()> {
-        let stream = words.number()?;
+        let number = words.number()?;
         let fields = fields_of(alloc, words)?;
-        let encoded = self.encode_fields(alloc, stream, &fields)?;
+        match word {
+            "fills" => self.fill(alloc, number, &fields, answer),
+            "passes" => self.encode_and_pass(alloc, number, &fields, answer),
+            _ => self.encode_and_push(alloc, number, &fields, answer),
+        }
+    }
+
+    /// Encodes fields on a stream, and appends how many insertions the section requires, or why it was not encoded.
+    fn encode_and_push(
+        &mut self,
+        alloc: Global,
+        stream: u64,
+        fields: &[Field],
+        answer: &mut String,
+    ) -> Result<()> {
+        let encoded = self.encode_fields(alloc, stream, fields)?;
         self.push_encoded(answer, encoded)
     }
 
@@ -199,29 +200,63 @@ impl Encoder {
         }
     }
 
-    /// Encodes the fields of words on a stream, and sends the section. Returns what the peer decoded.
+    /// Encodes fields on a stream, and sends the section. Appends what the peer decoded.
     fn encode_and_pass(
+        &mut self,
+        alloc: Global,
+        stream: u64,
+        fields: &[Field],
+        answer: &mut String,
+    ) -> Result<()> {
+        self.encode_fields(alloc, stream, fields)??;
+        self.pass(stream, answer)
+    }
+
+    /// Encodes fields on each of this many streams, and appends how many insertions the sections require in all.
+    fn fill(
+        &mut self,
+        alloc: Global,
+        streams: u64,
+        fields: &[Field],
+        answer: &mut String,
+    ) -> Result<()> {
+        let lines = wish_fields(alloc, fields)?;
+        self.encode_on_each(streams, &lines, answer)
+    }
+
+    /// Encodes lines on each of this many streams, and appends how many insertions the sections require in all.
+    fn encode_on_each(
+        &mut self,
+        streams: u64,
+        lines: &[WishedField<'_>],
+        answer: &mut String,
+    ) -> Result<()> {
+        let mut required = 0usize;
+        for stream in 0..streams {
+            required = required.saturating_add(self.encode(stream, lines)?);
+        }
+        push_count(answer, required)
+    }
+
+    /// Encodes the fields that the peer decoded last on a stream of words, and sends the section.
+    fn hand_on(&mut self, alloc: Global, words: &mut Words<'_>, answer: &mut String) -> Result<()> {
+        let stream = words.number()?;
+        self.encode_again(alloc, stream)??;
+        self.pass(stream, answer)
+    }
+
+    /// Takes the settings of words. The peer is then one that sent them.
+    fn take_settings(
         &mut self,
         alloc: Global,
         words: &mut Words<'_>,
         answer: &mut String,
     ) -> Result<()> {
-        let stream = words.number()?;
-        let fields = fields_of(alloc, words)?;
-        self.encode_fields(alloc, stream, &fields)??;
-        self.pass(stream, answer)
-    }
-
-    /// Encodes the fields on each of this many streams, and returns how many insertions the sections require in all.
-    fn fill(&mut self, alloc: Global, words: &mut Words<'_>, answer: &mut String) -> Result<()> {
-        let streams = words.number()?;
-        let fields = fields_of(alloc, words)?;
-        let fields = wish_fields(alloc, &fields)?;
-        let mut required = 0usize;
-        for stream in 0..streams {
-            required = required.saturating_add(self.encode(stream, &fields)?);
+        let taken = self.end.set_peer_settings(words.count()?, words.count()?);
+        if taken.is_ok() {
+            self.peer = peer_of(alloc, self.end.settings())?;
         }
-        Ok(write!(answer, "{required}")?)
+        push_done(answer, taken)
     }
 
     /// Sends the encoder stream, the last section, and the decoder stream. Returns what the peer decoded.
@@ -238,54 +273,91 @@ impl Encoder {
     }
 
     /// Encodes the fields that the peer decoded last, as they are borrowed.
-    fn encode_again(&mut self, alloc: Global, stream: u64) -> Result<()> {
-        let mut lines = Vec::new(alloc);
-        for field in self.fields.iter() {
-            lines.push(field)?;
-        }
+    fn encode_again(&mut self, alloc: Global, stream: u64) -> Result<Result<usize, EncodingError>> {
+        let lines = lines_of(alloc, &self.fields)?;
         self.section.clear();
-        self.end.encode(stream, &lines, &mut self.section)?;
-        Ok(())
+        Ok(self.end.encode(stream, &lines, &mut self.section))
     }
 
-    /// Receives bytes of the decoder stream in pieces, and returns the last result.
-    fn receive(&mut self, bytes: &[u8]) -> Result<(), EncodingError> {
+    /// Receives bytes of the decoder stream in pieces, and appends the last result.
+    fn receive(&mut self, bytes: &[u8], answer: &mut String) -> Result<()> {
         let mut received = self.end.receive(&mut Cursor::new(b""));
         for piece in bytes.chunks(self.size.max(1)) {
             received = self.end.receive(&mut Cursor::new(piece));
         }
-        received
+        push_done(answer, received)
+    }
+
+    /// Appends the last section, or the encoder stream, of which a `drops` takes bytes away; or a part of its state.
+    fn push_streams(
+        &mut self,
+        word: &str,
+        words: &mut Words<'_>,
+        answer: &mut String,
+    ) -> Result<()> {
+        match word {
+            "drops" => {
+                self.end.sent(words.count()?);
+                push_bytes(answer, self.end.encoder_stream())
+            }
+            "writes" => push_bytes(answer, &self.section),
+            "holds" => push_bytes(answer, self.end.encoder_stream()),
+            _ => self.push_state(word, answer),
+        }
     }
 
     /// Appends a part of its state.
     fn push_state(&self, word: &str, answer: &mut String) -> Result<()> {
-        let (end, table) = (&self.end, self.end.table());
+        let end = &self.end;
         match word {
-            "counts" | "state" => write!(
-                answer,
-                "{} unacknowledged, {} blocked, {} inserted, {} known",
-                end.unacknowledged(),
-                end.blocked(),
-                table.total_inserted(),
-                table.known_received_count()
-            )?,
-            "waits" => write!(answer, "{}", end.waiting())?,
-            "capacity" => write!(answer, "{} of {}", table.max_mem_size(), table.agreed_max())?,
-            "settings" => write!(answer, "{:?}", end.settings())?,
-            "failure" => match end.failure() {
-                Some(error) => push_refusal(answer, error.code(), &error)?,
-                None => answer.push_str("none")?,
-            },
+            "counts" => self.push_counts(answer),
+            "state" => self.push_all_counts(answer),
+            "waits" => push_count(answer, end.waiting()),
+            "capacity" => push_capacity(answer, end.table()),
+            "settings" => Ok(write!(answer, "{:?}", end.settings())?),
+            "failure" => push_failure(answer, end.failure()),
             _ => bail!("an encoder has no call {word}"),
         }
-        if word == "state" {
-            write!(
-                answer,
-                ", {} to send, {} waiting",
-                end.encoder_stream().len(),
-                end.waiting()
-            )?;
-        }
-        Ok(())
+    }
+
+    /// Appends the counts of its sections and its table.
+    fn push_counts(&self, answer: &mut String) -> Result<()> {
+        let (end, table) = (&self.end, self.end.table());
+        Ok(write!(
+            answer,
+            "{} unacknowledged, {} blocked, {} inserted, {} known",
+            end.unacknowledged(),
+            end.blocked(),
+            table.total_inserted(),
+            table.known_received_count()
+        )?)
+    }
+
+    /// Appends the counts of its sections, its table and its streams.
+    fn push_all_counts(&self, answer: &mut String) -> Result<()> {
+        self.push_counts(answer)?;
+        let to_send = self.end.encoder_stream().len();
+        Ok(write!(
+            answer,
+            ", {to_send} to send, {} waiting",
+            self.end.waiting()
+        )?)
+    }
+}
+
+/// Borrows fields that were decoded.
+fn lines_of(alloc: Global, fields: &FieldSection) -> Result<Vec<FieldLine<'_>>> {
+    let mut lines = Vec::new(alloc);
+    for field in fields.iter() {
+        lines.push(field)?;
+    }
+    Ok(lines)
+}
+
+/// Appends why an end failed.
+fn push_failure(answer: &mut String, failure: Option<EncodingError>) -> Result<()> {
+    match failure {
+        Some(error) => push_refusal(answer, error.code(), &error),
+        None => Ok(answer.push_str("none")?),
     }
 }

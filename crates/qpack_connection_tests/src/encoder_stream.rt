@@ -1,5 +1,6 @@
 //! The encoder stream, received strictly.
 
+use crate::fields::push_count;
 use anyhow::{Result, bail};
 use h3_qpack::coding::Cursor;
 use h3_qpack::dynamic::DynamicTable;
@@ -40,23 +41,39 @@ impl Subject for Receiving {
         words: &mut Words<'_>,
         answer: &mut String,
     ) -> Result<()> {
-        let table = &self.table;
         match word {
-            "receives" => match self.receive(&words.bytes(alloc)?) {
-                Ok(()) => answer.push_str("done")?,
-                Err(error) => push_refusal(answer, error.code(), &error)?,
-            },
-            "waits" => write!(answer, "{}", self.stream.waiting())?,
-            "capacity" => write!(answer, "{}", table.max_mem_size())?,
-            "inserted" => write!(answer, "{}", table.total_inserted())?,
-            "entry" => write!(answer, "{}", table.get_relative(words.count()?)?)?,
-            _ => bail!("an encoder stream has no call {word}"),
+            "receives" => {
+                let received = self.receive(&words.bytes(alloc)?);
+                push_done(answer, received)
+            }
+            "entry" => {
+                let entry = self.table.get_relative(words.count()?)?;
+                Ok(write!(answer, "{entry}")?)
+            }
+            _ => push_count(answer, self.count(word)?),
         }
-        Ok(())
+    }
+}
+
+/// Appends that a call was done, or its error.
+fn push_done(answer: &mut String, done: Result<(), EncoderStreamError>) -> Result<()> {
+    match done {
+        Ok(()) => Ok(answer.push_str("done")?),
+        Err(error) => push_refusal(answer, error.code(), &error),
     }
 }
 
 impl Receiving {
+    /// Returns a count of its state.
+    fn count(&self, word: &str) -> Result<usize> {
+        Ok(match word {
+            "waits" => self.stream.waiting(),
+            "capacity" => self.table.max_mem_size(),
+            "inserted" => self.table.total_inserted(),
+            _ => bail!("an encoder stream has no call {word}"),
+        })
+    }
+
     /// Receives bytes in pieces, until one is refused.
     fn receive(&mut self, bytes: &[u8]) -> Result<(), EncoderStreamError> {
         for piece in bytes.chunks(self.size.max(1)) {

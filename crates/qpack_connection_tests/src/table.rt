@@ -1,6 +1,7 @@
 //! The dynamic table, as an encoder uses it and as a decoder does.
 
 use crate::decoder_stream::send;
+use crate::fields::{push_capacity, push_count};
 use anyhow::{Result, bail, ensure};
 use h3_qpack::HeaderField;
 use h3_qpack::dynamic::{
@@ -23,8 +24,8 @@ pub(crate) struct Received {
     table: ReceivedTable,
 }
 
-/// Reads the next field of words, a header field.
-fn read_headers(alloc: Global, words: &mut Words<'_>) -> Result<Vec<HeaderField>> {
+/// Reads the fields of the words that are left, as header fields.
+pub(crate) fn read_headers(alloc: Global, words: &mut Words<'_>) -> Result<Vec<HeaderField>> {
     let fields = read_fields(alloc, words.rest)?;
     words.rest = "";
     header_fields(alloc, &fields)
@@ -91,8 +92,20 @@ fn call_any<I: EntryIndex>(
         "puts" => push_done(answer, put_all(alloc, table, words)?),
         "sets" => push_done(answer, table.set_max_size(words.count()?)),
         "agrees" => push_done(answer, agree(table, words.count()?)?),
-        "capacity" => Ok(write!(answer, "{} of {}", table.max_mem_size(), table.agreed_max())?),
-        "inserted" => Ok(write!(answer, "{}", table.total_inserted())?),
+        "capacity" => push_capacity(answer, table),
+        "inserted" => push_count(answer, table.total_inserted()),
+        _ => call_for_entry(table, word, words, answer),
+    }
+}
+
+/// Appends the entry of an index.
+fn call_for_entry<I: EntryIndex>(
+    table: &DynamicTable<I>,
+    word: &str,
+    words: &mut Words<'_>,
+    answer: &mut String,
+) -> Result<()> {
+    match word {
         "relative" => push_entry(answer, table.get_relative(words.count()?)),
         "relative-under" => {
             let base = words.count()?;
@@ -142,37 +155,56 @@ impl Subject for Table {
         words: &mut Words<'_>,
         answer: &mut String,
     ) -> Result<()> {
-        let table = &mut self.table;
         match word {
-            "limits" => push_done(answer, table.set_max_blocked(words.count()?)),
-            "finds" => {
-                let headers = read_headers(alloc, words)?;
-                push_found(answer, &found(table, &headers))
+            "finds" | "inserts" | "block" => self.call_block(alloc, word, words, answer),
+            "sends" => self.send(alloc, words, answer),
+            "limits" | "sends-nothing" | "receives" | "acknowledges" | "cancels" => {
+                let done = call_with_number(&mut self.table, word, words.count()?);
+                push_done(answer, done)
             }
-            "inserts" => {
-                let headers = read_headers(alloc, words)?;
-                push_found(answer, &inserted(table, &headers))
-            }
-            "block" => {
-                let headers = read_headers(alloc, words)?;
-                push_block(answer, table, &headers)
-            }
-            "sends" => {
-                let stream = words.number()?;
-                let headers = read_headers(alloc, words)?;
-                push_sent(answer, table, stream, &headers)
-            }
-            "sends-nothing" => push_done(answer, table.encoder(words.number()?).commit(0)),
-            "receives" => {
-                table.update_largest_received(words.count()?);
-                Ok(answer.push_str("done")?)
-            }
-            "acknowledges" => push_done(answer, table.untrack_block(words.number()?)),
-            "cancels" => {
-                table.untrack_stream(words.number()?);
-                Ok(answer.push_str("done")?)
-            }
-            _ => call_any(alloc, table, word, words, answer),
+            _ => call_any(alloc, &mut self.table, word, words, answer),
+        }
+    }
+}
+
+impl Table {
+    /// Makes a call of a block for the fields of words.
+    fn call_block(
+        &mut self,
+        alloc: Global,
+        word: &str,
+        words: &mut Words<'_>,
+        answer: &mut String,
+    ) -> Result<()> {
+        let headers = read_headers(alloc, words)?;
+        match word {
+            "finds" => push_found(answer, &found(&mut self.table, &headers)),
+            "inserts" => push_found(answer, &inserted(&mut self.table, &headers)),
+            _ => push_block(answer, &mut self.table, &headers),
+        }
+    }
+
+    /// Appends how many insertions a section on a stream of words requires, which is of one field.
+    fn send(&mut self, alloc: Global, words: &mut Words<'_>, answer: &mut String) -> Result<()> {
+        let stream = words.number()?;
+        let headers = read_headers(alloc, words)?;
+        push_sent(answer, &mut self.table, stream, &headers)
+    }
+}
+
+/// Makes a call with a number, which changes what the table knows of the decoder, or allows it.
+fn call_with_number(table: &mut DynamicTable, word: &str, number: usize) -> Result<(), Error> {
+    match word {
+        "limits" => table.set_max_blocked(number),
+        "sends-nothing" => table.encoder(number as u64).commit(0),
+        "acknowledges" => table.untrack_block(number as u64),
+        "receives" => {
+            table.update_largest_received(number);
+            Ok(())
+        }
+        _ => {
+            table.untrack_stream(number as u64);
+            Ok(())
         }
     }
 }
