@@ -1,6 +1,7 @@
 //! Worked cases of an encoder: the decoder instructions that it takes, and the capacity that it sets (RFC 9204,
 //! sections 3.2.3, 4.3.1 and 4.4).
 
+use crate::encoding::{encoder, set};
 use crate::memory::{heap, room};
 use h3_qpack::coding::{Cursor, NoMemory};
 use h3_qpack::dynamic::{self, DynamicLookupResult, DynamicTable, DynamicTableEncoder};
@@ -43,8 +44,7 @@ fn open_block_of_foo(alloc: Global, table: &mut DynamicTable) -> Result<(), dyna
 
 /// Sets capacity 4096, and inserts an entry that a block on stream 4 references.
 fn open_only_block(alloc: Global, table: &mut DynamicTable) -> Result<(), dynamic::Error> {
-    table.set_max_size(4096)?;
-    table.set_max_blocked(100)?;
+    set(table, (4096, 100))?;
     match open_block_of_foo(alloc, table) {
         Ok(()) => Ok(()),
         Err(_) => open_block_of_foo(alloc, table),
@@ -148,18 +148,10 @@ fn encode_alone(
 
 /// An encoder of capacity 4096, whose three blocks on stream 4 wait for an acknowledgment, and these blocks.
 fn encoder_of_three_blocks(alloc: Global) -> Result<(Encoder, Vec<u8>), EncoderError> {
-    let mut encoder = encoder_of_three_blocked(alloc)?;
+    let mut encoder = encoder(alloc, (4096, 3))?;
     let mut blocks = Vec::new(alloc);
     encode_three(alloc, &mut encoder, &mut blocks)?;
     Ok((encoder, blocks))
-}
-
-/// An encoder of capacity 4096, three of whose blocks may be blocked.
-fn encoder_of_three_blocked(alloc: Global) -> Result<Encoder, dynamic::Error> {
-    let mut table = DynamicTable::new(alloc);
-    table.set_max_size(4096)?;
-    table.set_max_blocked(3)?;
-    Ok(Encoder::from(table))
 }
 
 /// Encodes `foo: bar` alone three times.

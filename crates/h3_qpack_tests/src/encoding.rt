@@ -24,13 +24,16 @@ const BAZ_BAR: (&[u8], &[u8]) = (b"baz", b"bar");
 const FOO_QUXX: (&[u8], &[u8]) = (b"foo", b"quxx");
 
 /// Sets the capacity and the limit.
-fn set(table: &mut DynamicTable, (capacity, limit): (usize, usize)) -> Result<(), Error> {
+pub(crate) fn set(
+    table: &mut DynamicTable,
+    (capacity, limit): (usize, usize),
+) -> Result<(), Error> {
     table.set_max_size(capacity)?;
     table.set_max_blocked(limit)
 }
 
 /// Returns an encoder of this capacity, with this limit of blocked blocks.
-fn encoder(alloc: Global, bounds: (usize, usize)) -> Result<Encoder, Error> {
+pub(crate) fn encoder(alloc: Global, bounds: (usize, usize)) -> Result<Encoder, Error> {
     let mut table = DynamicTable::new(alloc);
     set(&mut table, bounds)?;
     Ok(Encoder::from(table))
