@@ -1,6 +1,7 @@
 //! The decoding end of a connection.
 
-use crate::fields::{push_capacity, push_reading};
+use crate::answers::{push_capacity, push_done, push_failure};
+use crate::fields::push_reading;
 use anyhow::{Result, bail, ensure};
 use h3_qpack::coding::Cursor;
 use h3_qpack::stream::{DecoderLine, HeaderAck, InsertCountIncrement, StreamCancel, next_line};
@@ -66,14 +67,6 @@ pub(crate) fn read_settings(words: &mut Words<'_>) -> Result<DecoderSettings> {
         max_blocked: words.count()?,
         max_section_size: words.number()?,
     })
-}
-
-/// Appends that a call was done, or its error.
-fn push_done(answer: &mut String, done: Result<(), DecodingError>) -> Result<()> {
-    match done {
-        Ok(()) => Ok(answer.push_str("done")?),
-        Err(error) => push_error(answer, error),
-    }
 }
 
 /// Appends an error of a decoding end.
@@ -155,14 +148,6 @@ impl Decoder {
 /// Appends how many streams are blocked, and the one that is ready next.
 fn push_ready(answer: &mut String, blocked: usize, ready: Option<u64>) -> Result<()> {
     Ok(write!(answer, "{blocked} blocked, ready {ready:?}")?)
-}
-
-/// Appends why an end failed.
-fn push_failure(answer: &mut String, failure: Option<DecodingError>) -> Result<()> {
-    match failure {
-        Some(error) => push_error(answer, error),
-        None => Ok(answer.push_str("none")?),
-    }
 }
 
 /// Appends what a decoder stream reports: how many insertions were received, and the streams that are acknowledged and

@@ -1,12 +1,12 @@
 //! The decoder stream, received strictly.
 
-use crate::fields::push_count;
+use crate::answers::{push_count, push_done};
 use anyhow::{Result, bail};
 use h3_qpack::HeaderField;
 use h3_qpack::coding::Cursor;
 use h3_qpack::dynamic::{DynamicLookupResult, DynamicTable, DynamicTableEncoder, Error};
 use qpack_ends::{DecoderStream, DecoderStreamError};
-use qpack_testing::cases::{Subject, Words, push_refusal};
+use qpack_testing::cases::{Subject, Words};
 use std::alloc::Global;
 use std::fmt::Write;
 
@@ -89,14 +89,6 @@ impl Subject for Hearing {
             }
             _ => push_count(answer, self.count(word)?),
         }
-    }
-}
-
-/// Appends that a call was done, or its error.
-fn push_done(answer: &mut String, done: Result<(), DecoderStreamError>) -> Result<()> {
-    match done {
-        Ok(()) => Ok(answer.push_str("done")?),
-        Err(error) => push_refusal(answer, Some(error.code()), &error),
     }
 }
 

@@ -1,6 +1,7 @@
 //! The encoding end of a connection.
 
-use crate::fields::{push_capacity, push_count, push_reading, wish_fields};
+use crate::answers::{push_capacity, push_count, push_done, push_failure};
+use crate::fields::{push_reading, wish_fields};
 use anyhow::{Result, bail, ensure};
 use h3_qpack::coding::Cursor;
 use h3_qpack::encoder::AsField;
@@ -107,14 +108,6 @@ fn fields_of(alloc: Global, words: &mut Words<'_>) -> Result<Vec<Field>> {
     let fields = read_fields(alloc, words.rest)?;
     words.rest = "";
     Ok(fields)
-}
-
-/// Appends that a call was done, or its error.
-fn push_done(answer: &mut String, done: Result<(), EncodingError>) -> Result<()> {
-    match done {
-        Ok(()) => Ok(answer.push_str("done")?),
-        Err(error) => push_refusal(answer, error.code(), &error),
-    }
 }
 
 /// Appends what a section is decoded to with no table at all.
@@ -352,12 +345,4 @@ fn lines_of(alloc: Global, fields: &FieldSection) -> Result<Vec<FieldLine<'_>>> 
         lines.push(field)?;
     }
     Ok(lines)
-}
-
-/// Appends why an end failed.
-fn push_failure(answer: &mut String, failure: Option<EncodingError>) -> Result<()> {
-    match failure {
-        Some(error) => push_refusal(answer, error.code(), &error),
-        None => Ok(answer.push_str("none")?),
-    }
 }

@@ -1,11 +1,11 @@
 //! The encoder stream, received strictly.
 
-use crate::fields::push_count;
+use crate::answers::{push_count, push_done};
 use anyhow::{Result, bail};
 use h3_qpack::coding::Cursor;
 use h3_qpack::dynamic::DynamicTable;
 use qpack_ends::{EncoderStream, EncoderStreamError};
-use qpack_testing::cases::{Subject, Words, push_refusal};
+use qpack_testing::cases::{Subject, Words};
 use std::alloc::Global;
 use std::fmt::Write;
 
@@ -52,14 +52,6 @@ impl Subject for Receiving {
             }
             _ => push_count(answer, self.count(word)?),
         }
-    }
-}
-
-/// Appends that a call was done, or its error.
-fn push_done(answer: &mut String, done: Result<(), EncoderStreamError>) -> Result<()> {
-    match done {
-        Ok(()) => Ok(answer.push_str("done")?),
-        Err(error) => push_refusal(answer, error.code(), &error),
     }
 }
 

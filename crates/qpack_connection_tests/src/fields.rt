@@ -1,7 +1,6 @@
 //! Fields as an end encodes and decodes them.
 
 use anyhow::{Result, ensure};
-use h3_qpack::dynamic::{DynamicTable, EntryIndex};
 use qpack_ends::{FieldSection, Reading, Wish, WishedField};
 use qpack_testing::cases::{Field, push_field};
 use std::alloc::Global;
@@ -52,17 +51,4 @@ pub(crate) fn push_reading(
         Reading::Blocked { required } => write!(answer, "waits for {required}")?,
     }
     push_fields(answer, fields)
-}
-
-/// Appends a count.
-pub(crate) fn push_count(answer: &mut String, count: usize) -> Result<()> {
-    Ok(write!(answer, "{count}")?)
-}
-
-/// Appends the capacity of a table, and its maximum.
-pub(crate) fn push_capacity<I: EntryIndex>(
-    answer: &mut String,
-    table: &DynamicTable<I>,
-) -> Result<()> {
-    Ok(write!(answer, "{} of {}", table.max_mem_size(), table.agreed_max())?)
 }

@@ -1,6 +1,6 @@
 //! The encoder of `h3_qpack`, whose sections those of an encoding end are.
 
-use crate::fields::push_count;
+use crate::answers::push_count;
 use crate::table::read_headers;
 use anyhow::{Result, bail};
 use h3_qpack::HeaderField;

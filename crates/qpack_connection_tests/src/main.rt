@@ -1,6 +1,7 @@
 //! Cases of the two ends of a connection, and of their parts, in the format of `qpack_testing::cases`.
 #![tactic(auto)]
 
+mod answers;
 mod calls;
 mod decoder;
 mod decoder_stream;

@@ -1,7 +1,7 @@
 //! The dynamic table, as an encoder uses it and as a decoder does.
 
+use crate::answers::{push_capacity, push_count};
 use crate::decoder_stream::send;
-use crate::fields::{push_capacity, push_count};
 use anyhow::{Result, bail, ensure};
 use h3_qpack::HeaderField;
 use h3_qpack::dynamic::{
