@@ -149,20 +149,29 @@ pub fn refuse(
     Ok(())
 }
 
-/// Runs words of a command of which one is at fault or missing: the lines of how it is called come first, and this line last.
-pub fn refuse_word(
-    rt: &impl Abort,
-    alloc: Global,
-    command: &str,
-    line: &'static str,
-    words: &[&'static str],
-) -> Result<(), Fail> {
-    let usage = format!(in alloc; "usage: qpk {command}")?;
-    for words in words {
+/// Words of a command of which one is at fault or missing, and the line that says so.
+pub struct Fault {
+    pub command: &'static str,
+    pub line: &'static str,
+    pub words: &'static [&'static str],
+}
+
+/// Runs words of which one is at fault or missing.
+pub fn name_faults(rt: &impl Abort, alloc: Global, faults: &[Fault]) -> Result<(), Fail> {
+    for fault in faults {
+        name_fault(rt, alloc, fault)?;
+    }
+    Ok(())
+}
+
+/// Runs words of which one is at fault or missing: the lines of how the command is called come first, and its line last.
+fn name_fault(rt: &impl Abort, alloc: Global, fault: &Fault) -> Result<(), Fail> {
+    let usage = format!(in alloc; "usage: qpk {}", fault.command)?;
+    for words in fault.words {
         let answer = run(rt, alloc, words, b"", "")?;
         assert!(rt; answer.output.is_empty());
         assert!(rt; answer.faults.starts_with(usage.as_str().as_bytes()));
-        let told = answer.faults.strip_suffix(line.as_bytes());
+        let told = answer.faults.strip_suffix(fault.line.as_bytes());
         assert!(rt; told.is_some_and(|usage| lines_in(usage) <= 3));
         assert_eq!(rt; answer.status, 1);
     }

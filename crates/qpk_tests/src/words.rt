@@ -1,6 +1,6 @@
 //! What the program does with its words: the four commands, and what is added to them.
 
-use crate::running::{Case, USAGE, hold, refuse, refuse_word, run};
+use crate::running::{Case, Fault, USAGE, hold, name_faults, refuse, run};
 use std::alloc::Global;
 use std::process::Abort;
 use std::test::Fail;
@@ -110,14 +110,6 @@ fn other_words_and_numbers_get_the_usage(rt: HostRuntime) -> Result<(), Fail> {
     refuse(&rt, rt.alloc(), USAGE, OTHER)
 }
 
-/// Words of a command of which one is missing or at fault, and the line that says so.
-struct Fault {
-    command: &'static str,
-    line: &'static str,
-    words: &'static [&'static str],
-}
-
-// A word is missing.
 const MISSING: [Fault; 8] = [
     Fault {
         command: "decode",
@@ -161,8 +153,12 @@ const MISSING: [Fault; 8] = [
     },
 ];
 
-// A word is no option, or no number.
-const WRONG: [Fault; 10] = [
+#[test]
+fn a_word_that_is_missing_is_named(rt: HostRuntime) -> Result<(), Fail> {
+    name_faults(&rt, rt.alloc(), &MISSING)
+}
+
+const AT_FAULT: [Fault; 10] = [
     Fault {
         command: "decode",
         line: "qpk: \"--hex\" is not an option here\n",
@@ -215,7 +211,11 @@ const WRONG: [Fault; 10] = [
     },
 ];
 
-// A word is one too many, or no command.
+#[test]
+fn a_word_at_fault_is_named(rt: HostRuntime) -> Result<(), Fail> {
+    name_faults(&rt, rt.alloc(), &AT_FAULT)
+}
+
 const TOO_MANY: [Fault; 4] = [
     Fault {
         command: "decode",
@@ -240,13 +240,8 @@ const TOO_MANY: [Fault; 4] = [
 ];
 
 #[test]
-fn a_word_that_is_missing_or_at_fault_is_named(rt: HostRuntime) -> Result<(), Fail> {
-    for faults in [MISSING.as_slice(), &WRONG, &TOO_MANY] {
-        for fault in faults {
-            refuse_word(&rt, rt.alloc(), fault.command, fault.line, fault.words)?;
-        }
-    }
-    Ok(())
+fn a_word_too_many_is_named(rt: HostRuntime) -> Result<(), Fail> {
+    name_faults(&rt, rt.alloc(), &TOO_MANY)
 }
 
 // A carriage return before a line feed is part of the value.
