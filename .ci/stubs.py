@@ -1,0 +1,103 @@
+"""Stubs for functions of a crate in Rattle: a stub loops for ever, and the proof of its contract is a hole.
+
+A function that calls stubs is proved over their contracts, as ever. The prover has no body and no proof of a stub to
+check, which is most of the work where a function calls many others.
+"""
+import re
+import shutil
+from pathlib import Path
+
+# The head of a function that can be a stub: with at most one impl around it, and called by a path.
+HEAD = re.compile(r"^( {4})?(?:pub(?:\([^)]*\))? )?fn (\w+)")
+# A type with its arguments, after the parameters of an impl.
+OWNER = re.compile(r"^ (\w+)(?:<(.*)>)?(?: where .*)?$")
+PROOF = """use Rattle.{library}.Statement as stated
+
+pub {name}_spec : {{M : Type 1}} → stated.statement M
+{name}_spec = ?
+"""
+
+
+def parameters_of(head):
+    """Returns the parameters of an impl, and what follows them in its head."""
+    if not head.startswith("<"):
+        return "", head
+    depth = 0
+    for at, letter in enumerate(head):
+        depth += (letter == "<") - (letter == ">" and head[at - 1] != "-")
+        if depth == 0:
+            return head[1:at], head[at + 1 :]
+    return "", ""
+
+
+def owner_of(lines, at):
+    """Returns the type whose impl begins at a line, if its functions are named by the type alone: no trait is
+    implemented, and its arguments are the parameters of the impl."""
+    head = lines[at]
+    while not head.endswith("{") and at + 1 < len(lines):
+        at += 1
+        head += " " + lines[at].strip()
+    parameters, rest = parameters_of(head.removesuffix("{").rstrip().removeprefix("impl"))
+    found = OWNER.match(rest)
+    names = re.findall(r"(?:^|, )('?\w+)", parameters)
+    if not found or any(it not in names for it in (found[2] or "").split(", ") if it):
+        return None
+    return found[1]
+
+
+def body_of(lines, at, indent):
+    """Returns the lines of the braces of the body of the function whose head begins at a line, if it has a body there,
+    as rt fmt lays it out."""
+    for begin in range(at, len(lines)):
+        line = lines[begin]
+        if line == indent + "{" or line.endswith(" {") and (begin == at or line.startswith(indent + ")")):
+            break
+        if line.endswith((";", "}")) and (begin == at or re.match(indent + r"\S", line)):
+            return None
+    else:
+        return None
+    end = next((it for it in range(begin, len(lines)) if lines[it] == indent + "}"), None)
+    return end and (begin, end)
+
+
+def stub_file(path, module, is_kept):
+    """Stubs the functions of a file, which is a module's. Returns the path of each, in parts."""
+    lines, after, owner, stubs = path.read_text(encoding="utf-8").split("\n"), [], "", []
+    at = 0
+    while at < len(lines):
+        line = lines[at]
+        if re.match(r"impl\b", line):
+            owner = owner_of(lines, at)
+        elif re.match(r"\S", line) and line != "{":
+            owner = ""
+        head = HEAD.match(line)
+        body = head and bool(head[1]) == bool(owner) and body_of(lines, at, head[1] or "")
+        function = head and [*module, *([owner] if owner else []), head[2]]
+        if body and not is_kept(function) and "#[cycle" not in lines[at - 1]:
+            stubs.append(function)
+            after += [*lines[at : body[0] + 1], f"{head[1] or ''}    loop {{}}"]
+            at = body[1]
+        else:
+            after.append(line)
+            at += 1
+    path.write_text("\n".join(after), encoding="utf-8")
+    return stubs
+
+
+def stub(room, crate, kept):
+    """Stubs the functions of a copy of a crate, but for those at whose ends the kept paths are."""
+    ends = [it.split("::") for it in kept]
+    stubs = []
+    for path in sorted((room / "src").rglob("*.rt")):
+        module = path.relative_to(room / "src").with_suffix("").parts
+        module = () if module in (("lib",), ("main",)) else module
+        stubs += stub_file(path, module, lambda function: any(function[-len(it) :] == it for it in ends))
+    for function in stubs:
+        folder = room / "proofs" / Path(*function)
+        shutil.rmtree(folder, ignore_errors=True)
+        # The proofs of the function's closures.
+        shutil.rmtree(folder.parent / "fn" / folder.name, ignore_errors=True)
+        folder.mkdir(parents=True)
+        library = ".".join((crate, "proofs", *function))
+        (folder / "Proof.antt").write_text(PROOF.format(library=library, name=function[-1]), encoding="utf-8")
+    return stubs
