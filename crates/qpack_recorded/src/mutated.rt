@@ -10,13 +10,13 @@ use qpack_testing::Numbers;
 use std::alloc::Global;
 
 /// How often a recording is given, mutated otherwise each time.
-const ROUNDS: usize = 200;
+const CASES: usize = 200;
 
 /// How many lines have a result, and how many of these are errors.
 #[derive(Clone, Copy)]
-pub(crate) struct Answers {
-    pub(crate) given: usize,
-    pub(crate) refused: usize,
+struct Answers {
+    given: usize,
+    refused: usize,
 }
 
 impl Answers {
@@ -32,19 +32,29 @@ impl Answers {
     }
 }
 
-/// Gives a recording to a decoder in each round, one line in eight mutated, up to a refusal of its encoder stream.
-pub(crate) fn hold(alloc: Global, lines: &[Line], max_capacity: usize) -> Result<Answers> {
+/// Gives a recording to a decoder in each round, one line in eight mutated, up to a refusal of its encoder stream. Fails
+/// if fewer than two lines a round are refused, or fewer than two are read.
+pub(crate) fn hold(alloc: Global, lines: &[Line], max_capacity: usize) -> Result<()> {
     let mut numbers = Numbers::new(9204);
     let mut answers = Answers {
         given: 0,
         refused: 0,
     };
-    for _ in 0..ROUNDS {
+    for _ in 0..CASES {
         let mut receiver = Receiver::new(alloc, max_capacity)?;
         give_all(alloc, &mut numbers, lines, &mut receiver, &mut answers)?;
         hold_table(alloc, max_capacity, &receiver)?;
     }
-    Ok(answers)
+    let fewer = answers
+        .refused
+        .min(answers.given.saturating_sub(answers.refused));
+    ensure!(
+        fewer >= CASES.saturating_mul(2),
+        "{} of {} lines are refused, mutated",
+        answers.refused,
+        answers.given
+    );
+    Ok(())
 }
 
 /// Gives the lines of a recording, up to a refusal of its encoder stream.
