@@ -1,12 +1,11 @@
 //! What calls answer.
 
 use anyhow::Result;
-use h3_qpack::dynamic::{DynamicTable, EntryIndex};
 use qpack_ends::decoder::DecodingError;
 use qpack_ends::encoder::EncodingError;
 use qpack_ends::{DecoderStreamError, EncoderStreamError};
 use qpack_testing::cases::push_refusal;
-use std::fmt::{Display, Write};
+use std::fmt::Display;
 
 /// Why an end or a stream refuses a call.
 pub(crate) trait Refusal: Display + Drop {
@@ -52,17 +51,4 @@ pub(crate) fn push_failure<E: Refusal>(answer: &mut String, failure: Option<E>) 
         Some(error) => push_refusal(answer, error.ending_code(), &error),
         None => Ok(answer.push_str("none")?),
     }
-}
-
-/// Appends a count.
-pub(crate) fn push_count(answer: &mut String, count: usize) -> Result<()> {
-    Ok(write!(answer, "{count}")?)
-}
-
-/// Appends the capacity of a table, and its maximum.
-pub(crate) fn push_capacity<I: EntryIndex>(
-    answer: &mut String,
-    table: &DynamicTable<I>,
-) -> Result<()> {
-    Ok(write!(answer, "{} of {}", table.max_mem_size(), table.agreed_max())?)
 }

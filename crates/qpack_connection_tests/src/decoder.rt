@@ -1,13 +1,13 @@
 //! The decoding end of a connection.
 
-use crate::answers::{push_capacity, push_done, push_failure};
+use crate::answers::{push_done, push_failure};
 use crate::fields::push_reading;
 use anyhow::{Result, bail, ensure};
 use h3_qpack::coding::Cursor;
 use h3_qpack::stream::{DecoderLine, HeaderAck, InsertCountIncrement, StreamCancel, next_line};
 use qpack_ends::decoder::{ConnectionDecoder, DecoderSettings, DecodingError};
 use qpack_ends::{FieldSection, Reading};
-use qpack_testing::cases::{Subject, Words, push_bytes, push_refusal};
+use qpack_testing::cases::{Subject, Words, push_bytes, push_capacity, push_refusal};
 use std::alloc::Global;
 use std::fmt::Write;
 
@@ -120,12 +120,12 @@ impl Decoder {
 
     /// Appends a part of its state.
     fn push_state(&self, word: &str, answer: &mut String) -> Result<()> {
-        let end = &self.end;
+        let (end, table) = (&self.end, self.end.table());
         match word {
             "has" => push_ready(answer, end.blocked(), end.next_ready()),
             "state" => self.push_counts(answer),
             "settings" => Ok(write!(answer, "{:?}", end.settings())?),
-            "capacity" => push_capacity(answer, end.table()),
+            "capacity" => push_capacity(answer, table.max_mem_size(), table.agreed_max()),
             "failure" => push_failure(answer, end.failure()),
             _ => bail!("a decoder has no call {word}"),
         }

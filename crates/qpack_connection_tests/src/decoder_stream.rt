@@ -1,12 +1,12 @@
 //! The decoder stream, received strictly.
 
-use crate::answers::{push_count, push_done};
+use crate::answers::push_done;
 use anyhow::{Result, bail};
 use h3_qpack::HeaderField;
 use h3_qpack::coding::Cursor;
 use h3_qpack::dynamic::{DynamicLookupResult, DynamicTable, DynamicTableEncoder, Error};
 use qpack_ends::{DecoderStream, DecoderStreamError};
-use qpack_testing::cases::{Subject, Words};
+use qpack_testing::cases::{Subject, Words, push_count};
 use std::alloc::Global;
 use std::fmt::Write;
 
@@ -41,11 +41,7 @@ fn reference(block: &mut DynamicTableEncoder<'_>, field: &HeaderField) -> Result
 }
 
 /// Encodes a section on a stream that references a field, and returns how many insertions it requires.
-pub(crate) fn send(
-    table: &mut DynamicTable,
-    stream: u64,
-    field: &HeaderField,
-) -> Result<usize, Error> {
+fn send(table: &mut DynamicTable, stream: u64, field: &HeaderField) -> Result<usize, Error> {
     let mut block = table.encoder(stream);
     match reference(&mut block, field) {
         Ok(()) => {

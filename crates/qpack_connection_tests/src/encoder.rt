@@ -1,6 +1,6 @@
 //! The encoding end of a connection.
 
-use crate::answers::{push_capacity, push_count, push_done, push_failure};
+use crate::answers::{push_done, push_failure};
 use crate::fields::{push_reading, wish_fields};
 use anyhow::{Result, bail, ensure};
 use h3_qpack::coding::Cursor;
@@ -9,7 +9,8 @@ use qpack_ends::decoder::{ConnectionDecoder, DecoderSettings};
 use qpack_ends::encoder::{ConnectionEncoder, EncoderSettings, EncodingError};
 use qpack_ends::{FieldLine, FieldSection, WishedField};
 use qpack_testing::cases::{
-    Field, Subject, Words, header_fields, push_bytes, push_refusal, read_fields,
+    Field, Subject, Words, header_fields, push_bytes, push_capacity, push_count, push_refusal,
+    read_fields,
 };
 use std::alloc::Global;
 use std::fmt::Write;
@@ -301,12 +302,12 @@ impl Encoder {
 
     /// Appends a part of its state.
     fn push_state(&self, word: &str, answer: &mut String) -> Result<()> {
-        let end = &self.end;
+        let (end, table) = (&self.end, self.end.table());
         match word {
             "counts" => self.push_counts(answer),
             "state" => self.push_all_counts(answer),
             "waits" => push_count(answer, end.waiting()),
-            "capacity" => push_capacity(answer, end.table()),
+            "capacity" => push_capacity(answer, table.max_mem_size(), table.agreed_max()),
             "settings" => Ok(write!(answer, "{:?}", end.settings())?),
             "failure" => push_failure(answer, end.failure()),
             _ => bail!("an encoder has no call {word}"),

@@ -1,11 +1,11 @@
 //! The encoder stream, received strictly.
 
-use crate::answers::{push_count, push_done};
+use crate::answers::push_done;
 use anyhow::{Result, bail};
 use h3_qpack::coding::Cursor;
 use h3_qpack::dynamic::DynamicTable;
 use qpack_ends::{EncoderStream, EncoderStreamError};
-use qpack_testing::cases::{Subject, Words};
+use qpack_testing::cases::{Subject, Words, push_count};
 use std::alloc::Global;
 use std::fmt::Write;
 

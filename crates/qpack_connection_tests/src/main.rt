@@ -8,9 +8,7 @@ mod decoder_stream;
 mod encoder;
 mod encoder_stream;
 mod fields;
-mod h3_encoder;
 mod sections;
-mod table;
 
 use anyhow::{Result, bail};
 use calls::Calls;
@@ -18,20 +16,17 @@ use decoder::Decoder;
 use decoder_stream::Hearing;
 use encoder::Encoder;
 use encoder_stream::Receiving;
-use h3_encoder::H3Encoder;
 use qpack_testing::cases::{Kinds, Line, Words, hold, hold_files};
 use sections::Sections;
 use std::alloc::Global;
-use table::{Received, Table};
 
 /// The files of cases.
-const FILES: [&str; 8] = [
+const FILES: [&str; 7] = [
     "decoder.txt",
     "encoder.txt",
     "decoder_stream.txt",
     "encoder_stream.txt",
     "sections.txt",
-    "tables.txt",
     "recordings.txt",
     "calls.txt",
 ];
@@ -50,12 +45,9 @@ impl Kinds for Ends {
         match kind {
             "decoder" => hold::<Decoder>(alloc, settings, size, calls),
             "encoder" => hold::<Encoder>(alloc, settings, size, calls),
-            "h3-encoder" => hold::<H3Encoder>(alloc, settings, size, calls),
             "decoder-stream" => hold::<Hearing>(alloc, settings, size, calls),
             "encoder-stream" => hold::<Receiving>(alloc, settings, size, calls),
             "sections" => hold::<Sections>(alloc, settings, size, calls),
-            "table" => hold::<Table>(alloc, settings, size, calls),
-            "received-table" => hold::<Received>(alloc, settings, size, calls),
             "calls" => hold::<Calls>(alloc, settings, size, calls),
             _ => bail!("there is no {kind}"),
         }

@@ -9,7 +9,7 @@
 //! - `= KIND SETTINGS` says what the case calls. A case with several such lines makes its calls for each. With
 //!   `pieces 1 7` at its end the bytes of a stream come in pieces of one byte, and then in pieces of seven.
 //! - `CALL -> ANSWER` makes a call, which must give this answer. After a call that was refused memory any answer will
-//!   do.
+//!   do: then all calls are made once more, by a new subject, and none may be refused memory.
 //! - `CALL => ANSWER` does the same, and the answer counts after refused memory too.
 //! - `CALL` alone makes a call, and takes any answer.
 //! - `ended -> ANSWER` requires that every call that can fail gives this answer from now on, and changes nothing.
@@ -24,8 +24,8 @@ mod script;
 mod subject;
 mod words;
 
-pub use fields::{Field, Mark, header_fields, push_field, read_fields};
+pub use fields::{Field, Mark, header_fields, push_field, read_fields, read_headers};
 pub use files::hold_files;
 pub use script::{Case, Line};
 pub use subject::{Kinds, Subject, hold, make_call};
-pub use words::{Words, push_bytes, push_refusal};
+pub use words::{Words, push_bytes, push_capacity, push_count, push_refusal};

@@ -1,6 +1,7 @@
 //! Fields as cases write them.
 
-use crate::cases::words::push_bytes;
+use crate::again;
+use crate::cases::words::{Words, push_bytes};
 use anyhow::{Context, Result};
 use qpack_base::field::{FieldLine, HeaderField};
 use std::alloc::Global;
@@ -103,6 +104,13 @@ pub fn header_fields(alloc: Global, fields: &[Field]) -> Result<Vec<HeaderField>
         headers.push(HeaderField::from_pair(alloc, &field.name, &field.value)?)?;
     }
     Ok(headers)
+}
+
+/// Reads the fields of the words that are left as header fields, a second time in case memory was refused.
+pub fn read_headers(alloc: Global, words: &mut Words<'_>) -> Result<Vec<HeaderField>> {
+    let text = words.rest;
+    words.rest = "";
+    again(|| header_fields(alloc, &read_fields(alloc, text)?))
 }
 
 /// Appends a name or a value.

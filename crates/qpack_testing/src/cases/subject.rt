@@ -64,13 +64,30 @@ pub(crate) fn hold_case<K: Kinds>(alloc: Global, case: &Case<'_>) -> Result<usiz
     Ok(calls)
 }
 
-/// Makes all calls of one of these settings.
+/// Makes all calls of one of these settings, and once more if one was refused memory.
 pub fn hold<S: Subject>(
     alloc: Global,
     settings: &mut Words<'_>,
     size: usize,
     calls: &[Line<'_>],
 ) -> Result<()> {
+    let words = *settings;
+    if hold_once::<S>(alloc, settings, size, calls)? {
+        return Ok(());
+    }
+    *settings = words;
+    let is_held = hold_once::<S>(alloc, settings, size, calls)?;
+    ensure!(is_held, "memory was refused again");
+    Ok(())
+}
+
+/// Makes all calls of one of these settings. Returns whether none was refused memory.
+fn hold_once<S: Subject>(
+    alloc: Global,
+    settings: &mut Words<'_>,
+    size: usize,
+    calls: &[Line<'_>],
+) -> Result<bool> {
     let words = *settings;
     let mut subject = match S::begin(alloc, settings, size) {
         Ok(subject) => subject,
@@ -83,13 +100,13 @@ pub fn hold<S: Subject>(
     hold_calls(alloc, &mut subject, settings.rest, calls)
 }
 
-/// Makes all calls of a borrowed subject, of whose settings no word is left.
+/// Makes all calls of a borrowed subject, of whose settings no word is left. Returns whether none was refused memory.
 fn hold_calls<S: Subject>(
     alloc: Global,
     subject: &mut S,
     left: &str,
     calls: &[Line<'_>],
-) -> Result<()> {
+) -> Result<bool> {
     ensure!(left.is_empty(), "there are no settings {left}");
     let mut answer = String::new(alloc);
     // A second time, in case memory was refused.
@@ -101,7 +118,7 @@ fn hold_calls<S: Subject>(
             bail!("line {}: {error:#}", line.number);
         }
     }
-    Ok(())
+    Ok(!subject.lacked_memory())
 }
 
 /// Makes the call of a line, which must give the answer of the line.

@@ -1,5 +1,6 @@
 //! The words of a call, and the words of an answer.
 
+use crate::bytes;
 use anyhow::Result;
 use std::alloc::Global;
 use std::fmt::{Display, Write};
@@ -42,11 +43,11 @@ impl<'a> Words<'a> {
         }
     }
 
-    /// The next word, bytes in hexadecimal.
+    /// Reads the next word, bytes in hexadecimal, a second time in case memory was refused.
     pub fn bytes(&mut self, alloc: Global) -> Result<Vec<u8>> {
         match self.word() {
             "nothing" => Ok(Vec::new(alloc)),
-            digits => Ok(hex::decode(alloc, digits)?),
+            digits => Ok(bytes(alloc, digits.as_bytes())?),
         }
     }
 }
@@ -60,6 +61,16 @@ pub fn push_bytes(answer: &mut String, bytes: &[u8]) -> Result<()> {
         write!(answer, "{byte:02x}")?;
     }
     Ok(())
+}
+
+/// Appends a count.
+pub fn push_count(answer: &mut String, count: usize) -> Result<()> {
+    Ok(write!(answer, "{count}")?)
+}
+
+/// Appends the capacity of a table, and its maximum.
+pub fn push_capacity(answer: &mut String, capacity: usize, maximum: usize) -> Result<()> {
+    Ok(write!(answer, "{capacity} of {maximum}")?)
 }
 
 /// Appends why a call was refused, and the code of the error if it ends the connection.

@@ -1,0 +1,141 @@
+//! The decoder of `h3_qpack`, over a table with an index or without one.
+
+use crate::answers::{push_decoded, push_done, push_position, push_value};
+use crate::table::{Kind, call_for_state, table_of};
+use anyhow::{Result, ensure};
+use h3_qpack::coding::{Cursor, NoMemory};
+use h3_qpack::decoder::{Decoder, DecoderError, ack_header, stream_canceled};
+use h3_qpack::dynamic::EntryIndex;
+use h3_qpack::prefix_int;
+use qpack_testing::again;
+use qpack_testing::cases::{Subject, Words, push_bytes};
+use std::alloc::Global;
+use std::fmt::Write;
+
+/// A decoder, and what it wrote since that was last asked for. A stream may be cut in two behind so many bytes.
+#[derive(Drop)]
+pub(crate) struct H3Decoder<I: EntryIndex> {
+    decoder: Decoder<I>,
+    written: Vec<u8>,
+    cut: usize,
+}
+
+impl<I: Kind> Subject for H3Decoder<I> {
+    /// The settings are those of its table.
+    fn begin(alloc: Global, settings: &mut Words<'_>, size: usize) -> Result<H3Decoder<I>> {
+        Ok(H3Decoder {
+            decoder: Decoder::from(table_of::<I>(alloc, settings)?),
+            written: Vec::new(alloc),
+            cut: size,
+        })
+    }
+
+    fn call(
+        &mut self,
+        alloc: Global,
+        word: &str,
+        words: &mut Words<'_>,
+        answer: &mut String,
+    ) -> Result<()> {
+        match word {
+            "decodes" => self.decode(&words.bytes(alloc)?, answer),
+            "receives" | "receives-without-memory" => {
+                self.receive(word, &words.bytes(alloc)?, answer)
+            }
+            "receives-in-two" => self.receive_in_two(&words.bytes(alloc)?, answer),
+            "acknowledges" | "cancels" => self.reply(word, words.number()?, answer),
+            "writes" => self.push_written(answer),
+            "reports" => self.push_reported(answer),
+            _ => call_for_state(self.decoder.table(), word, words, answer),
+        }
+    }
+}
+
+impl<I: EntryIndex> H3Decoder<I> {
+    /// Decodes a section, a second time in case memory was refused.
+    fn decode(&self, section: &[u8], answer: &mut String) -> Result<()> {
+        let decoded = again(|| self.decoder.decode_header(&mut Cursor::new(section)));
+        push_decoded(answer, &decoded)
+    }
+
+    /// Receives what is left at a cursor, a second time if memory was refused: then nothing was written.
+    fn take(&mut self, cursor: &mut Cursor) -> Result<Result<usize, DecoderError>> {
+        let before = self.written.len();
+        let received = self.decoder.on_encoder_recv(cursor, &mut self.written);
+        if received != Err(DecoderError::Memory) {
+            return Ok(received);
+        }
+        ensure!(
+            self.written.len() == before,
+            "a call that was refused memory writes"
+        );
+        Ok(self.decoder.on_encoder_recv(cursor, &mut self.written))
+    }
+
+    /// Receives bytes of the encoder stream, and never a second time if they take no memory. Appends how many insertions
+    /// there were, and how many bytes were taken.
+    fn receive(&mut self, word: &str, bytes: &[u8], answer: &mut String) -> Result<()> {
+        let mut cursor = Cursor::new(bytes);
+        let received = match word {
+            "receives" => self.take(&mut cursor)?,
+            _ => self.decoder.on_encoder_recv(&mut cursor, &mut self.written),
+        };
+        push_value(answer, &received)?;
+        push_position(answer, cursor.position())
+    }
+
+    /// Receives bytes of the encoder stream in two pieces. The second begins with the bytes that the first left.
+    fn receive_in_two(&mut self, bytes: &[u8], answer: &mut String) -> Result<()> {
+        let mut first = Cursor::new(bytes.get(..self.cut).unwrap_or(bytes));
+        self.take(&mut first)??;
+        let mut second = Cursor::new(bytes.get(first.position()..).unwrap_or(b""));
+        push_value(answer, &self.take(&mut second)?)?;
+        push_position(answer, first.position().saturating_add(second.position()))
+    }
+
+    /// Acknowledges a section of a stream, or cancels the stream, a second time in case memory was refused.
+    fn reply(&mut self, word: &str, stream: u64, answer: &mut String) -> Result<()> {
+        let mut done = reply(word, stream, &mut self.written);
+        if done.is_err() {
+            done = reply(word, stream, &mut self.written);
+        }
+        push_done(answer, &done)
+    }
+
+    /// Appends what was written since it was last asked for.
+    fn push_written(&mut self, answer: &mut String) -> Result<()> {
+        push_bytes(answer, &self.written)?;
+        self.written.clear();
+        Ok(())
+    }
+
+    /// Appends how many insertions were reported since it was last asked for.
+    fn push_reported(&mut self, answer: &mut String) -> Result<()> {
+        write!(answer, "{}", sum_of_increments(&self.written)?)?;
+        self.written.clear();
+        Ok(())
+    }
+}
+
+/// Writes the acknowledgment of a section of a stream, or the cancellation of the stream.
+fn reply(word: &str, stream: u64, written: &mut Vec<u8>) -> Result<(), NoMemory> {
+    match word {
+        "acknowledges" => ack_header(stream, written),
+        _ => stream_canceled(stream, written),
+    }
+}
+
+/// Returns the sum of the increments that were written (RFC 9204, section 4.4.3).
+fn sum_of_increments(written: &[u8]) -> Result<u64> {
+    let mut cursor = Cursor::new(written);
+    let mut sum = 0u64;
+    for _ in written {
+        if cursor.remaining() == 0 {
+            break;
+        }
+        let (flags, increment) = prefix_int::decode(6, &mut cursor)?;
+        ensure!(flags == 0, "no increment was written");
+        sum = sum.saturating_add(increment);
+    }
+    Ok(sum)
+}
