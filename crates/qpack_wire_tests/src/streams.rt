@@ -1,54 +1,78 @@
-//! The encoder stream of another implementation, cut into pieces.
+//! Streams of instructions: whole, truncated, and cut into pieces (RFC 9204, sections 4.3 and 4.4).
 
-use crate::instructions::next;
-use crate::recorded::ENCODER_STREAM;
+use crate::answers::push_result;
+use anyhow::{Result, ensure};
 use qpack_base::coding::Cursor;
 use qpack_base::parse_error::ParseError;
-use qpack_testing::same;
-use qpack_wire::stream::EncoderLine;
+use qpack_wire::stream::{EncoderLine, Wire, least_field_size, next_line, wanted};
 use std::alloc::Global;
-use std::test::Fail;
+use std::fmt::{Debug, Write};
+use std::result;
 
-/// How many cuts are tried, spread over the stream: as many as it has bytes, so that it is cut anywhere.
-const CASES: usize = 2_699;
+/// Reads the next instruction; at the same cursor a second time, in case memory was refused.
+fn next<W: Wire>(alloc: Global, cursor: &mut Cursor) -> result::Result<Option<W>, ParseError> {
+    match next_line(alloc, cursor) {
+        Err(ParseError::Memory) => next_line(alloc, cursor),
+        read => read,
+    }
+}
+
+/// Appends the instruction at the front of the bytes, and how many bytes are left after it.
+pub(crate) fn push_next<W: Wire + Debug>(
+    alloc: Global,
+    answer: &mut String,
+    bytes: &[u8],
+) -> Result<()> {
+    let mut cursor = Cursor::new(bytes);
+    push_result(answer, &next::<W>(alloc, &mut cursor))?;
+    Ok(write!(answer, ", {} left", cursor.remaining())?)
+}
+
+/// Appends how many bytes there must be of an encoder instruction that is truncated, and the least size of its field.
+pub(crate) fn push_waiting(alloc: Global, answer: &mut String, bytes: &[u8]) -> Result<()> {
+    push_next::<EncoderLine>(alloc, answer, bytes)?;
+    let (many, size) = (wanted(bytes), least_field_size(bytes));
+    Ok(write!(answer, ", {many} wanted, a field of {size}")?)
+}
 
 /// Reads the whole instructions of the bytes after those that were read, and returns how many bytes they took.
-fn read_all(
-    alloc: Global,
-    bytes: &[u8],
-    lines: &mut Vec<EncoderLine>,
-) -> Result<usize, ParseError> {
+fn read_all(alloc: Global, bytes: &[u8], lines: &mut Vec<EncoderLine>) -> Result<usize> {
     let mut cursor = Cursor::new(bytes);
-    for _ in 0..bytes.len() {
+    for _ in bytes {
         let Some(line) = next(alloc, &mut cursor)? else {
             break;
         };
-        if lines.reserve(1).is_err() {
-            lines.reserve(1)?;
-        }
         lines.push(line)?;
     }
     Ok(cursor.position())
 }
 
-/// The stream in two pieces, the first of this many bytes, has the instructions of the whole.
-fn is_same_when_cut(alloc: Global, cut: usize, whole: &Vec<EncoderLine>) -> Result<(), Fail> {
+/// Fails if a stream in two pieces, the first of this many bytes, has not the instructions of the whole.
+fn hold_cut(alloc: Global, stream: &[u8], cut: usize, whole: &Vec<EncoderLine>) -> Result<()> {
     let mut lines = Vec::new(alloc);
-    let first = ENCODER_STREAM.get(..cut).unwrap_or(b"");
-    let taken = read_all(alloc, first, &mut lines)?;
-    let rest = ENCODER_STREAM.get(taken..).unwrap_or(b"");
-    let more = read_all(alloc, rest, &mut lines)?;
-    same(taken.saturating_add(more), ENCODER_STREAM.len())?;
-    same(lines == *whole, true)
+    let taken = read_all(alloc, stream.get(..cut).unwrap_or(stream), &mut lines)?;
+    let more = read_all(alloc, stream.get(taken..).unwrap_or(b""), &mut lines)?;
+    let is_whole = taken.saturating_add(more) == stream.len();
+    ensure!(
+        is_whole && lines == *whole,
+        "a cut at {cut} changes the instructions"
+    );
+    Ok(())
 }
 
-#[test]
-fn a_stream_cut_anywhere_has_the_same_instructions(rt: HostRuntime) -> Result<(), Fail> {
-    let mut whole = Vec::new(rt.alloc());
-    let taken = read_all(rt.alloc(), ENCODER_STREAM, &mut whole)?;
-    same((taken, whole.len()), (ENCODER_STREAM.len(), 127))?;
-    for case in 0..CASES {
-        is_same_when_cut(rt.alloc(), case.saturating_mul(taken) / CASES, &whole)?;
+/// Cuts an encoder stream at this many places, spread over it. Appends how many instructions it has, wherever it is
+/// cut, and how many bytes they take.
+pub(crate) fn push_cuts(
+    alloc: Global,
+    answer: &mut String,
+    stream: &[u8],
+    cuts: usize,
+) -> Result<()> {
+    let mut whole = Vec::new(alloc);
+    let taken = read_all(alloc, stream, &mut whole)?;
+    for cut in 0..cuts {
+        let place = cut.saturating_mul(taken).checked_div(cuts).unwrap_or(0);
+        hold_cut(alloc, stream, place, &whole)?;
     }
-    Ok(())
+    Ok(write!(answer, "{} instructions of {taken} bytes", whole.len())?)
 }

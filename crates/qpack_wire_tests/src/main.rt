@@ -1,0 +1,47 @@
+//! Cases of the bytes of QPACK: integers, strings, header fields, lines, prefixes and instructions, in the format of
+//! `qpack_testing::cases`. They hold what no clause of `qpack_base` and `qpack_wire` says: values from outside, success
+//! with ample memory, what a refused growth leaves, and printed texts.
+#![tactic(auto)]
+
+mod answers;
+mod calls;
+mod fields;
+mod reading;
+mod streams;
+mod writing;
+
+use anyhow::{Result, ensure};
+use calls::Calls;
+use qpack_testing::cases::{Kinds, Line, Words, hold, hold_files};
+use std::alloc::Global;
+
+/// The files of cases.
+const FILES: [&str; 7] = [
+    "integers.txt",
+    "literals.txt",
+    "recorded_texts.txt",
+    "header_fields.txt",
+    "field_lines.txt",
+    "instructions.txt",
+    "cut_stream.txt",
+];
+
+/// What the cases call.
+struct Wire;
+
+impl Kinds for Wire {
+    fn hold_kind(
+        alloc: Global,
+        kind: &str,
+        settings: &mut Words,
+        size: usize,
+        calls: &[Line],
+    ) -> Result<()> {
+        ensure!(kind == "calls", "there is no {kind}");
+        hold::<Calls>(alloc, settings, size, calls)
+    }
+}
+
+fn main(rt: HostRuntime) -> Result<()> {
+    hold_files::<Wire>(&rt, &FILES)
+}

@@ -1,0 +1,207 @@
+//! What is written, to vectors that have room, that grow, and that can't.
+
+use crate::reading::read_size;
+use anyhow::{Context, Result, bail, ensure};
+use linked_list_allocator::LocalHeap;
+use qpack_base::coding::{BufMutExt, Cursor};
+use qpack_base::prefix_string::HpackStringEncode;
+use qpack_base::{prefix_int, prefix_string};
+use qpack_testing::cases::{Words, push_bytes};
+use qpack_wire::block::{
+    BlockLine, HeaderPrefix, Literal, LiteralWithNameRef, LiteralWithPostBaseNameRef,
+};
+use qpack_wire::stream::{
+    DecoderLine, EncoderLine, InsertWithNameRef, InsertWithoutNameRef, Wire, next_line,
+};
+use std::alloc::{Allocator, Global};
+use std::fmt::Write;
+
+/// Appends what items are written as in a vector of this room, which stays its capacity unless it is 0.
+pub(crate) fn push_written(alloc: Global, words: &mut Words, answer: &mut String) -> Result<()> {
+    let room = words.count()?;
+    let mut out = Vec::with_capacity(alloc, room)?;
+    write_items(alloc, words.rest, &mut out, answer)?;
+    words.rest = "";
+    ensure!(
+        room == 0 || out.capacity() == room,
+        "memory is taken beside the room"
+    );
+    push_bytes(answer, &out)
+}
+
+/// Writes items, or appends why they are not written.
+fn write_items(alloc: Global, items: &str, out: &mut Vec<u8>, answer: &mut String) -> Result<()> {
+    for item in items.split(" | ") {
+        if write_item(alloc, item, out).is_ok() {
+            continue;
+        }
+        // A second time, in case memory was refused.
+        if let Err(error) = write_item(alloc, item, out) {
+            write!(answer, "{error}; ")?;
+        }
+    }
+    Ok(())
+}
+
+/// How often `fills` writes an item.
+const TIMES: usize = 200;
+
+/// Writes an item again and again to a vector of a small heap. Appends why it was refused, and whether it was written.
+pub(crate) fn push_filling(alloc: Global, words: &mut Words, answer: &mut String) -> Result<()> {
+    let heap = LocalHeap::new(alloc, words.count()?)?;
+    let (length, room) = (words.count()?, words.count()?);
+    let mut out = Vec::new(&heap);
+    for _ in 0..TIMES {
+        write_or_leave(alloc, words.rest, (length, room), &mut out, answer)?;
+    }
+    words.rest = "";
+    Ok(write!(answer, ", written {}", !out.is_empty())?)
+}
+
+/// Writes an item of this length. If it is refused the vector is as before, with less than this room: the answer is why.
+fn write_or_leave(
+    alloc: Global,
+    item: &str,
+    (length, room): (usize, usize),
+    out: &mut Vec<u8, &LocalHeap>,
+    answer: &mut String,
+) -> Result<()> {
+    let (before, capacity) = (out.len(), out.capacity());
+    let Err(error) = write_item(alloc, item, out) else {
+        ensure!(
+            out.len() == before.saturating_add(length),
+            "{item} is not {length} bytes"
+        );
+        return Ok(());
+    };
+    let is_full = capacity.saturating_sub(before) < room;
+    ensure!(
+        out.len() == before && is_full,
+        "{item} is refused after {before} bytes of {capacity}"
+    );
+    answer.clear();
+    Ok(write!(answer, "{error}")?)
+}
+
+/// Appends the payload of the text that is left. The literal of the text ends with it, and is read as the text.
+pub(crate) fn push_payload(alloc: Global, words: &mut Words, answer: &mut String) -> Result<()> {
+    let text = Vec::from_slice(alloc, words.rest.as_bytes())?;
+    words.rest = "";
+    let payload = text.hpack_encode()?;
+    hold_literal(alloc, &text, &payload)?;
+    push_bytes(answer, &payload)
+}
+
+/// Fails if the literal of a text does not end with its payload, or is not read as the text.
+fn hold_literal(alloc: Global, text: &[u8], payload: &[u8]) -> Result<()> {
+    let mut literal = Vec::new(alloc);
+    if prefix_string::encode(8, 0, text, &mut literal).is_err() {
+        // A second time, in case memory was refused.
+        prefix_string::encode(8, 0, text, &mut literal)?;
+    }
+    let read = prefix_string::decode(alloc, 8, &mut Cursor::new(&literal))?;
+    let is_read = read.as_slice() == text;
+    ensure!(
+        is_read && literal.ends_with(payload),
+        "the literal has another payload"
+    );
+    Ok(())
+}
+
+/// Writes an item.
+fn write_item<A: Allocator>(alloc: Global, item: &str, out: &mut Vec<u8, A>) -> Result<()> {
+    let words = &mut Words { rest: item };
+    match words.word() {
+        "byte" => Ok(out.write(words.word().parse::<u8>()?)?),
+        "integer" => write_integer(words, out),
+        "string" => write_string(words, out),
+        "reads" => read_onto(alloc, words, out),
+        "prefix" => Ok(read_prefix(words)?.encode(out)?),
+        "line" => Ok(read_line(alloc, words)?.encode(out)?),
+        "encoder" => Ok(read_instruction::<EncoderLine>(alloc, words)?.encode(out)?),
+        "decoder" => Ok(read_instruction::<DecoderLine>(alloc, words)?.encode(out)?),
+        "made" => write_made(alloc, words, out),
+        form => write_lent(form, words, out),
+    }
+}
+
+/// Writes an integer with a prefix of a size, under flags.
+fn write_integer<A: Allocator>(words: &mut Words, out: &mut Vec<u8, A>) -> Result<()> {
+    let size = read_size(words, 1)?;
+    let (flags, value) = (words.word().parse::<u8>()?, words.number()?);
+    Ok(prefix_int::encode(size, flags, value, out)?)
+}
+
+/// Writes the string of the text that is left with a prefix of a size, under flags.
+fn write_string<A: Allocator>(words: &mut Words, out: &mut Vec<u8, A>) -> Result<()> {
+    let size = read_size(words, 2)?;
+    let flags = words.word().parse::<u8>()?;
+    Ok(prefix_string::encode(size, flags, words.rest.as_bytes(), out)?)
+}
+
+/// Reads a string with a prefix of a size, and writes its text.
+fn read_onto<A: Allocator>(alloc: Global, words: &mut Words, out: &mut Vec<u8, A>) -> Result<()> {
+    let size = read_size(words, 2)?;
+    let bytes = words.bytes(alloc)?;
+    Ok(prefix_string::decode_onto(size, &mut Cursor::new(&bytes), out)?)
+}
+
+/// Makes the prefix of a required insert count, a base, a number of insertions and a maximum capacity.
+fn read_prefix(words: &mut Words) -> Result<HeaderPrefix> {
+    let (required, base) = (words.count()?, words.count()?);
+    let (inserted, capacity) = (words.count()?, words.count()?);
+    let is_possible = required <= inserted && capacity >= 32;
+    ensure!(
+        is_possible || required == 0 || capacity == 0,
+        "no section has this prefix"
+    );
+    Ok(HeaderPrefix::new(required, base, inserted, capacity))
+}
+
+/// Reads a line.
+fn read_line(alloc: Global, words: &mut Words) -> Result<BlockLine> {
+    let bytes = words.bytes(alloc)?;
+    Ok(BlockLine::decode(alloc, &mut Cursor::new(&bytes))?)
+}
+
+/// Reads an instruction.
+fn read_instruction<W: Wire>(alloc: Global, words: &mut Words) -> Result<W> {
+    let bytes = words.bytes(alloc)?;
+    next_line(alloc, &mut Cursor::new(&bytes))?.context("the instruction is truncated")
+}
+
+/// Writes a line or an instruction that owns an index or a name, and a value.
+fn write_made<A: Allocator>(alloc: Global, words: &mut Words, out: &mut Vec<u8, A>) -> Result<()> {
+    let (form, index) = (words.word(), words.first_number() as usize);
+    let name = Vec::from_slice(alloc, words.word().as_bytes())?;
+    let value = Vec::from_slice(alloc, words.rest.as_bytes())?;
+    let written = match form {
+        "static-name" => LiteralWithNameRef::new_static(index, value).encode(out),
+        "name" => LiteralWithNameRef::new_dynamic(index, value).encode(out),
+        "post-base-name" => LiteralWithPostBaseNameRef::new(index, value).encode(out),
+        "literal" => Literal::new(name, value).encode(out),
+        "insert-static-name" => InsertWithNameRef::new_static(index, value).encode(out),
+        "insert-name" => InsertWithNameRef::new_dynamic(index, value).encode(out),
+        "insert" => InsertWithoutNameRef::new(name, value).encode(out),
+        _ => bail!("there is no form {form}"),
+    };
+    Ok(written?)
+}
+
+/// Writes a line or an instruction of an index or a name, and a value, that are lent.
+fn write_lent<A: Allocator>(form: &str, words: &mut Words, out: &mut Vec<u8, A>) -> Result<()> {
+    let index = words.first_number() as usize;
+    let name = words.word().as_bytes();
+    let value = words.rest.as_bytes();
+    let written = match form {
+        "static-name" => LiteralWithNameRef::write_static(index, value, out),
+        "name" => LiteralWithNameRef::write_dynamic(index, value, out),
+        "post-base-name" => LiteralWithPostBaseNameRef::write(index, value, out),
+        "literal" => Literal::write(name, value, out),
+        "insert-static-name" => InsertWithNameRef::write_static(index, value, out),
+        "insert-name" => InsertWithNameRef::write_dynamic(index, value, out),
+        "insert" => InsertWithoutNameRef::write(name, value, out),
+        _ => bail!("there is no form {form}"),
+    };
+    Ok(written?)
+}
