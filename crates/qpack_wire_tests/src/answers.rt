@@ -17,8 +17,3 @@ pub(crate) fn push_result<T: Debug, E: Debug + Display>(
         Err(error) => Ok(write!(answer, "{error:?}: {error}")?),
     }
 }
-
-/// Appends an error and its text.
-pub(crate) fn push_error<E: Debug + Display + Drop>(answer: &mut String, error: E) -> Result<()> {
-    push_result(answer, &Err::<(), E>(error))
-}

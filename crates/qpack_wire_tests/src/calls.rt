@@ -1,11 +1,11 @@
 //! The calls of cases. None keeps anything for the next.
 
-use crate::answers::push_error;
+use crate::answers::push_result;
 use crate::{fields, reading, writing};
 use anyhow::Result;
-use qpack_base::coding::NoMemory;
 use qpack_base::parse_error::ParseError;
 use qpack_base::prefix_string::{BitWindow, Error, HuffmanEncodingError};
+use qpack_base::static_::StaticTable;
 use qpack_testing::cases::{Subject, Words};
 use std::alloc::Global;
 use std::fmt::Write;
@@ -14,8 +14,8 @@ use std::fmt::Write;
 #[derive(Drop)]
 pub(crate) struct Calls;
 
-/// What an answer has if its call was refused memory.
-const REFUSED: &str = "Memory";
+/// What an answer has if its call was refused memory: the end of `Memory` and of `out of memory`.
+const REFUSED: &str = "emory";
 
 impl Subject for Calls {
     fn begin(_alloc: Global, _settings: &mut Words, _size: usize) -> Result<Calls> {
@@ -47,8 +47,8 @@ fn make(alloc: Global, word: &str, words: &mut Words, answer: &mut String) -> Re
         "writes" => writing::push_written(alloc, words, answer),
         "fills" => writing::push_filling(alloc, words, answer),
         "codes" => writing::push_payload(alloc, words, answer),
-        "static" => fields::push_static(alloc, words, answer),
-        "compares" | "finds" | "shows" => fields::call(alloc, word, words, answer),
+        "static" => push_result(answer, &StaticTable::get(words.count()?)),
+        "compares" | "finds" | "changes" | "shows" => fields::call(alloc, word, words, answer),
         "windows" => push_windows(answer),
         "unreturned" => push_unreturned(answer),
         _ => reading::call(alloc, word, words, answer),
@@ -66,12 +66,9 @@ fn push_windows(answer: &mut String) -> Result<()> {
     Ok(write!(answer, "{is_default}; {window:?}; {rest:?}")?)
 }
 
-/// Appends the errors that no call returns, except if memory was refused.
+/// Appends the texts of errors that no call returns, except the last, for which memory is refused.
 fn push_unreturned(answer: &mut String) -> Result<()> {
-    push_error(answer, NoMemory)?;
-    push_error(answer, HuffmanEncodingError)?;
-    push_error(answer, Error::HuffmanEncoding(HuffmanEncodingError))?;
-    push_error(answer, Error::BufSize)?;
-    push_error(answer, Error::Memory)?;
-    push_error(answer, ParseError::Memory)
+    let coding = Error::HuffmanEncoding(HuffmanEncodingError);
+    let (size, memory) = (Error::BufSize, ParseError::Memory);
+    Ok(write!(answer, "{HuffmanEncodingError}; {coding}; {size}; {memory}")?)
 }

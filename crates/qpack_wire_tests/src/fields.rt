@@ -1,6 +1,5 @@
 //! Header fields, and the static table (RFC 9204, section 3.1 and Appendix A).
 
-use crate::answers::push_error;
 use anyhow::{Context, Result};
 use bstr::ByteSlice;
 use qpack_base::field::{
@@ -25,11 +24,12 @@ pub(crate) fn call(
     match word {
         "compares" => push_comparison(answer, field, others.first().unwrap_or(field)),
         "finds" => push_found(answer, field),
+        "changes" => push_changed(alloc, answer, field),
         _ => push_shown(alloc, answer, field),
     }
 }
 
-/// Appends the size of a field, and how the field compares with another.
+/// Appends the size of a field, its order to another, and whether they are equal and hash alike.
 fn push_comparison(answer: &mut String, field: &HeaderField, other: &HeaderField) -> Result<()> {
     let mut first = DefaultHasher::new();
     let mut second = DefaultHasher::new();
@@ -43,45 +43,30 @@ fn push_comparison(answer: &mut String, field: &HeaderField, other: &HeaderField
     )?)
 }
 
-/// Appends the indexes that the static table has of a field and of its name, what one search finds, and how the field
-/// compares with the first of its name, which is borrowed.
+/// Appends the indexes that the static table has of a field and of its name, and what one search finds.
 fn push_found(answer: &mut String, field: &HeaderField) -> Result<()> {
     let (name, value) = (field.name.as_slice(), field.value.as_slice());
     let (index, of_name) = (StaticTable::find(field), StaticTable::find_name(name));
-    write!(
+    Ok(write!(
         answer,
         "{index:?}, {of_name:?}, {:?}",
         StaticTable::lookup(name, value)
-    )?;
-    if let Some(index) = of_name {
-        answer.push_str("; ")?;
-        push_comparison(answer, field, &StaticTable::get(index)?)?;
-    }
-    Ok(())
+    )?)
+}
+
+/// Appends how the first field of the same name in the static table, which is borrowed, compares with a field, and what
+/// it is with the same value.
+fn push_changed(alloc: Global, answer: &mut String, field: &HeaderField) -> Result<()> {
+    let index = StaticTable::find_name(field.name.as_slice()).context("no field has the name")?;
+    let named = StaticTable::get(index)?;
+    push_comparison(answer, &named, field)?;
+    let changed = named.with_value(Vec::from_slice(alloc, field.value.as_slice())?)?;
+    let (name, value) = changed.into_inner();
+    let (name, value) = (name.as_slice().as_bstr(), value.as_slice().as_bstr());
+    Ok(write!(answer, "; {name:?}, {value:?}")?)
 }
 
 /// Appends a field as text, and as it is printed.
 fn push_shown(alloc: Global, answer: &mut String, field: &HeaderField) -> Result<()> {
-    let text = field.to_text(alloc)?;
-    Ok(write!(answer, "{:?}, {field}", text.as_str())?)
-}
-
-/// Appends the field of an index of the static table, and the same with another value.
-pub(crate) fn push_static(alloc: Global, words: &mut Words, answer: &mut String) -> Result<()> {
-    let index = words.count()?;
-    let value = Vec::from_slice(alloc, words.word().as_bytes())?;
-    match StaticTable::get(index) {
-        Ok(field) => push_changed(answer, &field, value),
-        Err(error) => push_error(answer, error),
-    }
-}
-
-/// Appends a field, how it compares with the field of another value, and that one.
-fn push_changed(answer: &mut String, field: &HeaderField, value: Vec<u8>) -> Result<()> {
-    write!(answer, "{field}; ")?;
-    let other = field.with_value(value)?;
-    push_comparison(answer, field, &other)?;
-    let (name, value) = other.into_inner();
-    let (name, value) = (name.as_slice().as_bstr(), value.as_slice().as_bstr());
-    Ok(write!(answer, "; {name:?}, {value:?}")?)
+    Ok(write!(answer, "{:?}, {field}", field.to_text(alloc)?.as_str())?)
 }

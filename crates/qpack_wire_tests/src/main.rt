@@ -26,10 +26,7 @@ const FILES: [&str; 7] = [
     "cut_stream.txt",
 ];
 
-/// What the cases call.
-struct Wire;
-
-impl Kinds for Wire {
+impl Kinds for Calls {
     fn hold_kind(
         alloc: Global,
         kind: &str,
@@ -43,5 +40,5 @@ impl Kinds for Wire {
 }
 
 fn main(rt: HostRuntime) -> Result<()> {
-    hold_files::<Wire>(&rt, &FILES)
+    hold_files::<Calls>(&rt, &FILES)
 }

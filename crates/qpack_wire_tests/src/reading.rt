@@ -2,7 +2,7 @@
 
 ghost use Rattle.std.specs.Prelude.{◌≤◌, IfOk};
 
-use crate::answers::{push_error, push_result};
+use crate::answers::push_result;
 use crate::streams;
 use anyhow::{Result, bail, ensure};
 use bstr::ByteSlice;
@@ -31,21 +31,21 @@ pub(crate) fn call(
     let bytes = &words.bytes(alloc)?;
     match word {
         "bytes" => push_bytes_read(answer, bytes),
-        "integers" => push_integers(answer, bytes, words),
+        "integer" => push_integer(answer, bytes, words),
         "string" => push_string(alloc, answer, bytes, words),
         "payload" => push_payload_read(answer, bytes),
         "prefix" => push_prefix(answer, bytes, words),
         "encoder" => streams::push_next::<EncoderLine>(alloc, answer, bytes),
         "decoder" => streams::push_next::<DecoderLine>(alloc, answer, bytes),
         "waits" => streams::push_waiting(alloc, answer, bytes),
-        "cuts" => streams::push_cuts(alloc, answer, bytes, words.count()?),
+        "cuts" => streams::push_cuts(alloc, answer, bytes),
         "block" => push_result(answer, &read_block(alloc, bytes)),
-        _ => push_line(alloc, answer, word, &mut Cursor::new(bytes)),
+        _ => push_form(alloc, answer, word, &mut Cursor::new(bytes)),
     }
 }
 
-/// Appends the line at the front of the bytes, of any form or of the form that a word names.
-fn push_line(alloc: Global, answer: &mut String, word: &str, buf: &mut Cursor) -> Result<()> {
+/// Appends the line or the instruction at the front of the bytes, of the form that a word names.
+fn push_form(alloc: Global, answer: &mut String, word: &str, buf: &mut Cursor) -> Result<()> {
     match word {
         "line" => push_result(answer, &BlockLine::decode(alloc, buf)),
         "indexed" => push_result(answer, &Indexed::decode(buf)),
@@ -53,18 +53,6 @@ fn push_line(alloc: Global, answer: &mut String, word: &str, buf: &mut Cursor) -
         "name" => push_result(answer, &LiteralWithNameRef::decode(alloc, buf)),
         "post-base-name" => push_result(answer, &LiteralWithPostBaseNameRef::decode(alloc, buf)),
         "literal" => push_result(answer, &Literal::decode(alloc, buf)),
-        _ => push_instruction(alloc, answer, word, buf),
-    }
-}
-
-/// Appends the instruction at the front of the bytes, of the form that a word names.
-fn push_instruction(
-    alloc: Global,
-    answer: &mut String,
-    word: &str,
-    buf: &mut Cursor,
-) -> Result<()> {
-    match word {
         "insert-name" => push_result(answer, &InsertWithNameRef::decode(alloc, buf)),
         "insert" => push_result(answer, &InsertWithoutNameRef::decode(alloc, buf)),
         "duplicate" => push_result(answer, &Duplicate::decode(buf)),
@@ -101,19 +89,14 @@ fn push_bytes_read(answer: &mut String, bytes: &[u8]) -> Result<()> {
     )?)
 }
 
-/// Appends the flags and the value of each integer, and where it ends, up to the first fault.
-fn push_integers(answer: &mut String, bytes: &[u8], words: &mut Words) -> Result<()> {
+/// Appends the integer at the front of the bytes, under its flags, and how many bytes are left after it.
+fn push_integer(answer: &mut String, bytes: &[u8], words: &mut Words) -> Result<()> {
     let size = read_size(words, 1)?;
     let mut cursor = Cursor::new(bytes);
-    for _ in 0..=bytes.len() {
-        let read = prefix_int::decode(size, &mut cursor);
-        push_result(answer, &read)?;
-        if read.is_err() {
-            break;
-        }
-        write!(answer, " to {}", cursor.position())?;
+    match prefix_int::decode(size, &mut cursor) {
+        Ok(read) => Ok(write!(answer, "{read:?}, {} left", cursor.remaining())?),
+        Err(error) => push_result(answer, &Err::<(), _>(error)),
     }
-    Ok(())
 }
 
 /// Appends the string at the front of the bytes. An empty one takes no memory.
@@ -121,7 +104,7 @@ fn push_string(alloc: Global, answer: &mut String, bytes: &[u8], words: &mut Wor
     let size = read_size(words, 2)?;
     let text = match prefix_string::decode(alloc, size, &mut Cursor::new(bytes)) {
         Ok(text) => text,
-        Err(error) => return push_error(answer, error),
+        Err(error) => return push_result(answer, &Err::<(), _>(error)),
     };
     ensure!(
         !text.is_empty() || text.capacity() == 0,

@@ -60,19 +60,15 @@ fn hold_cut(alloc: Global, stream: &[u8], cut: usize, whole: &Vec<EncoderLine>) 
     Ok(())
 }
 
-/// Cuts an encoder stream at this many places, spread over it. Appends how many instructions it has, wherever it is
-/// cut, and how many bytes they take.
-pub(crate) fn push_cuts(
-    alloc: Global,
-    answer: &mut String,
-    stream: &[u8],
-    cuts: usize,
-) -> Result<()> {
+/// How many cuts are tried, spread over a stream: as many as the recorded one has bytes, so that it is cut anywhere.
+const CASES: usize = 2_699;
+
+/// Appends how many instructions an encoder stream has, wherever it is cut, and how many bytes they take.
+pub(crate) fn push_cuts(alloc: Global, answer: &mut String, stream: &[u8]) -> Result<()> {
     let mut whole = Vec::new(alloc);
     let taken = read_all(alloc, stream, &mut whole)?;
-    for cut in 0..cuts {
-        let place = cut.saturating_mul(taken).checked_div(cuts).unwrap_or(0);
-        hold_cut(alloc, stream, place, &whole)?;
+    for case in 0..CASES {
+        hold_cut(alloc, stream, case.saturating_mul(taken) / CASES, &whole)?;
     }
     Ok(write!(answer, "{} instructions of {taken} bytes", whole.len())?)
 }

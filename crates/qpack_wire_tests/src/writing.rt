@@ -83,29 +83,11 @@ fn write_or_leave(
     Ok(write!(answer, "{error}")?)
 }
 
-/// Appends the payload of the text that is left. The literal of the text ends with it, and is read as the text.
+/// Appends the payload of the text that is left.
 pub(crate) fn push_payload(alloc: Global, words: &mut Words, answer: &mut String) -> Result<()> {
     let text = Vec::from_slice(alloc, words.rest.as_bytes())?;
     words.rest = "";
-    let payload = text.hpack_encode()?;
-    hold_literal(alloc, &text, &payload)?;
-    push_bytes(answer, &payload)
-}
-
-/// Fails if the literal of a text does not end with its payload, or is not read as the text.
-fn hold_literal(alloc: Global, text: &[u8], payload: &[u8]) -> Result<()> {
-    let mut literal = Vec::new(alloc);
-    if prefix_string::encode(8, 0, text, &mut literal).is_err() {
-        // A second time, in case memory was refused.
-        prefix_string::encode(8, 0, text, &mut literal)?;
-    }
-    let read = prefix_string::decode(alloc, 8, &mut Cursor::new(&literal))?;
-    let is_read = read.as_slice() == text;
-    ensure!(
-        is_read && literal.ends_with(payload),
-        "the literal has another payload"
-    );
-    Ok(())
+    push_bytes(answer, &text.hpack_encode()?)
 }
 
 /// Writes an item.
