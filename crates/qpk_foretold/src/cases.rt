@@ -1,121 +1,146 @@
-//! The cases of a text, and whether the program writes what one foretells.
+//! The cases of a text, and whether `qpk` writes what one foretells.
 
-use anyhow::{Context, Result, ensure};
-use qpk::serve::serve;
+use crate::running::{Foretold, REFUSED_OUTPUT, Run};
+use crate::streams::Input;
+use anyhow::{Context, Result};
 use std::alloc::Global;
-use std::io::Cursor;
 
-/// A case: the words that `qpk` is given, its input, and the output, the faults and the status that it ends with.
+/// A case: lines of words, each for a run of its own, its input, and the output, the faults and the status of each run.
 #[derive(Drop)]
 pub(crate) struct Case {
-    words: Vec<String>,
+    lines: Vec<String>,
     input: Vec<u8>,
+    /// Whether reading fails at the end of the input.
+    is_broken: bool,
     output: Vec<u8>,
     faults: Vec<u8>,
     status: u8,
-}
-
-/// What `qpk` wrote, and its status.
-#[derive(Drop)]
-pub(crate) struct Answer {
-    output: Vec<u8>,
-    faults: Vec<u8>,
-    status: u8,
-}
-
-/// Runs `qpk` with these words on an input.
-fn answer_of(alloc: Global, words: &[String], input: &[u8]) -> Answer {
-    let mut output = Vec::new(alloc);
-    let mut faults = Vec::new(alloc);
-    let status = serve(
-        alloc,
-        words,
-        &mut Cursor::new(input),
-        &mut output,
-        &mut faults,
-    );
-    Answer {
-        output,
-        faults,
-        status,
-    }
-}
-
-/// The words of a line.
-fn words_of(alloc: Global, line: &str) -> Result<Vec<String>> {
-    let mut words = Vec::new(alloc);
-    for word in line.split_whitespace() {
-        words.push(String::from_str(alloc, word)?)?;
-    }
-    Ok(words)
-}
-
-/// Returns what `qpk` writes to its output for the words of a line and an input, if it reports no fault.
-pub(crate) fn output_of(alloc: Global, line: &str, input: &[u8]) -> Result<Vec<u8>> {
-    let words = words_of(alloc, line)?;
-    let answer = answer_of(alloc, &words, input);
-    ensure!(
-        answer.status == 0,
-        "{line} ends with status {}",
-        answer.status
-    );
-    ensure!(answer.faults.is_empty(), "{line} tells a fault");
-    Ok(answer.output)
+    /// The part that is read.
+    part: Part,
 }
 
 /// The parts of a case, in their order.
 #[derive(Clone, Copy, PartialEq)]
 enum Part {
+    Words,
     Input,
     Output,
     Faults,
 }
 
+/// More than a line says of an output that can't be written.
+const WIDE: usize = 100;
+
 impl Case {
-    /// A case of these words, of which no line was read yet.
-    fn new(alloc: Global, line: &str) -> Result<Case> {
-        Ok(Case {
-            words: words_of(alloc, line)?,
+    /// A case of which no line was read yet.
+    fn new(alloc: Global) -> Case {
+        Case {
+            lines: Vec::new(alloc),
             input: Vec::new(alloc),
+            is_broken: false,
             output: Vec::new(alloc),
             faults: Vec::new(alloc),
             status: 0,
-        })
+            part: Part::Words,
+        }
     }
 
-    /// The first word.
-    pub(crate) fn command(&self) -> Option<&str> {
-        Some(self.words.first()?.as_str())
-    }
-
-    /// Fails where the program does not write exactly what is foretold.
-    pub(crate) fn hold(&self, alloc: Global, number: usize) -> Result<()> {
-        let answer = answer_of(alloc, &self.words, &self.input);
-        ensure!(
-            answer.status == self.status,
-            "case {number} ends with status {}",
-            answer.status
-        );
-        ensure!(
-            answer.faults == self.faults,
-            "case {number} tells other faults than foretold"
-        );
-        ensure!(
-            answer.output == self.output,
-            "case {number} prints other lines than foretold"
-        );
+    /// Fails if a run does not write exactly what is foretold, or, with narrow outputs and faults, a front of it.
+    pub(crate) fn hold(&self, alloc: Global, is_narrow: bool) -> Result<()> {
+        for words in &self.lines {
+            let words = words.as_str();
+            let held = if is_narrow {
+                self.hold_narrow(alloc, words)
+            } else {
+                self.run_of(words, None, None).hold(alloc, self.foretold())
+            };
+            held.context(words)?;
+        }
         Ok(())
     }
 
-    /// Adds a line of the text to a part.
-    fn add(&mut self, alloc: Global, part: Part, line: &str) -> Result<()> {
-        let part = match part {
-            Part::Input => &mut self.input,
-            Part::Output => &mut self.output,
-            Part::Faults => &mut self.faults,
-        };
-        push_line(alloc, part, line)
+    /// Fails if an output without room for all does not get a front of it and status 1, with a line of that; or if faults
+    /// with any room do not get a front of theirs, with the foretold output and status.
+    fn hold_narrow(&self, alloc: Global, words: &str) -> Result<()> {
+        for room in 0..self.output.len() {
+            let foretold = Foretold {
+                output: front(&self.output, room),
+                faults: REFUSED_OUTPUT,
+                status: 1,
+            };
+            let run = self.run_of(words, Some(room), Some(WIDE));
+            run.hold(alloc, foretold)?;
+        }
+        for room in 0..=self.faults.len() {
+            let mut foretold = self.foretold();
+            foretold.faults = front(&self.faults, room);
+            let run = self.run_of(words, Some(self.output.len()), Some(room));
+            run.hold(alloc, foretold)?;
+        }
+        Ok(())
     }
+
+    /// Returns the run of a line of words, with these rooms.
+    fn run_of<'a>(
+        &'a self,
+        words: &'a str,
+        output_room: Option<usize>,
+        faults_room: Option<usize>,
+    ) -> Run<'a> {
+        Run {
+            words,
+            input: Input {
+                rest: &self.input,
+                is_broken: self.is_broken,
+            },
+            output_room,
+            faults_room,
+        }
+    }
+
+    /// Returns what is foretold.
+    fn foretold(&self) -> Foretold<'_> {
+        Foretold {
+            output: &self.output,
+            faults: &self.faults,
+            status: self.status,
+        }
+    }
+
+    /// Adds a line that is not one of words.
+    fn add(&mut self, alloc: Global, line: &str) -> Result<()> {
+        match self.part {
+            Part::Words | Part::Input => self.add_input(alloc, line),
+            Part::Output => self.add_output(alloc, line),
+            Part::Faults => push_line(alloc, &mut self.faults, line),
+        }
+    }
+
+    /// Adds a line of the input, or the one at its end.
+    fn add_input(&mut self, alloc: Global, line: &str) -> Result<()> {
+        self.part = Part::Input;
+        match line {
+            "--" => self.part = Part::Output,
+            "!" => self.is_broken = true,
+            _ => push_line(alloc, &mut self.input, line)?,
+        }
+        Ok(())
+    }
+
+    /// Adds a line of the output, or the status after it.
+    fn add_output(&mut self, alloc: Global, line: &str) -> Result<()> {
+        let Some(status) = line.strip_prefix("status ") else {
+            return push_line(alloc, &mut self.output, line);
+        };
+        self.status = status.parse()?;
+        self.part = Part::Faults;
+        Ok(())
+    }
+}
+
+/// Returns the first bytes of a text, or all if it has no more.
+fn front(text: &[u8], len: usize) -> &[u8] {
+    text.get(..len).unwrap_or(text)
 }
 
 /// Appends the text of a line of a case.
@@ -142,36 +167,38 @@ fn push_hexadecimal(alloc: Global, part: &mut Vec<u8>, text: &str) -> Result<()>
     Ok(())
 }
 
-/// The cases of a text, parted by empty lines: `= ` and the words, the lines of the input, a line `--`, and those of
-/// the output. Then there may be a line `status `, the status, and the lines of the faults; else they are 0 and none.
+/// Returns the cases of a text. A case has `=` and the words, in several lines if there are several runs, then the lines
+/// of the input, a line `--`, and those of the output. Then there may be a line `status `, the status, and the lines of
+/// the faults; else they are 0 and none. A line `!` says that the input fails at its end.
 ///
-/// A line `.` is an empty one, a line that ends with `\` goes on in the next, and `0x` is followed by bytes.
+/// A line `.` is an empty one, a line that ends with `\` goes on in the next, and `0x` is followed by bytes. Empty lines
+/// are skipped, and lines that begin with `;`.
 pub(crate) fn read_cases(alloc: Global, text: &str) -> Result<Vec<Case>> {
-    let mut cases: Vec<Case> = Vec::new(alloc);
-    let mut part = Part::Input;
-    for line in text.lines() {
-        if let Some(words) = line.strip_prefix("= ") {
-            cases.push(Case::new(alloc, words)?)?;
-            part = Part::Input;
-        } else if !line.is_empty() {
-            let case = cases.last_mut().context("a line stands before all cases")?;
-            part = next_part(alloc, case, part, line)?;
-        }
-    }
+    let mut cases = Vec::new(alloc);
+    add_lines(alloc, &mut cases, text)?;
     Ok(cases)
 }
 
-/// Adds a line to a part, or begins the next.
-fn next_part(alloc: Global, case: &mut Case, part: Part, line: &str) -> Result<Part> {
-    if line == "--" {
-        return Ok(Part::Output);
+/// Adds the cases of a text.
+fn add_lines(alloc: Global, cases: &mut Vec<Case>, text: &str) -> Result<()> {
+    for line in text.lines() {
+        if let Some(words) = line.strip_prefix('=') {
+            add_words(alloc, cases, words)?;
+        } else if !line.is_empty() && !line.starts_with(';') {
+            let case = cases.last_mut().context("a line stands before all cases")?;
+            case.add(alloc, line)?;
+        }
     }
-    if part == Part::Output
-        && let Some(status) = line.strip_prefix("status ")
-    {
-        case.status = status.parse()?;
-        return Ok(Part::Faults);
+    Ok(())
+}
+
+/// Adds a line of words to the last case, or begins one.
+fn add_words(alloc: Global, cases: &mut Vec<Case>, words: &str) -> Result<()> {
+    let words = String::from_str(alloc, words.trim())?;
+    if cases.last().is_none_or(|case| case.part != Part::Words) {
+        cases.push(Case::new(alloc))?;
     }
-    case.add(alloc, part, line)?;
-    Ok(part)
+    let case = cases.last_mut().context("there is no case")?;
+    case.lines.push(words)?;
+    Ok(())
 }

@@ -1,77 +1,22 @@
-//! The lists of a corpus, encoded to recordings of the offline interop format and back, and recordings of nghttp3 0.8.0
-//! decoded to them.
+//! Lists encoded to recordings of the offline interop format and back, and recordings decoded to lists.
 
-use crate::cases::output_of;
+use crate::running::output_of;
 use anyhow::{Context, Result, ensure};
 use std::alloc::Global;
-use std::fs;
 
-/// The capacities that are tried.
-const CAPACITIES: [usize; 3] = [0, 256, 4096];
-
-/// The limits of blocked streams that are tried.
-const LIMITS: [usize; 2] = [0, 100];
-
-/// A recording of nghttp3, and the words that `qpk` is given for it.
-#[derive(Clone, Copy)]
-struct Foreign {
-    file: &'static str,
-    words: &'static str,
+/// Encodes lists to a recording and back, and returns its length. Fails if other lists come back.
+pub(crate) fn hold_round(alloc: Global, encode: &str, decode: &str, lists: &[u8]) -> Result<usize> {
+    let recording = output_of(alloc, encode, lists)?;
+    let back = output_of(alloc, decode, &recording)?;
+    ensure!(back.as_slice() == lists, "other lists came back");
+    Ok(recording.len())
 }
 
-const FOREIGN: [Foreign; 2] = [
-    Foreign {
-        file: "nghttp3_4096_100_ack.txt",
-        words: "decode --qif 4096 100",
-    },
-    Foreign {
-        file: "nghttp3_4096_16_noack.txt",
-        words: "decode --qif 4096 16",
-    },
-];
-
-/// Encodes the corpus at each of the settings and back, and decodes the recordings of nghttp3.
-pub(crate) fn hold_corpus(rt: &HostRuntime) -> Result<()> {
-    let lists = fs::read_to_string(rt, "corpus.qif")?;
-    let lists = lists.as_str().as_bytes();
-    for capacity in CAPACITIES {
-        for blocked in LIMITS {
-            for acknowledged in [0, 1] {
-                hold_round(rt, capacity, blocked, acknowledged, lists)?;
-            }
-        }
-    }
-    for foreign in &FOREIGN {
-        hold_foreign(rt, *foreign, lists).context(foreign.file)?;
-    }
-    println!(rt; "{} recordings of nghttp3 give the lists", FOREIGN.len())?;
-    Ok(())
-}
-
-/// Encodes lists to a recording and back.
-fn hold_round(
-    rt: &HostRuntime,
-    capacity: usize,
-    blocked: usize,
-    acknowledged: u8,
-    lists: &[u8],
-) -> Result<()> {
-    let alloc = rt.alloc();
-    let encode = format!(in alloc; "encode --qif {capacity} {blocked} {acknowledged}")?;
-    let decode = format!(in alloc; "decode --qif {capacity} {blocked}")?;
-    let recording = output_of(alloc, encode.as_str(), lists)?;
-    let back = output_of(alloc, decode.as_str(), &recording)?;
-    ensure!(back.as_slice() == lists, "{encode}: other lists came back");
-    println!(rt; "{encode}: {} bytes give the lists back", recording.len())?;
-    Ok(())
-}
-
-/// Compares a recording of nghttp3 with the lists that were sent.
-fn hold_foreign(rt: &HostRuntime, foreign: Foreign, lists: &[u8]) -> Result<()> {
-    let text = fs::read_to_string(rt, foreign.file)?;
-    let recording = recording_of(rt.alloc(), text.as_str())?;
-    let back = output_of(rt.alloc(), foreign.words, &recording)?;
-    ensure!(back.as_slice() == lists, "other lists were read");
+/// Fails if a recording does not give the lists.
+pub(crate) fn hold_decoded(alloc: Global, words: &str, text: &str, lists: &str) -> Result<()> {
+    let recording = recording_of(alloc, text)?;
+    let back = output_of(alloc, words, &recording)?;
+    ensure!(back.as_slice() == lists.as_bytes(), "other lists were read");
     Ok(())
 }
 

@@ -1,62 +1,16 @@
-//! Connections that nghttp3 0.8.0 wrote, inspected by `qpk inspect`: each section prints the count and the size of the
-//! fields that were sent.
+//! Recordings inspected by `qpk inspect`: each section prints the count and the size of the fields that were sent.
 
-use crate::cases::output_of;
+use crate::running::output_of;
 use anyhow::{Context, Result, ensure};
 use std::alloc::Global;
-use std::{fs, str};
+use std::str;
 
-/// A recording, and the words that `qpk` is given for it.
-#[derive(Clone, Copy)]
-struct Recording {
-    file: &'static str,
-    words: &'static str,
-}
-
-const RECORDINGS: [Recording; 5] = [
-    Recording {
-        file: "nghttp3_0_0_ack.txt",
-        words: "inspect 0",
-    },
-    Recording {
-        file: "nghttp3_256_8_ack.txt",
-        words: "inspect 256",
-    },
-    Recording {
-        file: "nghttp3_4096_16_noack.txt",
-        words: "inspect 4096",
-    },
-    Recording {
-        file: "nghttp3_4096_100_ack.txt",
-        words: "inspect 4096",
-    },
-    Recording {
-        file: "nghttp3_65536_16_ack.txt",
-        words: "inspect 65536",
-    },
-];
-
-/// Compares all recordings with the lists that were sent.
-pub(crate) fn hold_inspections(rt: &HostRuntime) -> Result<()> {
-    let lists = fs::read_to_string(rt, "corpus.qif")?;
-    let wanted = wanted_lines(rt.alloc(), lists.as_str())?;
-    for recording in &RECORDINGS {
-        hold_recording(rt, *recording, &wanted).context(recording.file)?;
-    }
-    println!(rt;
-        "{} recordings were inspected, {} sections of each",
-        RECORDINGS.len(),
-        wanted.len()
-    )?;
-    Ok(())
-}
-
-/// Inspects a recording.
-fn hold_recording(rt: &HostRuntime, recording: Recording, wanted: &[String]) -> Result<()> {
-    let text = fs::read_to_string(rt, recording.file)?;
-    let input = input_of(rt.alloc(), text.as_str())?;
-    let output = output_of(rt.alloc(), recording.words, input.as_str().as_bytes())?;
-    hold_lines(str::from_utf8(&output)?, wanted)
+/// Fails if a recording does not print the sections of the lists.
+pub(crate) fn hold_inspected(alloc: Global, words: &str, text: &str, lists: &str) -> Result<()> {
+    let wanted = wanted_lines(alloc, lists)?;
+    let input = input_of(alloc, text)?;
+    let output = output_of(alloc, words, input.as_str().as_bytes())?;
+    hold_lines(str::from_utf8(&output)?, &wanted)
 }
 
 /// Writes the lines of a recording as `qpk inspect` takes them, without the streams of sections.

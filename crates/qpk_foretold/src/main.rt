@@ -1,103 +1,77 @@
-//! Scripts and inspections whose printed lines were foretold by a program that was written from the definitions alone.
-//! Each is run as `qpk` runs it; the first that prints anything else ends this program with an error. Then it does the
-//! same with header lists and recordings of the offline interop format, and with what is rejected of them. At last
-//! recordings of connections are shown and inspected, and the lists of a corpus encoded to recordings, and compared
-//! with the lists that were sent. What `show`, `check` and `explain` print of a few lines was written and read by
-//! people.
+//! Runs of `qpk` whose output, faults and status were foretold; the first that gives any other ends this program with
+//! an error. Scripts and inspections were foretold by a program that was written from the definitions alone, and so were
+//! header lists and recordings of the offline interop format, and what is rejected of them. The others were written
+//! and read by people. Then the words of errors are printed. At last recordings of connections are shown and
+//! inspected, and the lists of a corpus encoded to recordings, and compared with the lists that were sent.
 #![tactic(auto)]
 
 mod cases;
 mod corpus;
+mod errors;
 mod inspected;
-mod recordings;
+mod recorded;
+mod running;
+mod shown;
+mod streams;
 
-use anyhow::{Context, Result, bail};
-use cases::read_cases;
-use corpus::hold_corpus;
-use inspected::hold_inspections;
-use recordings::hold_recordings;
+use anyhow::{Result, bail};
+use cases::{Case, read_cases};
+use errors::print_errors;
+use qpack_testing::again;
+use recorded::hold_recorded;
 use std::fs;
 
-/// How many cases of each command wrote what was foretold.
-#[derive(Clone, Copy)]
-struct Counts {
-    scripts: usize,
-    inspections: usize,
-    encodes: usize,
-    decodes: usize,
-    shows: usize,
-    checks: usize,
-    explanations: usize,
+/// The files of cases.
+const FILES: [&str; 13] = [
+    "foretold.txt",
+    "qif.txt",
+    "shown.txt",
+    "checked.txt",
+    "explained.txt",
+    "coded.txt",
+    "events.txt",
+    "help.txt",
+    "inspections.txt",
+    "interop.txt",
+    "viewed.txt",
+    "words.txt",
+    NARROW,
+];
+
+/// The file of cases that are run with narrow outputs and faults.
+const NARROW: &str = "narrow.txt";
+
+/// Holds all cases of a file.
+fn hold_file(rt: &HostRuntime, file: &str) -> Result<()> {
+    let text = read_file(rt, file)?;
+    let cases = again(|| read_cases(rt.alloc(), text.as_str()))?;
+    hold_cases(rt, file, &cases)
 }
 
-impl Counts {
-    /// Counts a case of a command.
-    fn add(&mut self, command: Option<&str>) -> Result<()> {
-        let count = match command {
-            Some("run") => &mut self.scripts,
-            Some("inspect") => &mut self.inspections,
-            Some("encode") => &mut self.encodes,
-            Some("decode") => &mut self.decodes,
-            Some("show") => &mut self.shows,
-            Some("check") => &mut self.checks,
-            Some("explain") => &mut self.explanations,
-            _ => bail!("a case has none of the commands that are counted"),
-        };
-        *count = count.saturating_add(1);
-        Ok(())
-    }
-}
-
-/// Runs all cases of a file, which are numbered from 1.
-fn hold_all(rt: &HostRuntime, file: &str) -> Result<Counts> {
-    let text = fs::read_to_string(rt, file)?;
-    let mut counts = Counts {
-        scripts: 0,
-        inspections: 0,
-        encodes: 0,
-        decodes: 0,
-        shows: 0,
-        checks: 0,
-        explanations: 0,
-    };
+/// Holds cases, which are numbered from 1, and prints how many there are.
+fn hold_cases(rt: &HostRuntime, file: &str, cases: &[Case]) -> Result<()> {
     let mut number = 0usize;
-    for case in &read_cases(rt.alloc(), text.as_str())? {
+    for case in cases {
         number = number.saturating_add(1);
-        case.hold(rt.alloc(), number).context(file)?;
-        counts.add(case.command())?;
+        if let Err(error) = case.hold(rt.alloc(), file == NARROW) {
+            bail!("{file}, case {number}: {error:#}");
+        }
     }
-    Ok(counts)
+    println!(rt; "{file}: {number} cases are as foretold")?;
+    Ok(())
+}
+
+/// Reads a file, a second time in case memory was refused.
+fn read_file(rt: &HostRuntime, file: &str) -> Result<String> {
+    Ok(again(|| fs::read_to_string(rt, file))?)
 }
 
 fn main(rt: HostRuntime) -> Result<()> {
-    let foretold = hold_all(&rt, "foretold.txt")?;
-    println!(rt; "{} scripts printed what was foretold", foretold.scripts)?;
-    println!(rt;
-        "{} inspections printed what was foretold",
-        foretold.inspections
-    )?;
-    let qif = hold_all(&rt, "qif.txt")?;
-    println!(rt;
-        "{} lists and {} recordings were answered as foretold",
-        qif.encodes, qif.decodes
-    )?;
-    let shown = hold_all(&rt, "shown.txt")?;
-    println!(rt;
-        "{} recordings of a few lines were shown as they should be",
-        shown.shows
-    )?;
-    let checked = hold_all(&rt, "checked.txt")?;
-    println!(rt;
-        "{} recordings of a few lines were judged as they should be",
-        checked.checks
-    )?;
-    let explained = hold_all(&rt, "explained.txt")?;
-    println!(rt;
-        "{} texts of bytes were explained as they should be",
-        explained.explanations
-    )?;
-    let recordings = hold_recordings(&rt)?;
-    println!(rt; "{recordings} recordings were shown as the lists that were sent")?;
-    hold_inspections(&rt)?;
-    hold_corpus(&rt)
+    for file in FILES {
+        hold_file(&rt, file)?;
+    }
+    print_errors(&rt)?;
+    let recorded = read_file(&rt, "recorded.txt")?;
+    let lists = read_file(&rt, "corpus.qif")?;
+    hold_recorded(&rt, recorded.as_str(), lists.as_str())
 }

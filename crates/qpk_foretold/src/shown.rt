@@ -1,38 +1,15 @@
-//! Connections that nghttp3 0.8.0 wrote, shown by `qpk show`: each section has the fields of the list that was sent.
+//! Recordings shown by `qpk show`: each section has the fields of the list that was sent.
 
-use crate::cases::output_of;
+use crate::running::output_of;
 use anyhow::{Context, Result, ensure};
 use std::alloc::Global;
-use std::{fs, str};
+use std::str;
 
-/// A recording, and the words that `qpk` is given for it.
-#[derive(Clone, Copy)]
-struct Recording {
-    file: &'static str,
-    words: &'static str,
-}
-
-const RECORDINGS: [Recording; 2] = [
-    Recording {
-        file: "nghttp3_256_8_ack.txt",
-        words: "show --max-capacity 256 --max-blocked 8",
-    },
-    Recording {
-        file: "nghttp3_4096_100_ack.txt",
-        words: "show",
-    },
-];
-
-/// Compares all recordings with the lists that were sent, and returns how many there are.
-pub(crate) fn hold_recordings(rt: &HostRuntime) -> Result<usize> {
-    let lists = fs::read_to_string(rt, "corpus.qif")?;
-    let wanted = wanted_lines(rt.alloc(), lists.as_str())?;
-    for recording in &RECORDINGS {
-        let input = fs::read_to_string(rt, recording.file)?;
-        let output = output_of(rt.alloc(), recording.words, input.as_str().as_bytes())?;
-        hold_lines(str::from_utf8(&output)?, &wanted).context(recording.file)?;
-    }
-    Ok(RECORDINGS.len())
+/// Fails if a recording does not show the lists.
+pub(crate) fn hold_shown(alloc: Global, words: &str, text: &str, lists: &str) -> Result<()> {
+    let wanted = wanted_lines(alloc, lists)?;
+    let output = output_of(alloc, words, text.as_bytes())?;
+    hold_lines(str::from_utf8(&output)?, &wanted)
 }
 
 /// How the line of each section begins, and after it how those of its fields end: list i was sent on stream 4 i.

@@ -1,0 +1,68 @@
+//! The streams of a run, in memory.
+
+use std::alloc::{AllocError, Global};
+use std::io::{self, ErrorKind, Read, Write};
+
+/// An input. A broken one gives a byte at a time, and fails after the last.
+#[derive(Clone, Copy)]
+pub(crate) struct Input<'a> {
+    pub(crate) rest: &'a [u8],
+    pub(crate) is_broken: bool,
+}
+
+impl Read for Input<'_> {
+    fn read(&mut self, buf: &mut [u8]) -> io::Result<usize> {
+        if !self.is_broken {
+            return self.rest.read(buf);
+        }
+        let (Some((first, rest)), Some(slot)) = (self.rest.split_first(), buf.first_mut()) else {
+            return Err(io::Error::from(ErrorKind::BrokenPipe));
+        };
+        *slot = *first;
+        self.rest = rest;
+        Ok(1)
+    }
+}
+
+/// An output, or faults. Those with a room take a byte at a time, are interrupted before each, and fail once it is full.
+#[derive(Drop)]
+pub(crate) struct Output {
+    pub(crate) taken: Vec<u8>,
+    room: Option<usize>,
+    is_interrupted: bool,
+}
+
+impl Output {
+    /// An output with a room for this many bytes, for which it has the memory; or one that takes all.
+    pub(crate) fn new(alloc: Global, room: Option<usize>) -> Result<Output, AllocError> {
+        Ok(Output {
+            taken: Vec::with_capacity(alloc, room.unwrap_or(0))?,
+            room,
+            is_interrupted: false,
+        })
+    }
+}
+
+impl Write for Output {
+    fn write(&mut self, buf: &[u8]) -> io::Result<usize> {
+        let Some(room) = self.room else {
+            return self.taken.write(buf);
+        };
+        self.is_interrupted = !self.is_interrupted;
+        if self.is_interrupted {
+            return Err(io::Error::from(ErrorKind::Interrupted));
+        }
+        if self.taken.len() >= room {
+            return Err(io::Error::from(ErrorKind::BrokenPipe));
+        }
+        let Some(first) = buf.first() else {
+            return Ok(0);
+        };
+        self.taken.push(*first)?;
+        Ok(1)
+    }
+
+    fn flush(&mut self) -> io::Result<()> {
+        Ok(())
+    }
+}
