@@ -14,8 +14,11 @@ use std::fmt::Write;
 #[derive(Drop)]
 pub(crate) struct Calls;
 
-/// What an answer has if its call was refused memory: the end of `Memory` and of `out of memory`.
-const REFUSED: &str = "emory";
+/// Whether an answer has the name of an error for refused memory, or the text of std's. The text of others also begins
+/// answers that count.
+fn is_refusal(answer: &str) -> bool {
+    answer.contains("Memory") || answer.contains("Out of memory")
+}
 
 impl Subject for Calls {
     fn begin(_alloc: Global, _settings: &mut Words, _size: usize) -> Result<Calls> {
@@ -31,7 +34,7 @@ impl Subject for Calls {
     ) -> Result<()> {
         let call = *words;
         let made = make(alloc, word, words, answer);
-        if made.is_ok() && !answer.as_str().contains(REFUSED) {
+        if made.is_ok() && !is_refusal(answer.as_str()) {
             return Ok(());
         }
         // A second time, in case memory was refused.
