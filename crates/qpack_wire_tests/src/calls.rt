@@ -14,8 +14,8 @@ use std::fmt::Write;
 #[derive(Drop)]
 pub(crate) struct Calls;
 
-/// Whether an answer has the name of an error for refused memory, or the text of std's. The text of others also begins
-/// answers that count.
+/// Whether an answer tells by the name of an error, or by the text of std's, that its call was refused memory. A vector
+/// that is full answers by another text.
 fn is_refusal(answer: &str) -> bool {
     answer.contains("Memory") || answer.contains("Out of memory")
 }
@@ -51,10 +51,10 @@ fn make(alloc: Global, word: &str, words: &mut Words, answer: &mut String) -> Re
         "fills" => writing::push_filling(alloc, words, answer),
         "codes" => writing::push_payload(alloc, words, answer),
         "static" => push_result(answer, &StaticTable::get(words.count()?)),
-        "compares" | "finds" | "changes" | "shows" => fields::call(alloc, word, words, answer),
+        "compares" | "finds" | "changes" | "shows" => fields::run(alloc, word, words, answer),
         "windows" => push_windows(answer),
         "unreturned" => push_unreturned(answer),
-        _ => reading::call(alloc, word, words, answer),
+        _ => reading::run(alloc, word, words, answer),
     }
 }
 

@@ -12,12 +12,7 @@ use std::fmt::Write;
 use std::hash::{DefaultHasher, Hasher};
 
 /// Makes a call for the first of the fields that are left.
-pub(crate) fn call(
-    alloc: Global,
-    word: &str,
-    words: &mut Words,
-    answer: &mut String,
-) -> Result<()> {
+pub(crate) fn run(alloc: Global, word: &str, words: &mut Words, answer: &mut String) -> Result<()> {
     let fields = header_fields(alloc, &read_fields(alloc, words.rest)?)?;
     words.rest = "";
     let (field, others) = fields.split_first().context("no field is named")?;
@@ -29,17 +24,17 @@ pub(crate) fn call(
     }
 }
 
-/// Appends the size of a field, its order to another, and whether they are equal and hash alike.
+/// Appends the size of a field, its order to another, whether they are equal, by two calls, and whether they hash alike.
 fn push_comparison(answer: &mut String, field: &HeaderField, other: &HeaderField) -> Result<()> {
     let mut first = DefaultHasher::new();
     let mut second = DefaultHasher::new();
     let is_equal = equal_fields_hash_alike(field, other, &mut first, &mut second);
     let is_same = equality_is_of_bytes(field, other);
-    let (order, size) = (order_is_of_bytes(field, other), field.mem_size());
-    let hashes = first.finish() == second.finish();
+    let is_alike = first.finish() == second.finish();
+    let (size, order) = (field.mem_size(), order_is_of_bytes(field, other));
     Ok(write!(
         answer,
-        "size {size}, {order:?}, equal {is_equal} {is_same}, hashes {hashes}"
+        "{size}, {order:?}, {is_equal}, {is_same}, {is_alike}"
     )?)
 }
 
@@ -47,11 +42,8 @@ fn push_comparison(answer: &mut String, field: &HeaderField, other: &HeaderField
 fn push_found(answer: &mut String, field: &HeaderField) -> Result<()> {
     let (name, value) = (field.name.as_slice(), field.value.as_slice());
     let (index, of_name) = (StaticTable::find(field), StaticTable::find_name(name));
-    Ok(write!(
-        answer,
-        "{index:?}, {of_name:?}, {:?}",
-        StaticTable::lookup(name, value)
-    )?)
+    let found = StaticTable::lookup(name, value);
+    Ok(write!(answer, "{index:?}, {of_name:?}, {found:?}")?)
 }
 
 /// Appends how the first field of the same name in the static table, which is borrowed, compares with a field, and what

@@ -22,12 +22,7 @@ use std::alloc::Global;
 use std::fmt::Write;
 
 /// Makes a call for the bytes of the first word.
-pub(crate) fn call(
-    alloc: Global,
-    word: &str,
-    words: &mut Words,
-    answer: &mut String,
-) -> Result<()> {
+pub(crate) fn run(alloc: Global, word: &str, words: &mut Words, answer: &mut String) -> Result<()> {
     let bytes = &words.bytes(alloc)?;
     match word {
         "bytes" => push_bytes_read(answer, bytes),
@@ -74,7 +69,8 @@ pub(crate) fn read_size(words: &mut Words, least: u8) -> Result<u8>
     Ok(size)
 }
 
-/// Appends the first byte and the second, how many are passed then, and what another cursor reads that stayed.
+/// Appends the first byte and the second, how many are passed and left then, and what another cursor sees that stayed,
+/// and has left then.
 fn push_bytes_read(answer: &mut String, bytes: &[u8]) -> Result<()> {
     let mut cursor = Cursor::new(bytes);
     let mut ahead = cursor.fork();
@@ -83,10 +79,7 @@ fn push_bytes_read(answer: &mut String, bytes: &[u8]) -> Result<()> {
     let seen = ahead.chunk();
     ahead.advance(ahead.remaining());
     let (passed, left, rest) = (cursor.position(), cursor.remaining(), ahead.remaining());
-    Ok(write!(
-        answer,
-        "; {passed} passed, {left} left; ahead {seen:?}, then {rest} left"
-    )?)
+    Ok(write!(answer, "; {passed}, {left}; {seen:?}, {rest}")?)
 }
 
 /// Appends the integer at the front of the bytes, under its flags, and how many bytes are left after it.
@@ -106,10 +99,8 @@ fn push_string(alloc: Global, answer: &mut String, bytes: &[u8], words: &mut Wor
         Ok(text) => text,
         Err(error) => return push_result(answer, &Err::<(), _>(error)),
     };
-    ensure!(
-        !text.is_empty() || text.capacity() == 0,
-        "an empty text takes memory"
-    );
+    let is_lean = !text.is_empty() || text.capacity() == 0;
+    ensure!(is_lean, "an empty text takes memory");
     Ok(write!(answer, "{:?}", text.as_slice().as_bstr())?)
 }
 
@@ -121,17 +112,17 @@ fn push_payload_read(answer: &mut String, payload: &Vec<u8>) -> Result<()> {
     Ok(())
 }
 
-/// Appends the encoded insert count of a prefix, and what the prefix means at a number of insertions and a maximum
+/// Appends the encoded insert count of a prefix, and what the prefix means at a total of insertions and a maximum
 /// capacity, also read strictly.
 fn push_prefix(answer: &mut String, bytes: &[u8], words: &mut Words) -> Result<()> {
-    let (inserted, capacity) = (words.count()?, words.count()?);
+    let (total, capacity) = (words.count()?, words.count()?);
     let count = HeaderPrefix::decode(&mut Cursor::new(bytes)).map(|it| it.encoded_insert_count());
     push_result(answer, &count)?;
     let prefix = HeaderPrefix::decode(&mut Cursor::new(bytes));
-    push_result(answer, &prefix.and_then(|it| it.get(inserted, capacity)))?;
+    push_result(answer, &prefix.and_then(|it| it.get(total, capacity)))?;
     let prefix = HeaderPrefix::decode(&mut Cursor::new(bytes));
     push_result(
         answer,
-        &prefix.and_then(|it| it.get_strict(inserted, capacity)),
+        &prefix.and_then(|it| it.get_strict(total, capacity)),
     )
 }

@@ -52,11 +52,8 @@ fn hold_cut(alloc: Global, stream: &[u8], cut: usize, whole: &Vec<EncoderLine>) 
     let mut lines = Vec::new(alloc);
     let taken = read_all(alloc, stream.get(..cut).unwrap_or(stream), &mut lines)?;
     let more = read_all(alloc, stream.get(taken..).unwrap_or(b""), &mut lines)?;
-    let is_whole = taken.saturating_add(more) == stream.len();
-    ensure!(
-        is_whole && lines == *whole,
-        "a cut at {cut} changes the instructions"
-    );
+    let is_same = taken.saturating_add(more) == stream.len() && lines == *whole;
+    ensure!(is_same, "other instructions with a cut at {cut}");
     Ok(())
 }
 

@@ -22,10 +22,8 @@ pub(crate) fn push_written(alloc: Global, words: &mut Words, answer: &mut String
     let mut out = Vec::with_capacity(alloc, room)?;
     write_items(alloc, words.rest, &mut out, answer)?;
     words.rest = "";
-    ensure!(
-        room == 0 || out.capacity() == room,
-        "memory is taken beside the room"
-    );
+    let has_grown = room > 0 && out.capacity() != room;
+    ensure!(!has_grown, "memory was taken beside the room");
     push_bytes(answer, &out)
 }
 
@@ -67,18 +65,14 @@ fn write_or_leave(
     answer: &mut String,
 ) -> Result<()> {
     let (before, capacity) = (out.len(), out.capacity());
-    let Err(error) = write_item(alloc, item, out) else {
-        ensure!(
-            out.len() == before.saturating_add(length),
-            "{item} is not {length} bytes"
-        );
+    let written = write_item(alloc, item, out);
+    let added = out.len().checked_sub(before);
+    let Err(error) = written else {
+        ensure!(added == Some(length), "{added:?} bytes were written");
         return Ok(());
     };
     let is_full = capacity.saturating_sub(before) < room;
-    ensure!(
-        out.len() == before && is_full,
-        "{item} is refused after {before} bytes of {capacity}"
-    );
+    ensure!(is_full && added == Some(0), "{error} after {before} bytes");
     answer.clear();
     Ok(write!(answer, "{error}")?)
 }
@@ -133,10 +127,8 @@ fn read_prefix(words: &mut Words) -> Result<HeaderPrefix> {
     let (required, base) = (words.count()?, words.count()?);
     let (inserted, capacity) = (words.count()?, words.count()?);
     let is_possible = required <= inserted && capacity >= 32;
-    ensure!(
-        is_possible || required == 0 || capacity == 0,
-        "no section has this prefix"
-    );
+    let is_empty = required == 0 || capacity == 0;
+    ensure!(is_possible || is_empty, "no section has the prefix");
     Ok(HeaderPrefix::new(required, base, inserted, capacity))
 }
 
