@@ -51,8 +51,3 @@ fn push_section(answer: &mut String, decoded: &Decoded) -> Result<()> {
     }
     Ok(())
 }
-
-/// Appends how many bytes were taken.
-pub(crate) fn push_position(answer: &mut String, position: usize) -> Result<()> {
-    Ok(write!(answer, " at {position}")?)
-}

@@ -1,6 +1,6 @@
 //! The decoder of `h3_qpack`, over a table with an index or without one.
 
-use crate::answers::{push_decoded, push_done, push_position, push_value};
+use crate::answers::{push_decoded, push_done, push_value};
 use crate::table::{Kind, call_for_state, table_of};
 use anyhow::{Result, ensure};
 use h3_qpack::coding::{Cursor, NoMemory};
@@ -39,9 +39,8 @@ impl<I: Kind> Subject for H3Decoder<I> {
     ) -> Result<()> {
         match word {
             "decodes" => self.decode(&words.bytes(alloc)?, answer),
-            "receives" | "receives-without-memory" => {
-                self.receive(word, &words.bytes(alloc)?, answer)
-            }
+            "receives" => self.receive(&words.bytes(alloc)?, 0, answer),
+            "receives-without-memory" => self.receive_once(&words.bytes(alloc)?, answer),
             "receives-in-two" => self.receive_in_two(&words.bytes(alloc)?, answer),
             "acknowledges" | "cancels" => self.reply(word, words.number()?, answer),
             "writes" => self.push_written(answer),
@@ -72,25 +71,27 @@ impl<I: EntryIndex> H3Decoder<I> {
         Ok(self.decoder.on_encoder_recv(cursor, &mut self.written))
     }
 
-    /// Receives bytes of the encoder stream, and never a second time if they take no memory. Appends how many insertions
-    /// there were, and how many bytes were taken.
-    fn receive(&mut self, word: &str, bytes: &[u8], answer: &mut String) -> Result<()> {
+    /// Receives bytes of the encoder stream. Appends how many insertions there were, and how many bytes were taken, of
+    /// these and before them.
+    fn receive(&mut self, bytes: &[u8], before: usize, answer: &mut String) -> Result<()> {
         let mut cursor = Cursor::new(bytes);
-        let received = match word {
-            "receives" => self.take(&mut cursor)?,
-            _ => self.decoder.on_encoder_recv(&mut cursor, &mut self.written),
-        };
-        push_value(answer, &received)?;
-        push_position(answer, cursor.position())
+        let received = self.take(&mut cursor)?;
+        push_taken(answer, &received, before.saturating_add(cursor.position()))
+    }
+
+    /// Receives bytes of the encoder stream that take no memory.
+    fn receive_once(&mut self, bytes: &[u8], answer: &mut String) -> Result<()> {
+        let mut cursor = Cursor::new(bytes);
+        let received = self.decoder.on_encoder_recv(&mut cursor, &mut self.written);
+        push_taken(answer, &received, cursor.position())
     }
 
     /// Receives bytes of the encoder stream in two pieces. The second begins with the bytes that the first left.
     fn receive_in_two(&mut self, bytes: &[u8], answer: &mut String) -> Result<()> {
         let mut first = Cursor::new(bytes.get(..self.cut).unwrap_or(bytes));
         self.take(&mut first)??;
-        let mut second = Cursor::new(bytes.get(first.position()..).unwrap_or(b""));
-        push_value(answer, &self.take(&mut second)?)?;
-        push_position(answer, first.position().saturating_add(second.position()))
+        let rest = bytes.get(first.position()..).unwrap_or(b"");
+        self.receive(rest, first.position(), answer)
     }
 
     /// Acknowledges a section of a stream, or cancels the stream, a second time in case memory was refused.
@@ -115,6 +116,16 @@ impl<I: EntryIndex> H3Decoder<I> {
         self.written.clear();
         Ok(())
     }
+}
+
+/// Appends how many insertions there were, or why an instruction was refused, and how many bytes were taken.
+fn push_taken(
+    answer: &mut String,
+    received: &Result<usize, DecoderError>,
+    taken: usize,
+) -> Result<()> {
+    push_value(answer, received)?;
+    Ok(write!(answer, " at {taken}")?)
 }
 
 /// Writes the acknowledgment of a section of a stream, or the cancellation of the stream.

@@ -1,6 +1,6 @@
 //! The encoder of `h3_qpack`.
 
-use crate::answers::{push_done, push_position, push_value};
+use crate::answers::{push_done, push_value};
 use crate::repeated::Repeated;
 use crate::table::{call_for_state, table_of};
 use anyhow::Result;
@@ -11,7 +11,8 @@ use h3_qpack::encoder::{Encoder, EncoderError};
 use linked_list_allocator::LocalHeap;
 use qpack_testing::again;
 use qpack_testing::cases::{Subject, Words, push_bytes, read_headers};
-use std::alloc::Global;
+use std::alloc::{Allocator, Global};
+use std::fmt::Write;
 
 /// An encoder, the sections that were not asked for yet, and the encoder stream.
 #[derive(Drop)]
@@ -68,7 +69,7 @@ impl Subject for H3Encoder {
             }
             "encodes-on-heap" | "sets-on-heap" => self.call_on_heap(alloc, word, words, answer),
             "receives" => self.receive(&words.bytes(alloc)?, answer),
-            "sets" => self.set_capacity(words.count()?, answer),
+            "sets" => push_set(answer, &mut self.encoder, words.count()?, &mut self.stream),
             "writes" => self.push_sections(answer),
             "holds" => push_bytes(answer, &self.stream),
             _ => call_for_state(self.encoder.table(), word, words, answer),
@@ -123,7 +124,7 @@ impl H3Encoder {
         }
     }
 
-    /// Makes a call whose instructions go behind those before, all in the room of words on a heap of words.
+    /// Makes a call while the encoder stream is on a heap: of words are the bytes of the heap, and the room in a vector.
     fn call_on_heap(
         &mut self,
         alloc: Global,
@@ -134,22 +135,30 @@ impl H3Encoder {
         let (size, room) = (words.count()?, words.count()?);
         let heap = again(|| LocalHeap::new(alloc, size))?;
         let mut stream = Vec::with_capacity(&heap, room)?;
-        stream.extend_from_slice(&self.stream)?;
-        match word {
-            "sets-on-heap" => {
-                push_done(
-                    answer,
-                    &self.encoder.set_capacity(words.count()?, &mut stream),
-                )?;
-            }
-            _ => self.encode_to(alloc, &mut stream, words, answer)?,
-        }
-        self.stream.clear();
-        Ok(self.stream.extend_from_slice(&stream)?)
+        self.call_with(alloc, word, &mut stream, words, answer)
     }
 
-    /// Encodes the fields of words on a stream, with the instructions on a heap. As many bytes as words say are written
-    /// before memory is refused.
+    /// Makes a call with an empty vector for the encoder stream.
+    fn call_with(
+        &mut self,
+        alloc: Global,
+        word: &str,
+        stream: &mut Vec<u8, &LocalHeap>,
+        words: &mut Words<'_>,
+        answer: &mut String,
+    ) -> Result<()> {
+        stream.extend_from_slice(&self.stream)?;
+        let called = match word {
+            "sets-on-heap" => push_set(answer, &mut self.encoder, words.count()?, stream),
+            _ => self.encode_to(alloc, stream, words, answer),
+        };
+        self.stream.clear();
+        self.stream.extend_from_slice(stream)?;
+        called
+    }
+
+    /// Encodes the fields of words on a stream, with the instructions on a heap. The encoder stream has as many bytes as
+    /// words say when memory is refused.
     fn encode_to(
         &mut self,
         alloc: Global,
@@ -172,13 +181,7 @@ impl H3Encoder {
     fn receive(&mut self, bytes: &[u8], answer: &mut String) -> Result<()> {
         let mut cursor = Cursor::new(bytes);
         push_done(answer, &self.encoder.on_decoder_recv(&mut cursor))?;
-        push_position(answer, cursor.position())
-    }
-
-    /// Sets a capacity.
-    fn set_capacity(&mut self, capacity: usize, answer: &mut String) -> Result<()> {
-        let set = self.encoder.set_capacity(capacity, &mut self.stream);
-        push_done(answer, &set)
+        Ok(write!(answer, " at {}", cursor.position())?)
     }
 
     /// Appends the sections that were not asked for yet.
@@ -187,4 +190,15 @@ impl H3Encoder {
         self.sections.clear();
         Ok(())
     }
+}
+
+/// Sets a capacity, and writes its instruction. Appends the capacity of the table then too.
+fn push_set<A: Allocator>(
+    answer: &mut String,
+    encoder: &mut Encoder,
+    capacity: usize,
+    stream: &mut Vec<u8, A>,
+) -> Result<()> {
+    push_done(answer, &encoder.set_capacity(capacity, stream))?;
+    Ok(write!(answer, " at {}", encoder.table().max_mem_size())?)
 }

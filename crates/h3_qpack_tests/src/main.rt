@@ -1,12 +1,11 @@
-//! Cases of h3's names: the dynamic table, the encoder and the decoder over one, sections without a table, and sessions,
-//! in the format of `qpack_testing::cases`.
+//! Cases of h3's names: the dynamic table, the encoder and the decoder over one, and sections without a table, in
+//! the format of `qpack_testing::cases`.
 #![tactic(auto)]
 
 mod answers;
 mod decoder;
 mod encoder;
 mod repeated;
-mod session;
 mod stateless;
 mod table;
 
@@ -15,13 +14,12 @@ use decoder::H3Decoder;
 use encoder::H3Encoder;
 use h3_qpack::dynamic::{Index, NoIndex};
 use qpack_testing::cases::{Kinds, Line, Words, hold, hold_files};
-use session::ManyStreams;
 use stateless::Stateless;
 use std::alloc::Global;
 use table::{Received, Table};
 
 /// The files of cases.
-const FILES: [&str; 8] = [
+const FILES: [&str; 7] = [
     "tables.txt",
     "h3_encoder.txt",
     "h3_decoder.txt",
@@ -29,7 +27,6 @@ const FILES: [&str; 8] = [
     "cut_late.txt",
     "stateless.txt",
     "heaps.txt",
-    "many_streams.txt",
 ];
 
 /// What the cases call.
@@ -50,7 +47,6 @@ impl Kinds for Names {
             "h3-decoder" => hold::<H3Decoder<Index>>(alloc, settings, size, calls),
             "h3-received-decoder" => hold::<H3Decoder<NoIndex>>(alloc, settings, size, calls),
             "stateless" => hold::<Stateless>(alloc, settings, size, calls),
-            "session" => hold::<ManyStreams>(alloc, settings, size, calls),
             _ => bail!("there is no {kind}"),
         }
     }

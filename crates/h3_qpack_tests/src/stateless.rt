@@ -4,7 +4,8 @@ use crate::answers::{push_decoded, push_value};
 use anyhow::{Context, Result, bail};
 use h3_qpack::coding::Cursor;
 use h3_qpack::{
-    DecoderError, EncoderError, Error, decode_stateless, encode_stateless, prefix_string, vas,
+    DecoderError, EncoderError, Error, HeaderField, decode_stateless, encode_stateless,
+    prefix_string, vas,
 };
 use linked_list_allocator::LocalHeap;
 use qpack_testing::again;
@@ -67,8 +68,7 @@ impl Stateless {
         push_decoded(answer, &decoded)
     }
 
-    /// Encodes the fields of words behind the sections before, all in the room of words on a heap of words. Appends the
-    /// size of the fields.
+    /// Encodes fields while the sections are on a heap: of words are the bytes of the heap, and the room in a vector.
     fn encode_on_heap(
         &mut self,
         alloc: Global,
@@ -79,10 +79,20 @@ impl Stateless {
         let headers = read_headers(alloc, words)?;
         let heap = again(|| LocalHeap::new(alloc, size))?;
         let mut sections = Vec::with_capacity(&heap, room)?;
+        self.encode_to(&mut sections, &headers, answer)
+    }
+
+    /// Encodes fields behind the sections before, which go to an empty vector. Appends the size of the fields.
+    fn encode_to(
+        &mut self,
+        sections: &mut Vec<u8, &LocalHeap>,
+        headers: &[HeaderField],
+        answer: &mut String,
+    ) -> Result<()> {
         sections.extend_from_slice(&self.sections)?;
-        push_value(answer, &encode_stateless(&mut sections, headers.iter()))?;
+        push_value(answer, &encode_stateless(sections, headers.iter()))?;
         self.sections.clear();
-        Ok(self.sections.extend_from_slice(&sections)?)
+        Ok(self.sections.extend_from_slice(sections)?)
     }
 }
 

@@ -6,11 +6,7 @@ use h3_qpack::HeaderField;
 use h3_qpack::dynamic::{
     DynamicTable, DynamicTableEncoder, EntryIndex, Error, Index, NoIndex, ReceivedTable,
 };
-use h3_qpack::encoder::set_dynamic_table_size;
-use qpack_testing::again;
-use qpack_testing::cases::{
-    Subject, Words, push_bytes, push_capacity, push_count, push_field, read_headers,
-};
+use qpack_testing::cases::{Subject, Words, push_capacity, push_count, push_field, read_headers};
 use std::alloc::Global;
 use std::fmt::Write;
 
@@ -64,7 +60,7 @@ fn set_up<I: EntryIndex>(
     let capacity = settings.count()?;
     match settings.word() {
         "" | "any" => {}
-        maximum => table.set_agreed_max(maximum.parse()?)?,
+        maximum => agree(table, maximum.parse()?)??,
     }
     table.set_max_size(capacity)?;
     Ok(put_all(alloc, table, settings)??)
@@ -187,19 +183,9 @@ impl Subject for Table {
         words: &mut Words<'_>,
         answer: &mut String,
     ) -> Result<()> {
-        match word {
-            "finds" | "inserts" | "block" | "sends-found" | "sends-inserted" => {
-                self.call_block(alloc, word, words, answer)?;
-            }
-            "announces" => announce(alloc, &mut self.table, words.count()?, answer)?,
-            "limits" | "sends-nothing" | "receives" | "acknowledges" | "cancels" => {
-                let done = call_with_number(&mut self.table, word, words.count()?);
-                push_done(answer, &done)?;
-            }
-            _ => call_any(alloc, &mut self.table, word, words, answer)?,
-        }
+        let made = self.make(alloc, word, words, answer);
         self.lacked_memory |= answer.as_str().contains("refused Memory");
-        Ok(())
+        made
     }
 
     fn lacked_memory(&self) -> bool {
@@ -208,49 +194,60 @@ impl Subject for Table {
 }
 
 impl Table {
-    /// Makes a call of a block for the fields of words. The block is given up, or sent on a stream of words: then how many
-    /// insertions it requires is appended too.
-    fn call_block(
+    /// Makes a call.
+    fn make(
         &mut self,
         alloc: Global,
         word: &str,
         words: &mut Words<'_>,
         answer: &mut String,
     ) -> Result<()> {
-        let is_sent = word.starts_with("sends");
-        let stream = if is_sent { words.number()? } else { 8 };
-        let headers = read_headers(alloc, words)?;
-        let mut block = self.table.encoder(stream);
-        let pushed = push_block(answer, &mut block, word, &headers);
-        if !is_sent {
-            block.release();
-            return pushed;
+        let table = &mut self.table;
+        match word {
+            "finds" | "inserts" | "block" => {
+                push_given_up(answer, table, word, &read_headers(alloc, words)?)
+            }
+            "sends-found" | "sends-inserted" => {
+                let stream = words.number()?;
+                push_sent(answer, table, stream, word, &read_headers(alloc, words)?)
+            }
+            "limits" | "sends-nothing" | "receives" | "acknowledges" | "cancels" => {
+                let done = call_with_number(table, word, words.count()?);
+                push_done(answer, &done)
+            }
+            _ => call_any(alloc, table, word, words, answer),
         }
-        let required = block.required_insert_count();
-        let sent = block.commit(required);
-        pushed?;
-        push_sent(answer, sent.map(|()| required))
     }
 }
 
-/// Appends how many insertions a section requires that is sent.
-fn push_sent(answer: &mut String, required: Result<usize, Error>) -> Result<()> {
-    answer.push_str(" requires ")?;
-    push_value(answer, &required)
+/// Appends the answers of a block, which is given up then.
+fn push_given_up(
+    answer: &mut String,
+    table: &mut DynamicTable,
+    word: &str,
+    fields: &[HeaderField],
+) -> Result<()> {
+    let mut block = table.encoder(8);
+    let pushed = push_block(answer, &mut block, word, fields);
+    block.release();
+    pushed
 }
 
-/// Sets the capacity of a table, and appends its instruction.
-fn announce(
-    alloc: Global,
-    table: &mut DynamicTable,
-    capacity: usize,
+/// Appends the answers of a block, which is sent on a stream then, and how many insertions it requires.
+fn push_sent(
     answer: &mut String,
+    table: &mut DynamicTable,
+    stream: u64,
+    word: &str,
+    fields: &[HeaderField],
 ) -> Result<()> {
-    let mut instruction = again(|| Vec::with_capacity(alloc, 32))?;
-    let set = set_dynamic_table_size(table, &mut instruction, capacity);
-    push_done(answer, &set)?;
-    answer.push(' ')?;
-    push_bytes(answer, &instruction)
+    let mut block = table.encoder(stream);
+    let pushed = push_block(answer, &mut block, word, fields);
+    let required = block.required_insert_count();
+    let sent = block.commit(required).map(|()| required);
+    pushed?;
+    answer.push_str(" requires ")?;
+    push_value(answer, &sent)
 }
 
 /// Makes a call with a number, which changes what the table knows of the decoder, or allows it.

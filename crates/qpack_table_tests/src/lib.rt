@@ -1,5 +1,5 @@
 //! The indexes, random calls of the dynamic table, the entries that a search looks at, and printed texts, through public
-//! calls. Worked cases of the table are data of `qpack_connection_tests`.
+//! calls. Worked cases of the table are data of `h3_qpack_tests`.
 #![tactic(auto)]
 
 #[cfg(test)]

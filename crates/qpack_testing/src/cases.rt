@@ -12,6 +12,7 @@
 //!   do: then all calls are made once more, by a new subject, and none may be refused memory.
 //! - `CALL => ANSWER` does the same, and the answer counts after refused memory too.
 //! - `CALL` alone makes a call, and takes any answer.
+//! - `each FIRST LAST CALL -> ANSWER` makes the call for each of these numbers, up or down, which stands for its `@`.
 //! - `ended -> ANSWER` requires that every call that can fail gives this answer from now on, and changes nothing.
 //! - `again` starts over, after the calls before the first `again` of the case.
 //!

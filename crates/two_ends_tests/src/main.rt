@@ -18,8 +18,9 @@ use session::Session;
 use std::alloc::Global;
 
 /// The files of cases.
-const FILES: [&str; 5] = [
+const FILES: [&str; 6] = [
     "sessions.txt",
+    "many_streams.txt",
     "two_ends.txt",
     "refused.txt",
     "runs.txt",

@@ -1,5 +1,6 @@
 //! What cases call, and whether it returns what they say.
 
+use crate::again;
 use crate::cases::script::{Case, Line};
 use crate::cases::words::Words;
 use anyhow::{Context, Result, bail, ensure};
@@ -114,11 +115,42 @@ fn hold_calls<S: Subject>(
         answer.reserve(LONGEST)?;
     }
     for line in calls {
-        if let Err(error) = hold_line(alloc, subject, line.text, &mut answer) {
+        if let Err(error) = hold_each(alloc, subject, line.text, &mut answer) {
             bail!("line {}: {error:#}", line.number);
         }
     }
     Ok(!subject.lacked_memory())
+}
+
+/// Makes the call of a line: once, or for each of the numbers that the line names.
+fn hold_each<S: Subject>(
+    alloc: Global,
+    subject: &mut S,
+    line: &str,
+    answer: &mut String,
+) -> Result<()> {
+    let Some(rest) = line.strip_prefix("each ") else {
+        return hold_line(alloc, subject, line, answer);
+    };
+    let mut words = Words { rest };
+    let (first, last) = (words.number()?, words.number()?);
+    for distance in 0..=first.abs_diff(last) {
+        let number = number_at(first, last, distance);
+        let line = again(|| words
+            .rest
+            .replace(alloc, "@", number.to_string(alloc)?.as_str()))?;
+        hold_line(alloc, subject, line.as_str(), answer)?;
+    }
+    Ok(())
+}
+
+/// Returns the number at a distance from the first, on the way to the last.
+fn number_at(first: u64, last: u64, distance: u64) -> u64 {
+    if first <= last {
+        first.saturating_add(distance)
+    } else {
+        first.saturating_sub(distance)
+    }
 }
 
 /// Makes the call of a line, which must give the answer of the line.
