@@ -12,7 +12,7 @@ use qpack_testing::cases::{Subject, Words, push_bytes};
 use std::alloc::Global;
 use std::fmt::Write;
 
-/// A decoder, and what it wrote since that was last asked for. A stream may be cut in two behind so many bytes.
+/// A decoder, what it wrote since that was last asked for, and after how many bytes a stream is cut in two.
 #[derive(Drop)]
 pub(crate) struct H3Decoder<I: EntryIndex> {
     decoder: Decoder<I>,
@@ -71,8 +71,8 @@ impl<I: EntryIndex> H3Decoder<I> {
         Ok(self.decoder.on_encoder_recv(cursor, &mut self.written))
     }
 
-    /// Receives bytes of the encoder stream. Appends how many insertions there were, and how many bytes were taken, of
-    /// these and before them.
+    /// Receives bytes of the encoder stream. Appends how many insertions there were, and how many bytes were taken, with
+    /// those before.
     fn receive(&mut self, bytes: &[u8], before: usize, answer: &mut String) -> Result<()> {
         let mut cursor = Cursor::new(bytes);
         let received = self.take(&mut cursor)?;

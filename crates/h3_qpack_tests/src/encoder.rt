@@ -108,23 +108,34 @@ impl H3Encoder {
         stream: u64,
         headers: &[HeaderField],
     ) -> Result<usize, EncoderError> {
-        let (sections, instructions) = (&mut self.sections, &mut self.stream);
-        match (word, headers.first()) {
-            ("encodes-chained", _) => {
-                let twice = headers.iter().chain(headers.iter());
-                self.encoder.encode(stream, sections, instructions, twice)
-            }
-            ("encodes-repeated", Some(field)) => {
-                let twice = Repeated { field, left: 2 };
-                self.encoder.encode(stream, sections, instructions, twice)
-            }
-            _ => self
-                .encoder
-                .encode(stream, sections, instructions, headers.iter()),
+        if word == "encodes-repeated" {
+            return self.encode_repeated(stream, headers);
         }
+        let (sections, instructions) = (&mut self.sections, &mut self.stream);
+        if word == "encodes-chained" {
+            let twice = headers.iter().chain(headers.iter());
+            return self.encoder.encode(stream, sections, instructions, twice);
+        }
+        self.encoder
+            .encode(stream, sections, instructions, headers.iter())
     }
 
-    /// Makes a call while the encoder stream is on a heap: of words are the bytes of the heap, and the room in a vector.
+    /// Encodes the first of some header fields on a stream twice, by an iterator that is none of std's.
+    fn encode_repeated(
+        &mut self,
+        stream: u64,
+        headers: &[HeaderField],
+    ) -> Result<usize, EncoderError> {
+        let Some(field) = headers.first() else {
+            return Ok(0);
+        };
+        let twice = Repeated { field, left: 2 };
+        self.encoder
+            .encode(stream, &mut self.sections, &mut self.stream, twice)
+    }
+
+    /// Makes a call with the encoder stream on a heap. The words are the bytes of the heap, the room in a vector there,
+    /// and those of the call.
     fn call_on_heap(
         &mut self,
         alloc: Global,
@@ -138,7 +149,7 @@ impl H3Encoder {
         self.call_with(alloc, word, &mut stream, words, answer)
     }
 
-    /// Makes a call with an empty vector for the encoder stream.
+    /// Makes a call with the encoder stream in an empty vector.
     fn call_with(
         &mut self,
         alloc: Global,
@@ -157,8 +168,8 @@ impl H3Encoder {
         called
     }
 
-    /// Encodes the fields of words on a stream, with the instructions on a heap. The encoder stream has as many bytes as
-    /// words say when memory is refused.
+    /// Encodes fields with the instructions on a heap. The words are how many bytes the encoder stream has once memory is
+    /// refused, the stream, and the fields.
     fn encode_to(
         &mut self,
         alloc: Global,
@@ -192,7 +203,7 @@ impl H3Encoder {
     }
 }
 
-/// Sets a capacity, and writes its instruction. Appends the capacity of the table then too.
+/// Sets a capacity, and writes its instruction. Appends the capacity that the table has then too.
 fn push_set<A: Allocator>(
     answer: &mut String,
     encoder: &mut Encoder,

@@ -20,11 +20,11 @@ pub(crate) struct Stateless {
     sections: Vec<u8>,
 }
 
-/// Room for all sections of a case, so that none is refused memory but that of a heap.
+/// Room for the sections of a case, so that only a heap refuses memory.
 const ROOM: usize = 1024;
 
-/// Errors that no call returns so.
-const NEVER_RETURNED: [Error; 9] = [
+/// Errors that no call returns with these values.
+const NEVER_RETURNED: &[Error] = &[
     Error::Decoder(DecoderError::InvalidIndex(vas::Error::PostbaseIndex(3))),
     Error::Decoder(DecoderError::UnknownPrefix(16)),
     Error::Decoder(DecoderError::UnexpectedEnd),
@@ -68,7 +68,8 @@ impl Stateless {
         push_decoded(answer, &decoded)
     }
 
-    /// Encodes fields while the sections are on a heap: of words are the bytes of the heap, and the room in a vector.
+    /// Encodes fields with the sections on a heap. The words are the bytes of the heap, the room in a vector there, and
+    /// the fields.
     fn encode_on_heap(
         &mut self,
         alloc: Global,
@@ -82,7 +83,7 @@ impl Stateless {
         self.encode_to(&mut sections, &headers, answer)
     }
 
-    /// Encodes fields behind the sections before, which go to an empty vector. Appends the size of the fields.
+    /// Encodes fields after the other sections, all in an empty vector. Appends the size of the fields.
     fn encode_to(
         &mut self,
         sections: &mut Vec<u8, &LocalHeap>,

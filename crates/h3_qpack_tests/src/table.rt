@@ -51,7 +51,7 @@ pub(crate) fn table_of<I: Kind>(
     Ok(table)
 }
 
-/// Makes the settings of an empty table.
+/// Sets an empty table up as words say.
 fn set_up<I: EntryIndex>(
     alloc: Global,
     table: &mut DynamicTable<I>,
@@ -194,7 +194,7 @@ impl Subject for Table {
 }
 
 impl Table {
-    /// Makes a call.
+    /// Makes a call, whether or not memory is refused.
     fn make(
         &mut self,
         alloc: Global,

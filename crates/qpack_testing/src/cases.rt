@@ -9,10 +9,10 @@
 //! - `= KIND SETTINGS` says what the case calls. A case with several such lines makes its calls for each. With
 //!   `pieces 1 7` at its end the bytes of a stream come in pieces of one byte, and then in pieces of seven.
 //! - `CALL -> ANSWER` makes a call, which must give this answer. After a call that was refused memory any answer will
-//!   do: then all calls are made once more, by a new subject, and none may be refused memory.
+//!   do. Then all calls of the case are made once more, and none of these may be refused memory.
 //! - `CALL => ANSWER` does the same, and the answer counts after refused memory too.
 //! - `CALL` alone makes a call, and takes any answer.
-//! - `each FIRST LAST CALL -> ANSWER` makes the call for each of these numbers, up or down, which stands for its `@`.
+//! - `each FIRST LAST CALL -> ANSWER` makes the call once for each of these numbers, up or down. `@` is the number.
 //! - `ended -> ANSWER` requires that every call that can fail gives this answer from now on, and changes nothing.
 //! - `again` starts over, after the calls before the first `again` of the case.
 //!
