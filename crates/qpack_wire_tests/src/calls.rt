@@ -14,8 +14,8 @@ use std::fmt::Write;
 #[derive(Drop)]
 pub(crate) struct Calls;
 
-/// Whether an answer tells by the name of an error, or by the text of std's, that its call was refused memory. A vector
-/// that is full answers by another text.
+/// Returns whether an answer has the name of an error of refused memory, or the text of std's. What `fills` answers is
+/// another text.
 fn is_refusal(answer: &str) -> bool {
     answer.contains("Memory") || answer.contains("Out of memory")
 }
@@ -69,7 +69,7 @@ fn push_windows(answer: &mut String) -> Result<()> {
     Ok(write!(answer, "{is_default}; {window:?}; {rest:?}")?)
 }
 
-/// Appends the texts of errors that no call returns, except the last, for which memory is refused.
+/// Appends the texts of errors that no call returns unless memory is refused.
 fn push_unreturned(answer: &mut String) -> Result<()> {
     let coding = Error::HuffmanEncoding(HuffmanEncodingError);
     let (size, memory) = (Error::BufSize, ParseError::Memory);

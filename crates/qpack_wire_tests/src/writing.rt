@@ -33,7 +33,7 @@ fn write_items(alloc: Global, items: &str, out: &mut Vec<u8>, answer: &mut Strin
         if write_item(alloc, item, out).is_ok() {
             continue;
         }
-        // A second time, in case memory was refused.
+        // To the same vector a second time, in case memory was refused: that must leave it.
         if let Err(error) = write_item(alloc, item, out) {
             write!(answer, "{error}; ")?;
         }
@@ -56,7 +56,8 @@ pub(crate) fn push_filling(alloc: Global, words: &mut Words, answer: &mut String
     Ok(write!(answer, ", written {}", !out.is_empty())?)
 }
 
-/// Writes an item of this length. If it is refused the vector is as before, with less than this room: the answer is why.
+/// Writes an item of this length. If it is refused the vector must be as before, with less than this room: the answer is
+/// why.
 fn write_or_leave(
     alloc: Global,
     item: &str,
