@@ -28,7 +28,7 @@ enum Part {
     Faults,
 }
 
-/// More than a line says of an output that can't be written.
+/// A room for the line of an output that can't be written, and more.
 const WIDE: usize = 100;
 
 impl Case {
@@ -45,7 +45,7 @@ impl Case {
         }
     }
 
-    /// Fails if a run does not write exactly what is foretold, or, with narrow outputs and faults, a front of it.
+    /// Fails if a run does not write exactly what is foretold, or, with narrow outputs and faults, a front of that.
     pub(crate) fn hold(&self, alloc: Global, is_narrow: bool) -> Result<()> {
         for words in &self.lines {
             let words = words.as_str();
@@ -59,8 +59,8 @@ impl Case {
         Ok(())
     }
 
-    /// Fails if an output without room for all does not get a front of it and status 1, with a line of that; or if faults
-    /// with any room do not get a front of theirs, with the foretold output and status.
+    /// Holds the runs of an output without room for all, and those of faults with any room. The first have status 1, and
+    /// their faults say why. The others end as foretold.
     fn hold_narrow(&self, alloc: Global, words: &str) -> Result<()> {
         for room in 0..self.output.len() {
             let foretold = Foretold {

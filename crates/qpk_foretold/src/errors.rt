@@ -1,4 +1,4 @@
-//! The words of errors, each beside those that its own `Display` prints. What is printed was foretold.
+//! The words of errors, each beside those that its own `Display` prints: `stdout` has the same on both sides.
 
 use h3_qpack::coding::NoMemory;
 use h3_qpack::dynamic::Error as TableError;

@@ -11,7 +11,7 @@ const REFUSED_MEMORY: &[u8] = b"qpk: refused: memory\n";
 
 pub(crate) const REFUSED_OUTPUT: &[u8] = b"qpk: refused: output\n";
 
-/// What `qpk` is given, and the rooms of its output and its faults, if they do not take all.
+/// What `qpk` is given, and the rooms of its output and its faults, unless they take all.
 #[derive(Clone, Copy)]
 pub(crate) struct Run<'a> {
     pub(crate) words: &'a str,
@@ -126,7 +126,7 @@ impl Answer {
         Ok(true)
     }
 
-    /// Returns whether the faults are what is written of them without memory, or without memory for the output.
+    /// Returns whether the faults are a front of what they are without memory, or without memory for the output.
     fn says_no_memory(&self) -> bool {
         REFUSED_MEMORY.starts_with(&self.faults) || REFUSED_OUTPUT.starts_with(&self.faults)
     }
