@@ -93,10 +93,10 @@ fn write_item<A: Allocator>(alloc: Global, item: &str, out: &mut Vec<u8, A>) -> 
         "integer" => write_integer(words, out),
         "string" => write_string(words, out),
         "reads" => read_onto(alloc, words, out),
-        "prefix" => Ok(read_prefix(words)?.encode(out)?),
-        "line" => Ok(read_line(alloc, words)?.encode(out)?),
-        "encoder" => Ok(read_instruction::<EncoderLine>(alloc, words)?.encode(out)?),
-        "decoder" => Ok(read_instruction::<DecoderLine>(alloc, words)?.encode(out)?),
+        "prefix" => write_prefix(words, out),
+        "line" => write_line(alloc, words, out),
+        "encoder" => write_instruction::<EncoderLine, A>(alloc, words, out),
+        "decoder" => write_instruction::<DecoderLine, A>(alloc, words, out),
         "made" => write_made(alloc, words, out),
         form => write_lent(form, words, out),
     }
@@ -123,26 +123,33 @@ fn read_onto<A: Allocator>(alloc: Global, words: &mut Words, out: &mut Vec<u8, A
     Ok(prefix_string::decode_onto(size, &mut Cursor::new(&bytes), out)?)
 }
 
-/// Makes the prefix of a required insert count, a base, a number of insertions and a maximum capacity.
-fn read_prefix(words: &mut Words) -> Result<HeaderPrefix> {
+/// Writes the prefix of a required insert count, a base, a number of insertions and a maximum capacity.
+fn write_prefix<A: Allocator>(words: &mut Words, out: &mut Vec<u8, A>) -> Result<()> {
     let (required, base) = (words.count()?, words.count()?);
     let (inserted, capacity) = (words.count()?, words.count()?);
     let is_possible = required <= inserted && capacity >= 32;
     let is_empty = required == 0 || capacity == 0;
     ensure!(is_possible || is_empty, "no section has the prefix");
-    Ok(HeaderPrefix::new(required, base, inserted, capacity))
+    Ok(HeaderPrefix::new(required, base, inserted, capacity).encode(out)?)
 }
 
-/// Reads a line.
-fn read_line(alloc: Global, words: &mut Words) -> Result<BlockLine> {
+/// Reads a line, and writes it.
+fn write_line<A: Allocator>(alloc: Global, words: &mut Words, out: &mut Vec<u8, A>) -> Result<()> {
     let bytes = words.bytes(alloc)?;
-    Ok(BlockLine::decode(alloc, &mut Cursor::new(&bytes))?)
+    let line = BlockLine::decode(alloc, &mut Cursor::new(&bytes))?;
+    Ok(line.encode(out)?)
 }
 
-/// Reads an instruction.
-fn read_instruction<W: Wire>(alloc: Global, words: &mut Words) -> Result<W> {
+/// Reads an instruction, and writes it.
+fn write_instruction<W: Wire, A: Allocator>(
+    alloc: Global,
+    words: &mut Words,
+    out: &mut Vec<u8, A>,
+) -> Result<()> {
     let bytes = words.bytes(alloc)?;
-    next_line(alloc, &mut Cursor::new(&bytes))?.context("the instruction is truncated")
+    let read: Option<W> = next_line(alloc, &mut Cursor::new(&bytes))?;
+    let instruction = read.context("the instruction is truncated")?;
+    Ok(instruction.encode(out)?)
 }
 
 /// Writes a line or an instruction that owns an index or a name, and a value.
