@@ -11,6 +11,10 @@ static uint8_t text[1 << 20];
 /* What is taken beside what grows: the ends themselves, and rooms that are made at once. */
 #define BASE ((size_t)1 << 16)
 
+/* The least that an entry takes, and its index at an encoder. */
+#define ENTRY ((size_t)100)
+#define INDEX ((size_t)40)
+
 /* ---- Tables of many entries */
 
 /* A section of the newest entries, so many, and that many bytes of names and values. */
@@ -26,12 +30,13 @@ static void decode_newest(h3_qpack_decoder *d, kind k, size_t required) {
   drop(&b);
 }
 
-/* The capacity is set to 0, for which all entries go, and then back and to 0 again and again. */
+/* The capacity is set to 0, for which all entries go and their memory with them, and then back and to 0 again and again. */
 static void empty_table(h3_qpack_decoder *d) {
   bytes b = {NULL, 0, 0};
   put_int(&b, 0x20, 5, 0);
   begin_case();
   receive(d, &b);
+  CHECK(live + size * ENTRY <= live_before);
   end_case("receive", "a capacity of 0, for each entry that goes", size, 0);
   for (size_t i = 0; i < size; i++) {
     put_int(&b, 0x20, 5, size * FIELD);
@@ -85,6 +90,9 @@ static void fill_tables(kind k) {
   begin_case();
   for (size_t i = size; i < size + calls; i++) CHECK(encode_heard(&e, &f[i], NULL) == i + 1);
   end_case("encode no entry", kinds[k], calls, 0);
+  begin_case();
+  CHECK(h3_qpack_encoder_set_capacity(&e, 0) == H3_QPACK_OK);
+  CHECK(live + size * (ENTRY + INDEX) <= live_before);
   h3_qpack_encoder_del(&e);
   receive_twice(k, &sent);
   drop(&sent);

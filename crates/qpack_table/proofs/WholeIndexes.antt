@@ -82,7 +82,8 @@ index_pushed dropped live f index is = record {
   fields = rows_pushed Whole dropped live f index.fields.rows.items is.fields;
   names = rows_pushed Name dropped live f index.names.rows.items is.names;
   hashes = hashes_pushed dropped live f index.hashes.items is.hashes;
-  matched = is.matched;
+  some = is.some;
+  few = is.few;
 }
 
 -- the line of a live entry that was read

@@ -56,6 +56,10 @@ pub record IsSplitOf (rows : List Row) (split : Split) : Type 0 where
 abbrev pub rows_behind : List Row → Split → List Row
 rows_behind rows split = slice_set rows (split_home rows) split.stays ++ split.goes ∷ []
 
+-- how many slots the row of a hash has
+abbrev pub slots_at : List Row → ℕ → Row → ℕ
+slots_at rows hash d = length ((slice_index_or rows (position_among (length rows) hash) d).slots.items)
+
 -- the row of a hash has room for one more
 pub record HasRoomFor (rows : List Row) (hash : ℕ) : Type 0 where
   pub some : 0 < length rows
@@ -77,12 +81,13 @@ pub record AreAllHashesOf (dropped : ℕ) (live : List Field) (entered : ℕ) (h
   pub hashed : (k : ℕ) (d : Hashes) → k < entered
       → AreHashesOf (slice_index_or hashes k d) (field_at dropped live (dropped + k + 1))
 
--- so many of the oldest live entries are in the index
+-- so many of the oldest live entries are in the index; there are no more rows of names than of fields
 pub record IsIndexOf (dropped : ℕ) (live : List Field) (entered : ℕ) (index : Index) : Type 0 where
   pub fields : AreRowsOf Whole dropped live entered index.fields.rows.items
   pub names : AreRowsOf Name dropped live entered index.names.rows.items
   pub hashes : AreAllHashesOf dropped live entered index.hashes.items
-  pub matched : length index.names.rows.items ≡ length index.fields.rows.items
+  pub some : 0 < length index.fields.rows.items → 0 < length index.names.rows.items
+  pub few : length index.names.rows.items ≤ length index.fields.rows.items
 
 -- how many rows there are where one more is made: at first 32
 abbrev pub one_row_more : ℕ → ℕ

@@ -106,6 +106,19 @@ pub(super) fn drop_oldest<I: EntryIndex>(
     freed
 }
 
+/// Gives the memory of an empty list and of its index back. One with entries stays as it is.
+pub(super) fn give_back_room<I: EntryIndex>(entries: &mut VecDeque<Entry>, index: &mut I)
+    ensures items { entries.new.items ≡ entries.old.items }
+    ensures index { (dropped : ℕ) → I.is_index_of index.old dropped entries.old.items
+        → I.is_index_of index.new dropped entries.new.items }
+{
+    if entries.is_empty() {
+        let alloc = *entries.allocator();
+        *entries = VecDeque::new(alloc);
+        *index = I::without_entries(alloc);
+    }
+}
+
 /// Drops the oldest entries, appends another after the newest, and updates the sum of their sizes. On error, which is
 /// for memory only, nothing changes. With free room for the entry the list does not grow. The key is that of the
 /// entry's field.

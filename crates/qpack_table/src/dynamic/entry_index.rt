@@ -10,7 +10,7 @@ ghost use Rattle.qpack_table.specs.declared.dynamic.entry.Entry.{Entry};
 use crate::dynamic::entry::Entry;
 use crate::dynamic::index::{Hashes, Index};
 use qpack_base::field::FieldLine;
-use std::alloc::AllocError;
+use std::alloc::{AllocError, Global};
 use std::collections::VecDeque;
 
 /// What is kept beside the entries of a [`DynamicTable`](crate::dynamic::DynamicTable), as a map is over its hasher:
@@ -31,6 +31,10 @@ pub trait EntryIndex: Drop {
     /// Returns the key of a field.
     fn key_of(field: &FieldLine<'_>) -> Self::Key
         ensures { is_key_of result (line_of field.now).field };
+
+    /// Returns what is kept beside no entries. It takes no memory.
+    fn without_entries(alloc: Global) -> Self
+        ensures { (dropped : ℕ) → is_index_of result dropped [] };
 
     /// Makes room for one more entry, with this key. On error the same entries are in.
     fn reserve(
@@ -74,6 +78,10 @@ impl EntryIndex for Index {
         Hashes::of(field)
     }
 
+    fn without_entries(alloc: Global) -> Index {
+        Index::new(alloc)
+    }
+
     #[inline(always)]
     fn reserve(
         &mut self,
@@ -109,6 +117,10 @@ impl EntryIndex for NoIndex {
     ghost has_room = { λ _ _. ⊤ };
 
     fn key_of(_field: &FieldLine<'_>) -> () {}
+
+    fn without_entries(_alloc: Global) -> NoIndex {
+        NoIndex
+    }
 
     fn reserve(
         &mut self,

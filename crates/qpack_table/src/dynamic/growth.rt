@@ -1,5 +1,6 @@
-//! How much room a table makes for entries, and its index for hashes and rows, where they have none. Each of the three
-//! grows by half, from a first size of its own. So no two of them grow for the same entry, except for the first.
+//! How much room a table makes for entries, and its index for hashes and rows of fields, where they have none. Each of
+//! the three grows by half, from a first size of its own. So no two of them grow for the same entry, except for the
+//! first.
 
 ghost use Rattle.std.specs.Prelude.{◌≡◌, ◌+◌, ◌/◌, ◌<◌, ◌≤◌, max, length, OnOk, OnErr, IsOk};
 ghost use Rattle.std.specs.VecDeque.{deque_capacity};
@@ -14,11 +15,11 @@ pub(super) const ENTRIES: usize = 18;
 /// For how many hashes of entries a growth makes room at least, and the first one does.
 pub(super) const HASHES: usize = 22;
 
-/// How many rows of either kind the index makes at first. There is room for as many rows of fields.
+/// How many rows of fields the index makes at first.
 pub(super) const ROWS: usize = 32;
 
-/// For how many rows of names there is room at first.
-pub(super) const ROWS_OF_NAMES: usize = 40;
+/// How many rows of names it makes at first.
+pub(super) const ROWS_OF_NAMES: usize = 16;
 
 /// Returns for how many more elements a vector makes room: for half as many as it has, or for the least if that is
 /// more.

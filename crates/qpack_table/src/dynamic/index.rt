@@ -29,7 +29,7 @@ use std::alloc::{AllocError, Global};
 use std::collections::VecDeque;
 
 /// The newest live entry of each different field, and of each different name. There are at least as many rows of
-/// either as entries.
+/// fields as entries, and about as many of names as there are names.
 #[derive(Debug, Drop)]
 pub struct Index {
     fields: Rows,
@@ -133,8 +133,8 @@ impl Index {
         self.names.newest(entries, dropped, &sought, steps)
     }
 
-    /// Makes room for one entry more, with such hashes. Where the rows would be fewer than the entries, it makes one more
-    /// of either kind, or the first 32. On error the same entries are in, and the rows are as many as before.
+    /// Makes room for one entry more, with such hashes. Where the rows of fields would be fewer than the entries, it
+    /// makes one more, or the first ones. On error the same entries are in, and the rows of fields are as many as before.
     #[inline(always)]
     pub(super) fn reserve(
         &mut self,
@@ -161,10 +161,11 @@ impl Index {
         self.grow(hashes)
     }
 
-    /// Makes room for one entry more in its rows and among the hashes. It fails only where there is none.
+    /// Makes room for one entry more in its rows and among the hashes. It fails only where there is none. It makes one row
+    /// of names more where that of this name is crowded.
     fn make_room(&mut self, hashes: Hashes) -> Result<(), AllocError>
-        requires fields { 0 < length self.old.fields.rows.items }
-        requires names { 0 < length self.old.names.rows.items }
+        requires some { 0 < length self.old.fields.rows.items }
+        requires index { (dropped : ℕ) × (live : List Field) × (entered : ℕ) × IsIndexOf dropped live entered self.old }
         ensures index { (dropped entered : ℕ) (live : List Field) → IsIndexOf dropped live entered self.old
             → IsIndexOf dropped live entered self.new }
         ensures rows { length self.new.fields.rows.items ≡ length self.old.fields.rows.items }
@@ -175,12 +176,13 @@ impl Index {
         ensures hashes { MakesRoomForHashes result self.old self.new }
     {
         make_room(&mut self.hashes, HASHES)?;
-        self.names.reserve(self.alloc, hashes.name)?;
+        self.names
+            .reserve_within(self.alloc, self.fields.count(), hashes.name)?;
         self.fields.reserve(self.alloc, hashes.field)
     }
 
-    /// Makes one row more of either kind, or the first ones, and room for one entry more. It hashes nothing again. What
-    /// can fail comes first.
+    /// Makes one row of fields more, and one of names where the row of this name is crowded, or the first ones; and
+    /// room for one entry more. It hashes nothing again. What can fail comes first.
     #[inline(never)]
     fn grow(&mut self, hashes: Hashes) -> Result<(), AllocError>
         requires index { (dropped : ℕ) × (live : List Field) × (entered : ℕ) × IsIndexOf dropped live entered self.old }
@@ -198,10 +200,10 @@ impl Index {
             return self.make_first_rows(hashes);
         }
         let fields = self.fields.split(self.alloc, hashes.field)?;
-        let names = self.names.split(self.alloc, hashes.name)?;
         make_room(&mut self.hashes, HASHES)?;
+        self.names
+            .reserve_within(self.alloc, self.fields.count(), hashes.name)?;
         self.fields.put_split(fields);
-        self.names.put_split(names);
         Ok(())
     }
 
@@ -212,15 +214,15 @@ impl Index {
             → IsIndexOf dropped live entered self.new }
         ensures rows { OnOk result (length self.new.fields.rows.items ≡ 32) }
         ensures made { OnOk result
-            ((vec_capacity self.new.fields.rows ≡ 32) × (vec_capacity self.new.names.rows ≡ 40)) }
+            ((vec_capacity self.new.fields.rows ≡ 32) × (vec_capacity self.new.names.rows ≡ 16)) }
         ensures err { OnErr result (length self.new.fields.rows.items ≡ 0) }
         ensures room { OnOk result (HasRoomForEntry hashes self.new) }
         ensures fields { HasFewSpare self.old.fields → HasFewSpare self.new.fields }
         ensures names { HasFewSpare self.old.names → HasFewSpare self.new.names }
         ensures hashes { MakesRoomForHashes result self.old self.new }
     {
-        let mut fields = Rows::with_count(self.alloc, ROWS, ROWS)?;
-        let mut names = Rows::with_count(self.alloc, ROWS, ROWS_OF_NAMES)?;
+        let mut fields = Rows::with_count(self.alloc, ROWS)?;
+        let mut names = Rows::with_count(self.alloc, ROWS_OF_NAMES)?;
         fields.reserve(self.alloc, hashes.field)?;
         names.reserve(self.alloc, hashes.name)?;
         make_room(&mut self.hashes, HASHES)?;

@@ -25,7 +25,7 @@ ghost use Rattle.qpack_table.specs.declared.dynamic.Error.TheVariants.{MaximumTa
 use crate::dynamic::Error;
 use crate::dynamic::block::make_room;
 use crate::dynamic::capacities::{Capacities, GREATEST_CAPACITY};
-use crate::dynamic::entry::{Entry, drop_oldest, replace_oldest};
+use crate::dynamic::entry::{Entry, drop_oldest, give_back_room, replace_oldest};
 use crate::dynamic::entry_index::{EntryIndex, NoIndex};
 use crate::dynamic::index::{Hashes, Index};
 use crate::dynamic::open_blocks::{BlockedBlocks, OpenBlocks};
@@ -446,14 +446,15 @@ impl<I: EntryIndex> DynamicTable<I> {
         Ok(())
     }
 
-    /// Sets the capacity in bytes, and evicts entries that no longer fit, the oldest first (RFC 9204, section 3.2.3).
-    /// Fails if the capacity is above the maximum or is 2^30 or more, and if it would evict an entry that is not
-    /// evictable. On error nothing changes.
+    /// Sets the capacity in bytes, and evicts entries that no longer fit, the oldest first (RFC 9204, section 3.2.3). A
+    /// table that is empty then gives the memory of its entries and of its index back. Fails if the capacity is above
+    /// the maximum or is 2^30 or more, and if it would evict an entry that is not evictable. On error nothing changes.
     pub fn set_max_size(&mut self, size: usize) -> Result<(), Error>
         ensures { Changes result (with_capacity self.old size) self.old self.new }
     {
         let evicted = self.evicted_for_capacity(size)?;
         let freed = drop_oldest(&mut self.entries, &mut self.index, &mut self.vas, evicted);
+        give_back_room(&mut self.entries, &mut self.index);
         self.mem_size -= freed;
         self.capacities.set(size);
         Ok(())

@@ -2,7 +2,7 @@
 //! searched by halving.
 
 ghost use Rattle.std.specs.Prelude.{◌≡◌, ◌≢◌, ◌==◌, ◌+◌, ◌-◌, ◌^◌, ◌<◌, ◌≤◌, [], ◌∷◌, ◌++◌, min, length, IfSome};
-ghost use Rattle.std.specs.Prelude.{IfNone, IfOk, OnOk, OnErr, not};
+ghost use Rattle.std.specs.Prelude.{IfNone, IfOk, OnOk, OnErr, not, nat_le};
 ghost use Rattle.std.specs.List.{All, filter};
 ghost use Rattle.std.specs.Cmp.Lexicographic.{slice_cmp};
 ghost use Rattle.std.specs.Ordering.{nat_cmp};
@@ -276,8 +276,16 @@ impl Row {
         ensures slots { self.new.slots.items ≡ self.old.slots.items }
         ensures ok { OnOk result (HasRoom self.new) }
         ensures full { OnErr result (self.old.slots.capacity ≤ length self.old.slots.items) }
+        ensures room { HasRoom self.old → HasRoom self.new }
     {
         self.slots.reserve(alloc)
+    }
+
+    /// Whether it has as many slots as fit in the row itself, or more.
+    pub(super) fn is_crowded(&self) -> bool
+        ensures { result ≡ nat_le 2 (length self.now.slots.items) }
+    {
+        self.slots.as_slice().len() >= 2
     }
 
     /// Splits its slots where there is one row more than so many: into those that stay, and those whose hashes belong

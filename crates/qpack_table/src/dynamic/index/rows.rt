@@ -3,14 +3,15 @@
 //! Rows grow one at a time, by linear hashing (Litwin): each new one takes slots of one other row, and the rest stay.
 
 ghost use Rattle.std.specs.Prelude.{◌≡◌, ◌+◌, ◌-◌, ◌^◌, ◌<◌, ◌≤◌, max, ℕ, List, [], IfOk, OnOk, OnErr, length};
-ghost use Rattle.std.specs.Prelude.{drop, vec_capacity};
+ghost use Rattle.std.specs.Prelude.{drop, nat_le, vec_capacity};
 ghost use Rattle.std.specs.List.{All};
 ghost use Rattle.qpack_spec.specs.Field.{Field};
 ghost use Rattle.qpack_table.specs.Growth.{grown};
 ghost use Rattle.qpack_table.specs.Rows.{part_at, field_of_sought, IsHashed, Counts};
 ghost use Rattle.qpack_table.specs.Tables.{live_fields};
-ghost use Rattle.qpack_table.specs.Indexes.{AreRowsOf, HasRoomFor, FindsNewest, IsSplitOf, rows_behind};
+ghost use Rattle.qpack_table.specs.Indexes.{AreRowsOf, HasRoomFor, FindsNewest, IsSplitOf, rows_behind, slots_at};
 ghost use Rattle.qpack_table.specs.declared.dynamic.index.row.Part.{Part};
+ghost use Rattle.qpack_table.specs.declared.dynamic.index.row.Row.{Row as RowOfSlots};
 
 use crate::dynamic::entry::Entry;
 use crate::dynamic::growth::growth;
@@ -36,13 +37,13 @@ impl Rows {
         }
     }
 
-    /// Makes that many empty rows, with room for at least `room` in all.
-    pub(super) fn with_count(alloc: Global, count: usize, room: usize) -> Result<Rows, AllocError>
+    /// Makes that many empty rows, with room for no more.
+    pub(super) fn with_count(alloc: Global, count: usize) -> Result<Rows, AllocError>
         ensures count { IfOk result (λ rows. length rows.rows.items ≡ count) }
-        ensures room { IfOk result (λ rows. vec_capacity rows.rows ≡ max count room) }
+        ensures room { IfOk result (λ rows. vec_capacity rows.rows ≡ count) }
         ensures empty { IfOk result (λ rows. All (λ row. row.slots.items ≡ []) rows.rows.items) }
     {
-        let mut rows = Vec::with_capacity(alloc, count.max(room))?;
+        let mut rows = Vec::with_capacity(alloc, count)?;
         for _ in 0..count {
             rows.push_reserved(Row::new());
         }
@@ -64,6 +65,7 @@ impl Rows {
         ensures vacant { OnOk result (length self.new.rows.items < vec_capacity self.new.rows) }
         ensures still { length self.old.rows.items < vec_capacity self.old.rows
             → vec_capacity self.new.rows ≡ vec_capacity self.old.rows }
+        ensures kept { (other : ℕ) → HasRoomFor self.old.rows.items other → HasRoomFor self.new.rows.items other }
         ensures capacity { vec_capacity self.new.rows
             ≤ max (vec_capacity self.old.rows) (grown 1 (length self.old.rows.items)) }
     {
@@ -72,6 +74,49 @@ impl Rows {
         let mut split = self.rows[split_among(count)].split(alloc, count)?;
         self.reserve_behind(alloc, &mut split, hash)?;
         Ok(split)
+    }
+
+    /// Makes room for one index more in the row of a hash. Where that row is crowded and there are fewer rows than `most`,
+    /// it makes one row more, unless memory is refused: so there are about as many rows as indexes. It fails only where
+    /// there is no room.
+    pub(super) fn reserve_within(
+        &mut self,
+        alloc: Global,
+        most: usize,
+        hash: u32,
+    ) -> Result<(), AllocError>
+        requires some { 0 < length self.old.rows.items }
+        requires rows { (part : Part) × (dropped : ℕ) × (live : List Field) × (entered : ℕ)
+            × AreRowsOf part dropped live entered self.old.rows.items }
+        ensures rows { (part : Part) (dropped entered : ℕ) (live : List Field)
+            → AreRowsOf part dropped live entered self.old.rows.items
+            → AreRowsOf part dropped live entered self.new.rows.items }
+        ensures few { length self.new.rows.items ≤ max (length self.old.rows.items) most }
+        ensures many { length self.old.rows.items ≤ length self.new.rows.items }
+        ensures one { length self.new.rows.items ≤ length self.old.rows.items + 1 }
+        ensures still { (d : RowOfSlots) → slots_at self.old.rows.items hash d < 2
+            → length self.new.rows.items ≡ length self.old.rows.items }
+        ensures room { OnOk result (HasRoomFor self.new.rows.items hash) }
+        ensures full { OnErr result (HasRoomFor self.old.rows.items hash → ⊥) }
+        ensures capacity { vec_capacity self.new.rows
+            ≤ max (vec_capacity self.old.rows) (grown 1 (length self.old.rows.items)) }
+    {
+        if self.rows.len() < most && self.is_crowded(hash) {
+            if let Ok(split) = self.split(alloc, hash) {
+                self.put_split(split);
+                return Ok(());
+            }
+        }
+        self.reserve(alloc, hash)
+    }
+
+    /// Whether the row of a hash is crowded.
+    fn is_crowded(&self, hash: u32) -> bool
+        requires { 0 < length self.now.rows.items }
+        ensures { (d : RowOfSlots) → result ≡ nat_le 2 (slots_at self.now.rows.items hash d) }
+    {
+        let home = position_of(hash, self.rows.len());
+        self.rows[home].is_crowded()
     }
 
     /// Makes room for one row more. Where there is none, it makes room for half as many as there are, or for one.
@@ -107,6 +152,7 @@ impl Rows {
         ensures count { length self.new.rows.items ≡ length self.old.rows.items }
         ensures split { IsSplitOf self.new.rows.items split.new }
         ensures room { OnOk result (HasRoomFor (rows_behind self.new.rows.items split.new) hash) }
+        ensures kept { (other : ℕ) → HasRoomFor self.old.rows.items other → HasRoomFor self.new.rows.items other }
         ensures capacity { vec_capacity self.new.rows ≡ vec_capacity self.old.rows }
     {
         let count = self.rows.len();

@@ -77,6 +77,7 @@ impl Slots {
         ensures slots { self.new.items ≡ self.old.items }
         ensures ok { OnOk result (HasRoomIn self.new) }
         ensures full { OnErr result (self.old.capacity ≤ length self.old.items) }
+        ensures room { HasRoomIn self.old → HasRoomIn self.new }
     {
         match &self.kept {
             Kept::Here([_, second]) if second.is_none() => Ok(()),

@@ -43,5 +43,10 @@ returns-clause-index c =
           c.push_back_reserved.new.self.items) count
           (hashes_entered _ _ _ c.args.index _ _ c.args.hashes c.requires.index.hashes next c.requires.hashes
           c.push_back_reserved.ensures.items);
-      matched = c.enter-2.ensures.count ∙ c.requires.index.matched ∙ sym c.enter.ensures.count;
+      some = λ some. omega (
+        arith,
+        c.enter-2.ensures.count,
+        c.requires.index.some (omega (arith, some, c.enter.ensures.count)),
+      );
+      few = omega (arith, c.enter-2.ensures.count, c.requires.index.few, c.enter.ensures.count);
     }

@@ -31,13 +31,13 @@ invariant_of-self g c =
     ∙ ap (λ (t : Table). eviction_count c.args.size (fields_in t.live)) (sym c.self.view_is) in
     rw (ap (λ (a : Agreement). a.capacity) c.set.ensures)
     (kept_resized c.self.inside.vas c.drop_oldest-freed.new.vas c.self.inside.entries.items
-    c.drop_oldest-freed.new.entries.items _ _ _ c.args.size _ _ c.in_ok-evicted.evicted
+    c.give_back_room.new.entries.items _ _ _ c.args.size _ _ c.in_ok-evicted.evicted
     c.drop_oldest-freed.result
     c.self.invariant
-    evicted (omega (arith, c.in_ok-evicted.ensures.small)) c.drop_oldest-freed.ensures.left
+    evicted (omega (arith, c.in_ok-evicted.ensures.small)) (c.give_back_room.ensures.items ∙ c.drop_oldest-freed.ensures.left)
     c.drop_oldest-freed.ensures.freed refl
     (ap (λ (p : Positions). p.dropped) c.drop_oldest-freed.ensures.dropped)
-    (ap (λ (p : Positions). p.total) c.drop_oldest-freed.ensures.dropped) c.drop_oldest-freed.ensures.index)
+    (ap (λ (p : Positions). p.total) c.drop_oldest-freed.ensures.dropped) (c.give_back_room.ensures.index _ c.drop_oldest-freed.ensures.index))
 
 pub returns : goal.returns
 returns g c =
@@ -46,7 +46,7 @@ returns g c =
     c.in_ok-evicted.ensures.least
     ∙ ap (λ (t : Table). eviction_count c.args.size (fields_in t.live)) (sym c.self.view_is) in
     rw (← c.self.view_is, c.set.ensures) (resized_to _ c.args.size c.drop_oldest-freed.new.vas.dropped
-    (entries_of c.drop_oldest-freed.new.entries.items)
+    (entries_of c.give_back_room.new.entries.items)
     (omega (
       arith,
       c.in_ok-evicted.ensures.within,
@@ -57,5 +57,5 @@ returns g c =
     ∙ ap (λ (n : ℕ). can_evict c.args.self.now n) (sym c.in_ok-evicted.ensures.least)
     ∙ c.in_ok-evicted.ensures.evictable)
     (omega (arith, evicted, ap (λ (p : Positions). p.dropped) c.drop_oldest-freed.ensures.dropped))
-    (live_less c.self.inside.entries.items c.drop_oldest-freed.new.entries.items c.in_ok-evicted.evicted
-    c.drop_oldest-freed.ensures.left ∙ ap (λ (n : ℕ). drop n (entries_of c.self.inside.entries.items)) evicted))
+    (live_less c.self.inside.entries.items c.give_back_room.new.entries.items c.in_ok-evicted.evicted
+    (c.give_back_room.ensures.items ∙ c.drop_oldest-freed.ensures.left) ∙ ap (λ (n : ℕ). drop n (entries_of c.self.inside.entries.items)) evicted))

@@ -1,4 +1,5 @@
-use Rattle.std.proofs.Common.{◌≡◌, List, length, get_or, ap, ◌∙◌, rules}
+use Rattle.std.proofs.Common.{◌≡◌, List, length, get_or, ap, sym, subst, ◌∙◌, rules}
+use Rattle.qpack_table.specs.Indexes.{HasRoomFor}
 use Rattle.qpack_table.specs.declared.dynamic.index.row.Row.{Row}
 use Rattle.qpack_table.proofs.HashedRows.{home_within}
 use Rattle.qpack_table.proofs.SplitRows.{slots_some, parts_made}
@@ -17,3 +18,13 @@ reserve_behind-requires-clause-split c =
     let len : c.len-count.result ≡ length c.reserve_row.new.self.rows.items = search rules in
     parts_made _ _ _ _ _ len c.split_among.ensures.position c.split_among.ensures.within c.index.ensures
     c.in_ok-split.ensures.stays c.in_ok-split.ensures.goes
+
+pub returns-in_err-reserve_behind-clause-kept : goal.returns-in_err-reserve_behind-clause-kept
+returns-in_err-reserve_behind-clause-kept c = λ other has.
+    c.reserve_behind.ensures.kept other
+    (subst (λ (rs : List Row). HasRoomFor rs other) (sym c.reserve_row.ensures.rows) has)
+
+pub returns-clause-kept : goal.returns-clause-kept
+returns-clause-kept c = λ other has.
+    c.reserve_behind.ensures.kept other
+    (subst (λ (rs : List Row). HasRoomFor rs other) (sym c.reserve_row.ensures.rows) has)
