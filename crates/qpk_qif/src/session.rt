@@ -10,8 +10,7 @@
 //! records in this order, and that it is decoded to these lists, no contract says: it is only tested.
 
 use crate::lists::{ListFault, push_list, read_lists};
-use crate::recording::split_record;
-use crate::session::receiver::Receiver;
+use crate::session::receiver::{Received, Receiver};
 use crate::session::sender::Sender;
 use qpack_base::coding::NoMemory;
 use qpack_codec::{DecoderError, EncoderError};
@@ -127,11 +126,7 @@ pub fn encode_lists(
     let lists = read_lists(alloc, text)?;
     let mut recording = Vec::new(alloc);
     let mut sender = Sender::new(alloc, settings, &mut recording)?;
-    let mut stream = 0u64;
-    for list in &lists {
-        stream += 1;
-        sender.send(alloc, stream, list, &mut recording)?;
-    }
+    sender.send_all(alloc, &lists, &mut recording)?;
     Ok(recording)
 }
 
@@ -143,18 +138,14 @@ pub fn decode_records(
     recording: &[u8],
 ) -> Result<Vec<u8>, Fault> {
     let mut receiver = Receiver::new(alloc, settings)?;
-    let mut rest = recording;
-    let mut number = 0usize;
-    while !rest.is_empty() {
-        number += 1;
-        let Some((record, after)) = split_record(rest) else {
-            return Err(Fault::Cut(number));
-        };
-        receiver.receive(alloc, number, &record)?;
-        rest = after;
-    }
+    receiver.receive_all(alloc, recording)?;
+    write_lists(alloc, receiver.finish()?)
+}
+
+/// Writes lists in QIF.
+fn write_lists(alloc: Global, lists: &[Received]) -> Result<Vec<u8>, Fault> {
     let mut text = Vec::new(alloc);
-    for list in &receiver.finish()? {
+    for list in lists {
         push_list(&mut text, &list.fields)?;
     }
     Ok(text)

@@ -1,6 +1,6 @@
 //! The decoding end.
 
-use crate::recording::Record;
+use crate::recording::{Record, split_record};
 use crate::session::{DecoderSettings, Fault};
 use qpack_base::coding::Cursor;
 use qpack_base::field::HeaderField;
@@ -62,13 +62,23 @@ impl Receiver {
         })
     }
 
+    /// Receives the records of a recording.
+    pub(super) fn receive_all(&mut self, alloc: Global, recording: &[u8]) -> Result<(), Fault> {
+        let mut rest = recording;
+        let mut number = 0usize;
+        while !rest.is_empty() {
+            number += 1;
+            let Some((record, after)) = split_record(rest) else {
+                return Err(Fault::Cut(number));
+            };
+            self.receive(alloc, number, &record)?;
+            rest = after;
+        }
+        Ok(())
+    }
+
     /// Receives the record of this number.
-    pub(super) fn receive(
-        &mut self,
-        alloc: Global,
-        number: usize,
-        record: &Record,
-    ) -> Result<(), Fault> {
+    fn receive(&mut self, alloc: Global, number: usize, record: &Record) -> Result<(), Fault> {
         match record.stream {
             0 => self.receive_instructions(alloc, number, record.bytes),
             stream => self.receive_block(alloc, number, stream, record.bytes),
@@ -153,22 +163,15 @@ impl Receiver {
     }
 
     /// Returns all lists in the order of their streams; or what is still missing.
-    pub(super) fn finish(self) -> Result<Vec<Received>, Fault> {
-        let Receiver {
-            pending,
-            number,
-            waiting,
-            mut lists,
-            ..
-        } = self;
-        if let Some(block) = waiting.first() {
+    pub(super) fn finish(&mut self) -> Result<&[Received], Fault> {
+        if let Some(block) = self.waiting.first() {
             return Err(Fault::BlockedToTheEnd(block.number));
         }
-        if !pending.is_empty() {
-            return Err(Fault::EndsWithin(number));
+        if !self.pending.is_empty() {
+            return Err(Fault::EndsWithin(self.number));
         }
-        sort(&mut lists)?;
-        Ok(lists)
+        sort(&mut self.lists)?;
+        Ok(&self.lists)
     }
 }
 

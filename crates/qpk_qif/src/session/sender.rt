@@ -31,19 +31,20 @@ impl Sender {
             encoder: Encoder::from(table),
             acknowledged: settings.acknowledged,
         };
-        if settings.capacity > 0 {
-            sender.send_capacity(alloc, settings.capacity, recording)?;
-        }
+        sender.send_capacity(alloc, settings.capacity, recording)?;
         Ok(sender)
     }
 
-    /// Sends a capacity.
+    /// Sends a capacity, if it is above 0.
     fn send_capacity(
         &mut self,
         alloc: Global,
         capacity: usize,
         recording: &mut Vec<u8>,
     ) -> Result<(), Fault> {
+        if capacity == 0 {
+            return Ok(());
+        }
         let mut instructions = Vec::new(alloc);
         match self.encoder.set_capacity(capacity, &mut instructions) {
             Ok(()) => record(recording, 0, 1, &instructions),
@@ -52,8 +53,23 @@ impl Sender {
         }
     }
 
+    /// Sends lists, on streams from 1 on.
+    pub(super) fn send_all(
+        &mut self,
+        alloc: Global,
+        lists: &[Vec<HeaderField>],
+        recording: &mut Vec<u8>,
+    ) -> Result<(), Fault> {
+        let mut stream = 0u64;
+        for list in lists {
+            stream += 1;
+            self.send(alloc, stream, list, recording)?;
+        }
+        Ok(())
+    }
+
     /// Sends a list, which has the number of its stream.
-    pub(super) fn send(
+    fn send(
         &mut self,
         alloc: Global,
         stream: u64,

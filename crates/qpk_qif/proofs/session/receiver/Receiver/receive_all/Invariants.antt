@@ -1,5 +1,5 @@
 use Rattle.std.proofs.Common.{◌+◌, ◌≤◌, length}
-use Rattle.qpk_qif.proofs.session.decode_records.Given as goal
+use Rattle.qpk_qif.proofs.session.receiver.Receiver.receive_all.Given as goal
 
 abbrev pub invariant-loop-rest : goal.invariant-loop-rest
 invariant-loop-rest l = l.number + length l.rest ≤ length l.recording
