@@ -38,10 +38,10 @@ impl<I: Kind> Subject for H3Decoder<I> {
         answer: &mut String,
     ) -> Result<()> {
         match word {
-            "decodes" => self.decode(&words.bytes(alloc)?, answer),
-            "receives" => self.receive(&words.bytes(alloc)?, 0, answer),
-            "receives-without-memory" => self.receive_once(&words.bytes(alloc)?, answer),
-            "receives-in-two" => self.receive_in_two(&words.bytes(alloc)?, answer),
+            "decodes" => self.decode(alloc, words, answer),
+            "receives" => self.receive(alloc, words, answer),
+            "receives-without-memory" => self.receive_once(alloc, words, answer),
+            "receives-in-two" => self.receive_in_two(alloc, words, answer),
             "acknowledges" | "cancels" => self.reply(word, words.number()?, answer),
             "writes" => self.push_written(answer),
             "reports" => self.push_reported(answer),
@@ -57,8 +57,9 @@ impl<I: Kind> Subject for H3Decoder<I> {
 
 impl<I: EntryIndex> H3Decoder<I> {
     /// Decodes a section, a second time in case memory was refused.
-    fn decode(&self, section: &[u8], answer: &mut String) -> Result<()> {
-        let decoded = again(|| self.decoder.decode_header(&mut Cursor::new(section)));
+    fn decode(&self, alloc: Global, words: &mut Words<'_>, answer: &mut String) -> Result<()> {
+        let section = words.bytes(alloc)?;
+        let decoded = again(|| self.decoder.decode_header(&mut Cursor::new(&section)));
         push_decoded(answer, &decoded)
     }
 
@@ -76,27 +77,44 @@ impl<I: EntryIndex> H3Decoder<I> {
         Ok(self.decoder.on_encoder_recv(cursor, &mut self.written))
     }
 
+    /// Receives bytes of the encoder stream.
+    fn receive(&mut self, alloc: Global, words: &mut Words<'_>, answer: &mut String) -> Result<()> {
+        self.receive_after(0, &words.bytes(alloc)?, answer)
+    }
+
     /// Receives bytes of the encoder stream. Appends how many insertions there were, and how many bytes were taken, with
     /// those before.
-    fn receive(&mut self, bytes: &[u8], before: usize, answer: &mut String) -> Result<()> {
+    fn receive_after(&mut self, before: usize, bytes: &[u8], answer: &mut String) -> Result<()> {
         let mut cursor = Cursor::new(bytes);
         let received = self.take(&mut cursor)?;
         push_taken(answer, &received, before.saturating_add(cursor.position()))
     }
 
     /// Receives bytes of the encoder stream that take no memory.
-    fn receive_once(&mut self, bytes: &[u8], answer: &mut String) -> Result<()> {
-        let mut cursor = Cursor::new(bytes);
+    fn receive_once(
+        &mut self,
+        alloc: Global,
+        words: &mut Words<'_>,
+        answer: &mut String,
+    ) -> Result<()> {
+        let bytes = words.bytes(alloc)?;
+        let mut cursor = Cursor::new(&bytes);
         let received = self.decoder.on_encoder_recv(&mut cursor, &mut self.written);
         push_taken(answer, &received, cursor.position())
     }
 
     /// Receives bytes of the encoder stream in two pieces. The second begins with the bytes that the first left.
-    fn receive_in_two(&mut self, bytes: &[u8], answer: &mut String) -> Result<()> {
-        let mut first = Cursor::new(bytes.get(..self.cut).unwrap_or(bytes));
+    fn receive_in_two(
+        &mut self,
+        alloc: Global,
+        words: &mut Words<'_>,
+        answer: &mut String,
+    ) -> Result<()> {
+        let bytes = words.bytes(alloc)?;
+        let mut first = Cursor::new(bytes.get(..self.cut).unwrap_or(&bytes));
         self.take(&mut first)??;
         let rest = bytes.get(first.position()..).unwrap_or(b"");
-        self.receive(rest, first.position(), answer)
+        self.receive_after(first.position(), rest, answer)
     }
 
     /// Acknowledges a section of a stream, or cancels the stream, a second time in case memory was refused.

@@ -1,14 +1,15 @@
 //! A connection: two ends as the peers of a connection have them, and what is between them.
 
+use crate::answers::{push_numbered, push_refused, push_word};
 use crate::lawful::{Ends, Rest};
-use crate::session::push_refused;
-use anyhow::{Result, bail, ensure};
+use anyhow::{Context, Result, ensure};
 use qpack_connection::decoder::{DecoderSettings, DecodingError};
 use qpack_connection::encoder::EncodingError;
 use qpack_connection::{
     ConnectionSettings, Event, FieldSection, Outcome, OwnedFieldLine, Reading, Skip, Wish,
     connection,
 };
+use qpack_testing::again;
 use qpack_testing::cases::{Subject, Words, push_field, read_fields};
 use std::alloc::Global;
 use std::fmt::Write;
@@ -53,7 +54,7 @@ impl Subject for Connection {
         if word == "acks" {
             // A connection acknowledges by itself.
             words.number()?;
-            return Ok(answer.push_str("skipped 4")?);
+            return push_word(answer, "skipped 4");
         }
         let outcome = self.step(alloc, word, words)?;
         push_outcome(answer, &outcome)
@@ -97,48 +98,47 @@ impl Ends for Connection {
     }
 }
 
-/// Reads the event of a call, a second time in case memory was refused.
-pub(crate) fn event_of(alloc: Global, word: &str, words: &mut Words<'_>) -> Result<Event> {
-    let call = *words;
-    if let Ok(event) = read_event(alloc, word, words) {
-        return Ok(event);
-    }
-    *words = call;
-    read_event(alloc, word, words)
-}
-
 /// Reads the event that is given after one that was refused memory: the same, or a delivery of no bytes more.
 fn event_again(alloc: Global, word: &str, call: Words<'_>) -> Result<Event> {
     let mut words = call;
     match word {
         "to-decoder" => Ok(Event::ToDecoder(0)),
-        _ => read_event(alloc, word, &mut words),
+        _ => event_of(alloc, word, &mut words),
     }
 }
 
 /// Reads the event of a call.
-fn read_event(alloc: Global, word: &str, words: &mut Words<'_>) -> Result<Event> {
-    Ok(match word {
-        "encodes" => {
-            let stream = words.number()?;
-            let fields = owned_fields(alloc, words.rest)?;
-            words.rest = "";
-            Event::Encode(stream, fields)
-        }
-        "decodes" => Event::Decode(words.number()?),
-        "to-decoder" => Event::ToDecoder(words.amount()?),
-        "to-encoder" => Event::ToEncoder(words.amount()?),
-        "cancels" => Event::Cancel(words.number()?),
-        "sets" => Event::SetCapacity(words.count()?),
-        _ => bail!("a connection has no call {word}"),
+pub(crate) fn event_of(alloc: Global, word: &str, words: &mut Words<'_>) -> Result<Event> {
+    if word == "encodes" {
+        return Ok(Event::Encode(words.number()?, owned_fields(alloc, words)?));
+    }
+    numbered_event(word, words.amount()?).context("a connection has no such call")
+}
+
+/// Returns the event of a number that a word names.
+fn numbered_event(word: &str, number: usize) -> Option<Event> {
+    Some(match word {
+        "decodes" => Event::Decode(number as u64),
+        "to-decoder" => Event::ToDecoder(number),
+        "to-encoder" => Event::ToEncoder(number),
+        "cancels" => Event::Cancel(number as u64),
+        "sets" => Event::SetCapacity(number),
+        _ => return None,
     })
 }
 
 /// What the marks of cases ask.
 const WISHES: [Wish; 4] = [Wish::Unmarked, Wish::Never, Wish::Reuse, Wish::Insert];
 
+/// Reads the fields of the words that are left, each with its wish, a second time in case memory was refused.
+fn owned_fields(alloc: Global, words: &mut Words<'_>) -> Result<Vec<OwnedFieldLine>> {
+    let text = words.rest;
+    words.rest = "";
+    again(|| copy_fields(alloc, text))
+}
+
 /// Reads fields, each with its wish.
-fn owned_fields(alloc: Global, text: &str) -> Result<Vec<OwnedFieldLine>> {
+fn copy_fields(alloc: Global, text: &str) -> Result<Vec<OwnedFieldLine>> {
     let mut owned = Vec::new(alloc);
     for field in &read_fields(alloc, text)? {
         let mut line = OwnedFieldLine::copy(alloc, field.as_line())?;
@@ -165,23 +165,22 @@ fn wants_memory(outcome: &Outcome) -> bool {
 /// is above 0, and its fields.
 pub(crate) fn push_outcome(answer: &mut String, outcome: &Outcome) -> Result<()> {
     match outcome {
-        Outcome::Encoded(Ok(required)) => write!(answer, "encoded {required}")?,
-        Outcome::Delivered(Ok(received)) => write!(answer, "received {received}")?,
-        Outcome::Heard(Ok(())) => answer.push_str("heard")?,
-        Outcome::Cancelled(Ok(())) => answer.push_str("cancelled")?,
-        Outcome::CapacitySet(Ok(())) => answer.push_str("capacity")?,
-        Outcome::Skipped(Skip::NothingToDecode) => answer.push_str("skipped 2")?,
-        Outcome::Skipped(Skip::StreamCancelled) => answer.push_str("skipped 3")?,
-        Outcome::Decoded(Ok(reading), fields) => push_reading(answer, *reading, fields)?,
+        Outcome::Encoded(Ok(required)) => push_numbered(answer, "encoded", *required),
+        Outcome::Delivered(Ok(received)) => push_numbered(answer, "received", *received),
+        Outcome::Heard(Ok(())) => push_word(answer, "heard"),
+        Outcome::Cancelled(Ok(())) => push_word(answer, "cancelled"),
+        Outcome::CapacitySet(Ok(())) => push_word(answer, "capacity"),
+        Outcome::Skipped(Skip::NothingToDecode) => push_word(answer, "skipped 2"),
+        Outcome::Skipped(Skip::StreamCancelled) => push_word(answer, "skipped 3"),
+        Outcome::Decoded(Ok(reading), fields) => push_reading(answer, *reading, fields),
         Outcome::Decoded(Err(error), _)
         | Outcome::Delivered(Err(error))
-        | Outcome::Cancelled(Err(error)) => push_refused(answer, error)?,
+        | Outcome::Cancelled(Err(error)) => push_refused(answer, error),
         Outcome::Encoded(Err(error))
         | Outcome::CapacitySet(Err(error))
-        | Outcome::Heard(Err(error)) => push_refused(answer, error)?,
-        Outcome::NoRoom => answer.push_str("refused Memory")?,
+        | Outcome::Heard(Err(error)) => push_refused(answer, error),
+        Outcome::NoRoom => push_word(answer, "refused Memory"),
     }
-    Ok(())
 }
 
 /// Appends what a section was read as. One that waits has no fields.

@@ -2,9 +2,8 @@
 //! were passed to its encode, in order, or waits for insertions, and no stream is refused (RFC 9204, section 2).
 
 use anyhow::{Context, Result, ensure};
-use qpack_testing::cases::{Subject, Words, push_field, read_fields};
+use qpack_testing::cases::{Subject, Words, push_count, push_field, read_fields};
 use std::alloc::Global;
-use std::fmt::Write;
 
 /// Two ends, and what is between them.
 pub(crate) trait Ends: Subject {
@@ -113,16 +112,12 @@ impl<S: Ends> Subject for Lawful<S> {
             "encodes" => self.encode(alloc, words, answer),
             "decodes" => self.decode(alloc, words, answer),
             "cancels" => self.cancel(alloc, words, answer),
+            "exchanges" => self.exchange(alloc, words, answer),
             "decoded" => {
                 let at = self.place_of(alloc, words.number()?)?;
-                let stream = self.streams.get(at).context("no stream")?;
-                Ok(write!(answer, "{}", stream.decoded)?)
+                push_count(answer, self.streams.get(at).context("no stream")?.decoded)
             }
-            _ => {
-                self.ends.call(alloc, word, words, answer)?;
-                ensure!(may_answer(word, answer), "{word} -> {answer}");
-                Ok(())
-            }
+            _ => self.call_ends(alloc, word, words, answer),
         }
     }
 
@@ -202,6 +197,44 @@ impl<S: Ends> Lawful<S> {
         let stream = self.streams.get_mut(at).context("no stream")?;
         stream.handed.reserve(1)?;
         Ok(at)
+    }
+
+    /// Makes a call that is no encode, decode or cancellation.
+    fn call_ends(
+        &mut self,
+        alloc: Global,
+        word: &str,
+        words: &mut Words<'_>,
+        answer: &mut String,
+    ) -> Result<()> {
+        self.ends.call(alloc, word, words, answer)?;
+        ensure!(may_answer(word, answer), "{word} -> {answer}");
+        Ok(())
+    }
+
+    /// Encodes a section on a stream, decodes it there, and acknowledges it, with all bytes delivered in time.
+    fn exchange(
+        &mut self,
+        alloc: Global,
+        words: &mut Words<'_>,
+        answer: &mut String,
+    ) -> Result<()> {
+        let stream = words.rest.split_once(' ').unwrap_or((words.rest, "")).0;
+        self.encode(alloc, words, answer)?;
+        answer.clear();
+        self.call_ends(alloc, "to-decoder", &mut Words { rest: "all" }, answer)?;
+        answer.clear();
+        self.decode(alloc, &mut Words { rest: stream }, answer)?;
+        ensure!(answer.starts_with("decoded "), "exchanges -> {answer}");
+        answer.clear();
+        self.call_ends(alloc, "acks", &mut Words { rest: stream }, answer)?;
+        answer.clear();
+        self.call_ends(alloc, "to-encoder", &mut Words { rest: "all" }, answer)?;
+        ensure!(
+            self.ends.rest()?.unacknowledged == 0,
+            "the section is not acknowledged"
+        );
+        Ok(())
     }
 
     /// Encodes a section, and notes its fields.

@@ -1,9 +1,9 @@
 //! Cases of sessions and connections: both ends and what is between them, in the format of `qpack_testing::cases`.
 #![tactic(auto)]
 
+mod answers;
 mod connection;
 mod lawful;
-mod round;
 mod runs;
 mod scripts;
 mod session;
@@ -20,7 +20,7 @@ use std::alloc::Global;
 /// The files of cases.
 const FILES: [&str; 6] = [
     "sessions.txt",
-    "many_streams.txt",
+    "thousands.txt",
     "two_ends.txt",
     "refused.txt",
     "runs.txt",

@@ -1,5 +1,6 @@
 //! Lists of events that are given at once, and what begins a session.
 
+use crate::answers::push_refused;
 use crate::{connection, session};
 use anyhow::{Result, bail};
 use h3_qpack::dynamic::DynamicTable;
@@ -68,11 +69,6 @@ impl Runs {
                 let events = self.connection_events(alloc)?;
                 push_connection_run(alloc, words, events, answer)
             }
-            "equal-events" => push_equals(answer, &self.session_events(alloc)?),
-            "equal-outcomes" => {
-                let events = self.session_events(alloc)?;
-                push_equal_outcomes(alloc, words, &events, answer)
-            }
             _ => bail!("runs have no call {word}"),
         }
     }
@@ -109,7 +105,7 @@ fn push_begun(alloc: Global, words: &mut Words<'_>, answer: &mut String) -> Resu
     let (capacity, maximum, limit) = (words.count()?, words.count()?, words.count()?);
     match Session::with_maximum(alloc, capacity, maximum, limit) {
         Ok(session) => push_capacities(answer, &session),
-        Err(error) => session::push_refused(answer, &error),
+        Err(error) => push_refused(answer, &error),
     }
 }
 
@@ -135,7 +131,7 @@ fn push_session_run(
     let (capacity, limit) = (words.count()?, words.count()?);
     match run(alloc, capacity, limit, events) {
         Ok((session, outcomes)) => push_outcomes(answer, &session, &outcomes),
-        Err(error) => session::push_refused(answer, &error),
+        Err(error) => push_refused(answer, &error),
     }
 }
 
@@ -158,7 +154,7 @@ fn push_connection_run(
     let settings = connection::read_settings(words)?;
     match ends::run(alloc, settings, events) {
         Ok((connection, outcomes)) => push_connection(answer, &connection, &outcomes),
-        Err(error) => session::push_refused(answer, &error),
+        Err(error) => push_refused(answer, &error),
     }
 }
 
@@ -173,24 +169,4 @@ fn push_connection(
         answer.push_str("; ")?;
     }
     push_capacity(answer, connection.encoder().table())
-}
-
-/// Appends, for each of the outcomes of a session's run, how many of them equal it.
-fn push_equal_outcomes(
-    alloc: Global,
-    words: &mut Words<'_>,
-    events: &[Event],
-    answer: &mut String,
-) -> Result<()> {
-    let (_, outcomes) = run(alloc, words.count()?, words.count()?, events)?;
-    push_equals(answer, &outcomes)
-}
-
-/// Appends, for each of the items, how many of them equal it.
-fn push_equals<T: PartialEq>(answer: &mut String, items: &[T]) -> Result<()> {
-    for item in items {
-        let equal = items.iter().filter(|other| *other == item).count();
-        write!(answer, "{equal}")?;
-    }
-    Ok(())
 }

@@ -1,13 +1,13 @@
 //! Scripts of calls by chance. Two ends return lawful results for each call, and at the end no section is left on its
 //! way.
 
+use crate::answers::{push_numbered, push_word};
 use crate::connection::Connection;
 use crate::lawful::{Counts, Ends, Lawful, Rest};
-use crate::round::go_round;
 use crate::session::Session;
 use anyhow::{Context, Result, bail, ensure};
 use qpack_testing::Numbers;
-use qpack_testing::cases::{Subject, Words, make_call};
+use qpack_testing::cases::{Subject, Words, make_call, push_count};
 use std::alloc::Global;
 use std::fmt::Write;
 
@@ -89,18 +89,14 @@ impl Subject for Scripts {
                 for _ in 0..words.count()? {
                     self.play(alloc)?;
                 }
-                Ok(answer.push_str("done")?)
-            }
-            "go-round" => {
-                go_round(alloc, self.settings.as_str(), words.count()?)?;
-                Ok(answer.push_str("done")?)
+                push_word(answer, "done")
             }
             "at-least" => {
                 let least = [words.count()?, words.count()?, words.count()?];
                 Ok(write!(answer, "{}", self.are_at_least(least))?)
             }
-            "dynamic" => Ok(write!(answer, "{}", self.counts.dynamic)?),
-            "blocked" => Ok(write!(answer, "{}", self.counts.blocked)?),
+            "dynamic" => push_count(answer, self.counts.dynamic),
+            "blocked" => push_count(answer, self.counts.blocked),
             _ => bail!("scripts have no call {word}"),
         }
     }
@@ -191,21 +187,20 @@ fn push_call(call: &mut String, bounds: Bounds, numbers: &mut Numbers) -> Result
     let stream = numbers.below(STREAMS as usize);
     match numbers.below(20) {
         0..=4 => {
-            write!(call, "encodes {stream}")?;
-            push_fields(call, bounds.fields, numbers)?;
+            push_numbered(call, "encodes", stream)?;
+            push_fields(call, bounds.fields, numbers)
         }
-        5..=8 => write!(call, "decodes {stream}")?,
-        9..=11 => write!(call, "to-decoder {}", numbers.below(60))?,
-        12 | 13 => write!(call, "to-encoder {}", numbers.below(6))?,
-        14 => write!(call, "sets {}", numbers.below(bounds.capacity))?,
-        15..=17 => write!(call, "acks {stream}")?,
-        18 => call.push_str("to-decoder all")?,
+        5..=8 => push_numbered(call, "decodes", stream),
+        9..=11 => push_numbered(call, "to-decoder", numbers.below(60)),
+        12 | 13 => push_numbered(call, "to-encoder", numbers.below(6)),
+        14 => push_numbered(call, "sets", numbers.below(bounds.capacity)),
+        15..=17 => push_numbered(call, "acks", stream),
+        18 => push_word(call, "to-decoder all"),
         _ => match numbers.below(3) {
-            0 => write!(call, "cancels {stream}")?,
-            _ => write!(call, "to-decoder {}", numbers.below(20))?,
+            0 => push_numbered(call, "cancels", stream),
+            _ => push_numbered(call, "to-decoder", numbers.below(20)),
         },
     }
-    Ok(())
 }
 
 /// Appends up to three of the first fields.

@@ -1,15 +1,16 @@
 //! A session: two ends in the names of h3, and what is between them.
 
+use crate::answers::{push_numbered, push_refused, push_word};
 use crate::lawful::{Ends, Rest};
-use anyhow::{Result, bail, ensure};
+use anyhow::{Context, Result, ensure};
 use h3_qpack::Decoded;
 use h3_qpack::coding::Cursor;
 use h3_qpack::decoder::DecoderError;
 use h3_qpack::encoder::EncoderError;
 use h3_qpack::session::{self, Event, Outcome};
-use qpack_testing::cases::{Subject, Words, header_fields, push_bytes, push_field, read_fields};
+use qpack_testing::cases::{Subject, Words, push_bytes, push_count, push_field, read_headers};
 use std::alloc::Global;
-use std::fmt::{Debug, Write};
+use std::fmt::Write;
 
 /// A session, and the stream of each section that it decoded. It is given an event again that was refused memory.
 #[derive(Drop)]
@@ -52,7 +53,7 @@ impl Subject for Session {
                 Ok(())
             }
             "replies" => push_bytes(answer, self.ends.decoder_bytes()),
-            "sections" => Ok(write!(answer, "{}", self.ends.blocks(words.number()?))?),
+            "sections" => push_count(answer, self.ends.blocks(words.number()?)),
             _ => {
                 let stream = words.first_number();
                 let event = event_of(alloc, word, words)?;
@@ -80,32 +81,24 @@ impl Ends for Session {
     }
 }
 
-/// Reads the event of a call, a second time in case memory was refused.
+/// Reads the event of a call.
 pub(crate) fn event_of(alloc: Global, word: &str, words: &mut Words<'_>) -> Result<Event> {
-    let call = *words;
-    if let Ok(event) = read_event(alloc, word, words) {
-        return Ok(event);
+    if word == "encodes" {
+        return Ok(Event::Encode(words.number()?, read_headers(alloc, words)?));
     }
-    *words = call;
-    read_event(alloc, word, words)
+    numbered_event(word, words.amount()?).context("a session has no such call")
 }
 
-/// Reads the event of a call.
-fn read_event(alloc: Global, word: &str, words: &mut Words<'_>) -> Result<Event> {
-    Ok(match word {
-        "encodes" => {
-            let stream = words.number()?;
-            let fields = read_fields(alloc, words.rest)?;
-            words.rest = "";
-            Event::Encode(stream, header_fields(alloc, &fields)?)
-        }
-        "decodes" => Event::Decode(words.number()?),
-        "to-decoder" => Event::ToDecoder(words.amount()?),
-        "to-encoder" => Event::ToEncoder(words.amount()?),
-        "acks" => Event::Ack(words.number()?),
-        "cancels" => Event::Cancel(words.number()?),
-        "sets" => Event::SetCapacity(words.count()?),
-        _ => bail!("a session has no call {word}"),
+/// Returns the event of a number that a word names.
+fn numbered_event(word: &str, number: usize) -> Option<Event> {
+    Some(match word {
+        "decodes" => Event::Decode(number as u64),
+        "to-decoder" => Event::ToDecoder(number),
+        "to-encoder" => Event::ToEncoder(number),
+        "acks" => Event::Ack(number as u64),
+        "cancels" => Event::Cancel(number as u64),
+        "sets" => Event::SetCapacity(number),
+        _ => return None,
     })
 }
 
@@ -273,30 +266,28 @@ fn is_foreseen(foreseen: Option<&Result<Decoded, DecoderError>>, outcome: &Outco
 /// an entry, and its fields.
 pub(crate) fn push_outcome(answer: &mut String, outcome: &Outcome) -> Result<()> {
     match outcome {
-        Outcome::Encoded(Ok(required)) => write!(answer, "encoded {required}")?,
-        Outcome::Delivered(Ok(received)) => write!(answer, "received {received}")?,
-        Outcome::Heard(Ok(())) => answer.push_str("heard")?,
-        Outcome::Acknowledged(Ok(())) => answer.push_str("acked")?,
-        Outcome::Cancelled(Ok(())) => answer.push_str("cancelled")?,
-        Outcome::CapacitySet(Ok(())) => answer.push_str("capacity")?,
-        Outcome::Skipped(reason) => write!(answer, "skipped {reason}")?,
-        Outcome::Decoded(Ok(decoded)) => push_decoded(answer, decoded)?,
-        Outcome::Decoded(Err(DecoderError::MissingRefs(required))) => {
-            write!(answer, "missing {required}")?;
-        }
-        Outcome::Decoded(Err(error)) | Outcome::Delivered(Err(error)) => {
-            push_refused(answer, error)?;
-        }
+        Outcome::Encoded(Ok(required)) => push_numbered(answer, "encoded", *required),
+        Outcome::Delivered(Ok(received)) => push_numbered(answer, "received", *received),
+        Outcome::Heard(Ok(())) => push_word(answer, "heard"),
+        Outcome::Acknowledged(Ok(())) => push_word(answer, "acked"),
+        Outcome::Cancelled(Ok(())) => push_word(answer, "cancelled"),
+        Outcome::CapacitySet(Ok(())) => push_word(answer, "capacity"),
+        Outcome::Skipped(reason) => push_numbered(answer, "skipped", usize::from(*reason)),
+        Outcome::Decoded(Ok(decoded)) => push_decoded(answer, decoded),
+        Outcome::Decoded(Err(DecoderError::MissingRefs(required))) => push_numbered(
+            answer, "missing", *required,
+        ),
+        Outcome::Decoded(Err(error)) | Outcome::Delivered(Err(error)) => push_refused(
+            answer, error,
+        ),
         Outcome::Encoded(Err(error))
         | Outcome::CapacitySet(Err(error))
-        | Outcome::Heard(Err(error)) => {
-            push_refused(answer, error)?;
-        }
-        Outcome::Acknowledged(Err(_)) | Outcome::Cancelled(Err(_)) => answer.push_str(
+        | Outcome::Heard(Err(error)) => push_refused(answer, error),
+        Outcome::Acknowledged(Err(_)) | Outcome::Cancelled(Err(_)) => push_word(
+            answer,
             "refused Memory",
-        )?,
+        ),
     }
-    Ok(())
 }
 
 /// Appends a section that was decoded.
@@ -306,9 +297,4 @@ fn push_decoded(answer: &mut String, decoded: &Decoded) -> Result<()> {
         push_field(answer, field.as_line())?;
     }
     Ok(())
-}
-
-/// Appends an error.
-pub(crate) fn push_refused<E: Debug>(answer: &mut String, error: &E) -> Result<()> {
-    Ok(write!(answer, "refused {error:?}")?)
 }
