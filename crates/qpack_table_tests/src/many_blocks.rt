@@ -181,19 +181,23 @@ fn release_all(table: &mut DynamicTable, lists: &mut Lists) -> Result<(), Fail> 
     same(table.unacknowledged_blocks(), 0)
 }
 
-#[test]
-fn thousands_of_blocks_are_released_as_by_plain_lists(rt: HostRuntime) -> Result<(), Fail> {
-    let alloc = rt.alloc();
+/// Makes calls at both, and releases all blocks at the end.
+fn hold_calls(alloc: Global, table: &mut DynamicTable, lists: &mut Lists) -> Result<(), Fail> {
     let mut numbers = Numbers::new(9204);
-    let mut lists = Lists::new(alloc)?;
-    let mut table = full_table(alloc)?;
     for _ in 0..CALLS {
-        one_call(alloc, &mut table, &mut lists, &mut numbers)?;
-        are_alike(&table, &lists)?;
+        one_call(alloc, table, lists, &mut numbers)?;
+        are_alike(table, lists)?;
     }
     same(table.set_max_size(0).is_ok(), false)?;
-    release_all(&mut table, &mut lists)?;
+    release_all(table, lists)?;
     table.update_largest_received(ENTRIES);
     same(table.blocked_blocks(), 0)?;
     Ok(table.set_max_size(0)?)
+}
+
+#[test]
+fn thousands_of_blocks_are_released_as_by_plain_lists(rt: HostRuntime) -> Result<(), Fail> {
+    let mut lists = Lists::new(rt.alloc())?;
+    let mut table = full_table(rt.alloc())?;
+    hold_calls(rt.alloc(), &mut table, &mut lists)
 }

@@ -29,11 +29,16 @@ fn insert_foo(
 /// insertion.
 fn table_of_a_block(alloc: Global) -> Result<(DynamicTable, DynamicInsertionResult), Error> {
     let mut table = DynamicTable::new(alloc);
+    let answer = make_block(alloc, &mut table)?;
+    Ok((table, answer))
+}
+
+/// Makes an empty table one of such a block.
+fn make_block(alloc: Global, table: &mut DynamicTable) -> Result<DynamicInsertionResult, Error> {
     table.set_max_size(4096)?;
     table.set_max_blocked(1)?;
     let foo = field(alloc, b"foo", b"bar")?;
-    let answer = insert_foo(&mut table, &foo)?;
-    Ok((table, answer))
+    insert_foo(table, &foo)
 }
 
 #[test]
@@ -45,6 +50,11 @@ fn an_entry_goes_once_it_is_released_and_received(rt: HostRuntime) -> Result<(),
         absolute: 1,
     };
     same(answer, inserted)?;
+    release_entry(&mut table)
+}
+
+/// Releases the entry of a table of a block: it goes only once it is received too.
+fn release_entry(table: &mut DynamicTable) -> Result<(), Fail> {
     let held = Err(Error::MaxTableSizeReached);
     same(table.set_max_size(37), held)?;
     same(table.max_mem_size(), 4096)?;
@@ -67,18 +77,29 @@ fn numbered(alloc: Global, n: usize) -> Result<HeaderField, NoMemory> {
 /// A table of capacity 4096 in which the fields `n: 1` to `n: 100` were put.
 fn table_of_a_hundred(alloc: Global) -> Result<DynamicTable, Error> {
     let mut table = DynamicTable::new(alloc);
+    put_a_hundred(alloc, &mut table)?;
+    Ok(table)
+}
+
+/// Puts a hundred fields into an empty table.
+fn put_a_hundred(alloc: Global, table: &mut DynamicTable) -> Result<(), Error> {
     table.set_max_size(4096)?;
     for n in 1..=100 {
         table.put(numbered(alloc, n)?)?;
     }
-    Ok(table)
+    Ok(())
 }
 
 #[test]
 fn a_field_of_a_hundred_is_found_in_eight_steps(rt: HostRuntime) -> Result<(), Fail> {
     let table = again(|| table_of_a_hundred(rt.alloc()))?;
     let sought = again(|| numbered(rt.alloc(), 57))?;
+    is_found_in_eight(&table, &sought)
+}
+
+/// The 57th field is found in at most eight steps.
+fn is_found_in_eight(table: &DynamicTable, sought: &HeaderField) -> Result<(), Fail> {
     let mut steps = Steps::new();
-    same(table.newest_equal(&sought, &mut steps), Some(57))?;
+    same(table.newest_equal(sought, &mut steps), Some(57))?;
     same(steps.count() <= 8, true)
 }
