@@ -98,13 +98,14 @@ impl Ends for Connection {
     }
 }
 
-/// Reads the event that is given after one that was refused memory: the same, or a delivery of no bytes more.
+/// Reads the event that is given after one that was refused memory: the same, or a delivery of no bytes more, since some
+/// of a number of bytes may have been taken.
 fn event_again(alloc: Global, word: &str, call: Words<'_>) -> Result<Event> {
     let mut words = call;
-    match word {
-        "to-decoder" => Ok(Event::ToDecoder(0)),
-        _ => event_of(alloc, word, &mut words),
+    if word == "to-decoder" && call.rest != "all" {
+        return Ok(Event::ToDecoder(0));
     }
+    event_of(alloc, word, &mut words)
 }
 
 /// Reads the event of a call.
