@@ -98,8 +98,8 @@ impl Ends for Connection {
     }
 }
 
-/// Reads the event that is given after one that was refused memory: the same, or a delivery of no bytes more, since some
-/// of a number of bytes may have been taken.
+/// Reads the event that is given after one that was refused memory: the same, or a delivery of no bytes more, since
+/// some of a number of bytes may have been taken.
 fn event_again(alloc: Global, word: &str, call: Words<'_>) -> Result<Event> {
     let mut words = call;
     if word == "to-decoder" && call.rest != "all" {

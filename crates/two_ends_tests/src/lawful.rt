@@ -112,12 +112,15 @@ impl<S: Ends> Subject for Lawful<S> {
             "encodes" => self.encode(alloc, words, answer),
             "decodes" => self.decode(alloc, words, answer),
             "cancels" => self.cancel(alloc, words, answer),
-            "exchanges" => self.exchange(alloc, words, answer),
             "decoded" => {
                 let at = self.place_of(alloc, words.number()?)?;
                 push_count(answer, self.streams.get(at).context("no stream")?.decoded)
             }
-            _ => self.call_ends(alloc, word, words, answer),
+            _ => {
+                self.ends.call(alloc, word, words, answer)?;
+                ensure!(may_answer(word, answer), "{word} -> {answer}");
+                Ok(())
+            }
         }
     }
 
@@ -197,44 +200,6 @@ impl<S: Ends> Lawful<S> {
         let stream = self.streams.get_mut(at).context("no stream")?;
         stream.handed.reserve(1)?;
         Ok(at)
-    }
-
-    /// Makes a call that is no encode, decode or cancellation.
-    fn call_ends(
-        &mut self,
-        alloc: Global,
-        word: &str,
-        words: &mut Words<'_>,
-        answer: &mut String,
-    ) -> Result<()> {
-        self.ends.call(alloc, word, words, answer)?;
-        ensure!(may_answer(word, answer), "{word} -> {answer}");
-        Ok(())
-    }
-
-    /// Encodes a section on a stream, decodes it there, and acknowledges it, with all bytes delivered in time.
-    fn exchange(
-        &mut self,
-        alloc: Global,
-        words: &mut Words<'_>,
-        answer: &mut String,
-    ) -> Result<()> {
-        let stream = words.rest.split_once(' ').unwrap_or((words.rest, "")).0;
-        self.encode(alloc, words, answer)?;
-        answer.clear();
-        self.call_ends(alloc, "to-decoder", &mut Words { rest: "all" }, answer)?;
-        answer.clear();
-        self.decode(alloc, &mut Words { rest: stream }, answer)?;
-        ensure!(answer.starts_with("decoded "), "exchanges -> {answer}");
-        answer.clear();
-        self.call_ends(alloc, "acks", &mut Words { rest: stream }, answer)?;
-        answer.clear();
-        self.call_ends(alloc, "to-encoder", &mut Words { rest: "all" }, answer)?;
-        ensure!(
-            self.ends.rest()?.unacknowledged == 0,
-            "the section is not acknowledged"
-        );
-        Ok(())
     }
 
     /// Encodes a section, and notes its fields.

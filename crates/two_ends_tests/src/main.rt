@@ -4,6 +4,7 @@
 mod answers;
 mod connection;
 mod lawful;
+mod round;
 mod runs;
 mod scripts;
 mod session;
@@ -20,7 +21,7 @@ use std::alloc::Global;
 /// The files of cases.
 const FILES: [&str; 6] = [
     "sessions.txt",
-    "thousands.txt",
+    "many_streams.txt",
     "two_ends.txt",
     "refused.txt",
     "runs.txt",

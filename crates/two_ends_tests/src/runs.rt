@@ -69,6 +69,11 @@ impl Runs {
                 let events = self.connection_events(alloc)?;
                 push_connection_run(alloc, words, events, answer)
             }
+            "equal-events" => push_equals(answer, &self.session_events(alloc)?),
+            "equal-outcomes" => {
+                let events = self.session_events(alloc)?;
+                push_equal_outcomes(alloc, words, &events, answer)
+            }
             _ => bail!("runs have no call {word}"),
         }
     }
@@ -169,4 +174,24 @@ fn push_connection(
         answer.push_str("; ")?;
     }
     push_capacity(answer, connection.encoder().table())
+}
+
+/// Appends, for each of the outcomes of a session's run, how many of them equal it.
+fn push_equal_outcomes(
+    alloc: Global,
+    words: &mut Words<'_>,
+    events: &[Event],
+    answer: &mut String,
+) -> Result<()> {
+    let (_, outcomes) = run(alloc, words.count()?, words.count()?, events)?;
+    push_equals(answer, &outcomes)
+}
+
+/// Appends, for each of the items, how many of them equal it.
+fn push_equals<T: PartialEq>(answer: &mut String, items: &[T]) -> Result<()> {
+    for item in items {
+        let equal = items.iter().filter(|other| *other == item).count();
+        write!(answer, "{equal}")?;
+    }
+    Ok(())
 }

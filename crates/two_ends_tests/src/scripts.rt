@@ -4,6 +4,7 @@
 use crate::answers::{push_numbered, push_word};
 use crate::connection::Connection;
 use crate::lawful::{Counts, Ends, Lawful, Rest};
+use crate::round::go_round;
 use crate::session::Session;
 use anyhow::{Context, Result, bail, ensure};
 use qpack_testing::Numbers;
@@ -89,6 +90,10 @@ impl Subject for Scripts {
                 for _ in 0..words.count()? {
                     self.play(alloc)?;
                 }
+                push_word(answer, "done")
+            }
+            "go-round" => {
+                go_round(alloc, self.settings.as_str(), words.count()?)?;
                 push_word(answer, "done")
             }
             "at-least" => {
