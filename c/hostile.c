@@ -30,7 +30,7 @@ static void decode_newest(h3_qpack_decoder *d, kind k, size_t required) {
   drop(&b);
 }
 
-/* The capacity is set to 0, for which all entries go and their memory with them, and then back and to 0 again and again. */
+/* The capacity is set to 0, for which all entries and their memory go, and then back and to 0 again and again. */
 static void empty_table(h3_qpack_decoder *d) {
   bytes b = {NULL, 0, 0};
   put_int(&b, 0x20, 5, 0);
