@@ -41,6 +41,16 @@ pub record AreRowsOf (part : Part) (dropped : ℕ) (live : List Field) (entered 
       → HasSlotOf part dropped live
       ((slice_index_or rows (home part (length rows) (field_at dropped live index)) d).slots.items) index
 
+-- the rows of some entries
+abbrev pub AreRows : List Row → Type 0
+AreRows rows = (part : Part) × (dropped : ℕ) × (live : List Field) × (entered : ℕ)
+    × AreRowsOf part dropped live entered rows
+
+-- rows of any entries stay rows of the same entries
+abbrev pub KeepsEntries : List Row → List Row → Type 0
+KeepsEntries old new = (part : Part) (dropped entered : ℕ) (live : List Field)
+    → AreRowsOf part dropped live entered old → AreRowsOf part dropped live entered new
+
 -- the row that is split to make one more: that of the hashes that belong to the new one
 abbrev pub split_home : List Row → ℕ
 split_home rows = position_among (length rows) (length rows)
@@ -59,6 +69,10 @@ rows_behind rows split = slice_set rows (split_home rows) split.stays ++ split.g
 -- how many slots the row of a hash has
 abbrev pub slots_at : List Row → ℕ → Row → ℕ
 slots_at rows hash d = length ((slice_index_or rows (position_among (length rows) hash) d).slots.items)
+
+-- the row of a hash is crowded, and there are fewer rows than `most`
+abbrev pub WantsRow : (most : ℕ) → List Row → (hash : ℕ) → Type 0
+WantsRow most rows hash = (length rows < most) × ((d : Row) → 2 ≤ slots_at rows hash d)
 
 -- the row of a hash has room for one more
 pub record HasRoomFor (rows : List Row) (hash : ℕ) : Type 0 where
@@ -89,6 +103,19 @@ pub record IsIndexOf (dropped : ℕ) (live : List Field) (entered : ℕ) (index 
   pub some : 0 < length index.fields.rows.items → 0 < length index.names.rows.items
   pub few : length index.names.rows.items ≤ length index.fields.rows.items
 
+-- some entries are in the index
+abbrev pub IsIndex : Index → Type 0
+IsIndex index = (dropped : ℕ) × (live : List Field) × (entered : ℕ) × IsIndexOf dropped live entered index
+
+-- any entries that are in the old index are in the new one
+abbrev pub KeepsIndexed : Index → Index → Type 0
+KeepsIndexed old new = (dropped entered : ℕ) (live : List Field) → IsIndexOf dropped live entered old
+    → IsIndexOf dropped live entered new
+
+-- an index without rows, and without memory for any
+abbrev pub HasNoRows : Index → Type 0
+HasNoRows index = (vec_capacity index.fields.rows ≡ 0) × (vec_capacity index.names.rows ≡ 0)
+
 -- how many rows there are where one more is made: at first 32
 abbrev pub one_row_more : ℕ → ℕ
 one_row_more zero = 32
@@ -98,9 +125,24 @@ one_row_more (suc n) = suc (suc n)
 abbrev pub GrowsRows : (entries old new : ℕ) → Type 0
 GrowsRows entries old new = (entries < old → new ≡ old) × (old ≤ entries → new ≡ one_row_more old)
 
+-- the row of names of such hashes is crowded, and there are fewer of names than of fields
+abbrev pub WantsRowOfNames : Hashes → Index → Type 0
+WantsRowOfNames hashes index = WantsRow (length index.fields.rows.items) index.names.rows.items hashes.name
+
+-- where room is made for an entry with such hashes, one row of names more is made if it is wanted; at first 16
+pub record GrowsNames (hashes : Hashes) (old new : Index) : Type 0 where
+  pub first : length old.fields.rows.items ≡ 0 → length new.names.rows.items ≡ 16
+  pub still : 0 < length old.fields.rows.items → (WantsRowOfNames hashes old → ⊥)
+      → length new.names.rows.items ≡ length old.names.rows.items
+  pub made : WantsRowOfNames hashes old → length new.names.rows.items ≡ length old.names.rows.items + 1
+
 -- rows that have room for at most half as many more, or for one
 abbrev pub HasFewSpare : Rows → Type 0
 HasFewSpare rows = vec_capacity rows.rows ≤ grown 1 (length rows.rows.items)
+
+-- they get no more room than that, unless they have it
+abbrev pub GrowsByHalf : Rows → Rows → Type 0
+GrowsByHalf old new = vec_capacity new.rows ≤ max (vec_capacity old.rows) (grown 1 (length old.rows.items))
 
 -- where room is made for one entry more, the room for hashes stays, or grows by half if it is full, by 22 at least
 pub record MakesRoomForHashes {E : Type 0} (result : Result (Unit {0}) E) (old new : Index) : Type 0 where

@@ -281,8 +281,8 @@ impl DynamicTableEncoder<'_> {
         self.table.has_room(field)
     }
 
-    /// Looks for the newest entry that equals a field. `static_name` is the least index of a static field with its name.
-    /// Nothing is referenced.
+    /// Looks for the newest entry that equals a field. `static_name` is the least index of a static field with its
+    /// name. Nothing is referenced.
     #[inline(always)]
     pub fn seek(&self, field: &FieldLine<'_>, static_name: Option<usize>) -> SoughtField
         requires { static_name ≡ static_name_index (line_of field.now).field.name }
@@ -326,8 +326,9 @@ impl DynamicTableEncoder<'_> {
         ensures same_table { self.new.table.ghost_name ≡ self.old.table.ghost_name }
         ensures stream { self.new.stream_id ≡ self.old.stream_id }
         ensures base { self.new.base ≡ self.old.base }
-        ensures inserted { InsertsIf (below_limit self.old.table.now && has_room self.old.table.now (line_of field.now).field)
-            result (referenced_insertion self.old.table.now self.old.base (line_of field.now).field) self.old.table.now
+        ensures inserted { InsertsIf
+            (below_limit self.old.table.now && has_room self.old.table.now (line_of field.now).field) result
+            (referenced_insertion self.old.table.now self.old.base (line_of field.now).field) self.old.table.now
             self.new.table.now }
     {
         self.table.insert_referenced(self.base, field, sought)

@@ -109,13 +109,16 @@ pub(super) fn drop_oldest<I: EntryIndex>(
 /// Gives the memory of an empty list and of its index back. One with entries stays as it is.
 pub(super) fn give_back_room<I: EntryIndex>(entries: &mut VecDeque<Entry>, index: &mut I)
     ensures items { entries.new.items ≡ entries.old.items }
+    ensures given { length entries.old.items ≡ 0 → deque_capacity entries.new ≡ 0 }
+    ensures kept { 0 < length entries.old.items → deque_capacity entries.new ≡ deque_capacity entries.old }
+    ensures index_given { length entries.old.items ≡ 0 → I.has_no_rows index.new }
+    ensures index_kept { 0 < length entries.old.items → index.new ≡ index.old }
     ensures index { (dropped : ℕ) → I.is_index_of index.old dropped entries.old.items
         → I.is_index_of index.new dropped entries.new.items }
 {
     if entries.is_empty() {
-        let alloc = *entries.allocator();
-        *entries = VecDeque::new(alloc);
-        *index = I::without_entries(alloc);
+        entries.shrink_to_fit();
+        *index = I::without_entries(*entries.allocator());
     }
 }
 

@@ -3,7 +3,7 @@
 ghost use Rattle.std.specs.Prelude.{◌≡◌, ℕ, ◌+◌, ◌^◌, ◌<◌, ◌≤◌, ⊤, List, [], ◌∷◌, ◌++◌, OnOk, length, drop};
 ghost use Rattle.qpack_base.specs.HeaderFields.{field_of, line_of};
 ghost use Rattle.qpack_spec.specs.Field.{Field};
-ghost use Rattle.qpack_table.specs.Indexes.{AreHashesOf, HasRoomForEntry};
+ghost use Rattle.qpack_table.specs.Indexes.{AreHashesOf, HasNoRows, HasRoomForEntry};
 ghost use Rattle.qpack_table.specs.Tables.{IsIndexOfEntries};
 ghost use Rattle.qpack_table.specs.declared.dynamic.entry.Entry.{Entry};
 
@@ -25,6 +25,9 @@ pub trait EntryIndex: Drop {
     // The key is that of the field.
     ghost is_key_of: { Self.Key → Field → Type 0 };
 
+    // It has no rows, and no memory for any.
+    ghost has_no_rows: { Self → Type 0 };
+
     // There is room for one more entry, with this key.
     ghost has_room: { Self.Key → Self → Type 0 };
 
@@ -34,7 +37,8 @@ pub trait EntryIndex: Drop {
 
     /// Returns what is kept beside no entries. It takes no memory.
     fn without_entries(alloc: Global) -> Self
-        ensures { (dropped : ℕ) → is_index_of result dropped [] };
+        ensures index { (dropped : ℕ) → is_index_of result dropped [] }
+        ensures no_rows { has_no_rows result };
 
     /// Makes room for one more entry, with this key. On error the same entries are in.
     fn reserve(
@@ -71,6 +75,8 @@ impl EntryIndex for Index {
     ghost is_index_of = { λ index dropped entries. IsIndexOfEntries index dropped entries };
 
     ghost is_key_of = { λ hashes f. AreHashesOf hashes f };
+
+    ghost has_no_rows = { λ index. HasNoRows index };
 
     ghost has_room = { λ hashes index. HasRoomForEntry hashes index };
 
@@ -113,6 +119,8 @@ impl EntryIndex for NoIndex {
     ghost is_index_of = { λ _ _ _. ⊤ };
 
     ghost is_key_of = { λ _ _. ⊤ };
+
+    ghost has_no_rows = { λ _. ⊤ };
 
     ghost has_room = { λ _ _. ⊤ };
 

@@ -1,16 +1,17 @@
 //! The index of the live entries, by which the newest entry with a field, or with a name, is found. It keeps hashes and
 //! absolute indexes alone: each call is lent the entries, and is told how many were dropped.
 
-ghost use Rattle.std.specs.Prelude.{◌≡◌, ◌+◌, ◌-◌, ◌^◌, ◌<◌, ◌≤◌, ℕ, List, [], OnOk, OnErr, length, drop};
+ghost use Rattle.std.specs.Prelude.{◌≡◌, ◌+◌, ◌-◌, ◌^◌, ◌<◌, ◌≤◌, ℕ, [], OnOk, OnErr, length, drop};
 ghost use Rattle.std.specs.Prelude.{vec_capacity};
 ghost use Rattle.qpack_base.specs.HeaderFields.{line_of};
-ghost use Rattle.qpack_spec.specs.Field.{Field, is_field, has_name};
+ghost use Rattle.qpack_spec.specs.Field.{is_field, has_name};
 ghost use Rattle.qpack_table.specs.Rows.{field_at, Counts};
 ghost use Rattle.qpack_table.specs.Tables.{entries_of, live_fields};
 ghost use Rattle.qpack_table.specs.declared.dynamic.index.hash.Hashes.{Hashes};
 ghost use Rattle.qpack_table.specs.Hashes.{name_hash};
 ghost use Rattle.qpack_table.specs.Indexes.{AreHashesOf, IsIndexOf, HasRoomForEntry, IsNewestIn};
-ghost use Rattle.qpack_table.specs.Indexes.{GrowsRows, one_row_more, HasFewSpare, MakesRoomForHashes};
+ghost use Rattle.qpack_table.specs.Indexes.{IsIndex, KeepsIndexed, HasNoRows, WantsRowOfNames};
+ghost use Rattle.qpack_table.specs.Indexes.{GrowsRows, GrowsNames, one_row_more, HasFewSpare, MakesRoomForHashes};
 
 mod hash;
 mod row;
@@ -42,7 +43,8 @@ pub struct Index {
 impl Index {
     /// The index of no entry, which takes no memory.
     pub(super) fn new(alloc: Global) -> Index
-        ensures { (dropped : ℕ) → IsIndexOf dropped [] 0 result }
+        ensures index { (dropped : ℕ) → IsIndexOf dropped [] 0 result }
+        ensures no_rows { HasNoRows result }
     {
         Index {
             fields: Rows::new(alloc),
@@ -133,8 +135,8 @@ impl Index {
         self.names.newest(entries, dropped, &sought, steps)
     }
 
-    /// Makes room for one entry more, with such hashes. Where the rows of fields would be fewer than the entries, it
-    /// makes one more, or the first ones. On error the same entries are in, and the rows of fields are as many as before.
+    /// Makes room for one entry more, with such hashes. Where there would be fewer rows of fields than entries, it
+    /// makes one more, or the first ones. On error the same entries are in, in as many rows of fields as before.
     #[inline(always)]
     pub(super) fn reserve(
         &mut self,
@@ -147,10 +149,11 @@ impl Index {
         ensures index { IsIndexOf dropped (live_fields entries.now.items) (length entries.now.items) self.new }
         ensures rows { OnOk result (GrowsRows (length entries.now.items) (length self.old.fields.rows.items)
             (length self.new.fields.rows.items)) }
+        ensures rows_of_names { OnOk result (GrowsNames hashes self.old self.new) }
         ensures err { OnErr result (length self.new.fields.rows.items ≡ length self.old.fields.rows.items) }
         ensures room { OnOk result (HasRoomForEntry hashes self.new) }
         ensures full { OnErr result (length entries.now.items < length self.old.fields.rows.items
-            → HasRoomForEntry hashes self.old → ⊥) }
+            → HasRoomForEntry hashes self.old → WantsRowOfNames hashes self.old) }
         ensures fields { HasFewSpare self.old.fields → HasFewSpare self.new.fields }
         ensures names { HasFewSpare self.old.names → HasFewSpare self.new.names }
         ensures hashes { MakesRoomForHashes result self.old self.new }
@@ -161,16 +164,16 @@ impl Index {
         self.grow(hashes)
     }
 
-    /// Makes room for one entry more in its rows and among the hashes. It fails only where there is none. It makes one row
-    /// of names more where that of this name is crowded.
+    /// Makes room for one entry more in its rows and among the hashes. Where the row of its name is crowded, it makes
+    /// one row of names more. Otherwise it fails only where there is no room.
     fn make_room(&mut self, hashes: Hashes) -> Result<(), AllocError>
         requires some { 0 < length self.old.fields.rows.items }
-        requires index { (dropped : ℕ) × (live : List Field) × (entered : ℕ) × IsIndexOf dropped live entered self.old }
-        ensures index { (dropped entered : ℕ) (live : List Field) → IsIndexOf dropped live entered self.old
-            → IsIndexOf dropped live entered self.new }
+        requires index { IsIndex self.old }
+        ensures index { KeepsIndexed self.old self.new }
         ensures rows { length self.new.fields.rows.items ≡ length self.old.fields.rows.items }
+        ensures rows_of_names { OnOk result (GrowsNames hashes self.old self.new) }
         ensures room { OnOk result (HasRoomForEntry hashes self.new) }
-        ensures full { OnErr result (HasRoomForEntry hashes self.old → ⊥) }
+        ensures full { OnErr result (HasRoomForEntry hashes self.old → WantsRowOfNames hashes self.old) }
         ensures fields { HasFewSpare self.old.fields → HasFewSpare self.new.fields }
         ensures names { HasFewSpare self.old.names → HasFewSpare self.new.names }
         ensures hashes { MakesRoomForHashes result self.old self.new }
@@ -185,11 +188,11 @@ impl Index {
     /// room for one entry more. It hashes nothing again. What can fail comes first.
     #[inline(never)]
     fn grow(&mut self, hashes: Hashes) -> Result<(), AllocError>
-        requires index { (dropped : ℕ) × (live : List Field) × (entered : ℕ) × IsIndexOf dropped live entered self.old }
-        ensures index { (dropped entered : ℕ) (live : List Field) → IsIndexOf dropped live entered self.old
-            → IsIndexOf dropped live entered self.new }
+        requires index { IsIndex self.old }
+        ensures index { KeepsIndexed self.old self.new }
         ensures rows { OnOk result (length self.new.fields.rows.items
             ≡ one_row_more (length self.old.fields.rows.items)) }
+        ensures rows_of_names { OnOk result (GrowsNames hashes self.old self.new) }
         ensures err { OnErr result (length self.new.fields.rows.items ≡ length self.old.fields.rows.items) }
         ensures room { OnOk result (HasRoomForEntry hashes self.new) }
         ensures fields { HasFewSpare self.old.fields → HasFewSpare self.new.fields }
@@ -210,9 +213,9 @@ impl Index {
     /// Makes the first rows of either kind, and room for one entry. On error there are none.
     fn make_first_rows(&mut self, hashes: Hashes) -> Result<(), AllocError>
         requires none { length self.old.fields.rows.items ≡ 0 }
-        ensures index { (dropped entered : ℕ) (live : List Field) → IsIndexOf dropped live entered self.old
-            → IsIndexOf dropped live entered self.new }
+        ensures index { KeepsIndexed self.old self.new }
         ensures rows { OnOk result (length self.new.fields.rows.items ≡ 32) }
+        ensures rows_of_names { OnOk result (length self.new.names.rows.items ≡ 16) }
         ensures made { OnOk result
             ((vec_capacity self.new.fields.rows ≡ 32) × (vec_capacity self.new.names.rows ≡ 16)) }
         ensures err { OnErr result (length self.new.fields.rows.items ≡ 0) }

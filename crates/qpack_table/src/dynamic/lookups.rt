@@ -208,8 +208,8 @@ impl DynamicTable {
         Ok(insertion)
     }
 
-    /// Inserts a field that was sought, and references it, if one more block may be blocked and there is room. Otherwise
-    /// does nothing.
+    /// Inserts a field that was sought, and references it, if one more block may be blocked and there is room.
+    /// Otherwise does nothing.
     #[inline(always)]
     pub(super) fn insert_referenced(
         &mut self,

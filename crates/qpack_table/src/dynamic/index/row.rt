@@ -110,8 +110,8 @@ fn compare(
     }
 }
 
-/// Where the slot with what is sought is in two places, or where it would stand. In most rows no slot has the hash that is
-/// sought: that is found out first, of both at once.
+/// Where the slot with what is sought is in two places, or where it would stand. In most rows no slot has the hash that
+/// is sought: that is found out first, of both at once.
 #[inline(always)]
 fn search_here(
     places: &[Slot; 2],

@@ -3,15 +3,13 @@
 //! Rows grow one at a time, by linear hashing (Litwin): each new one takes slots of one other row, and the rest stay.
 
 ghost use Rattle.std.specs.Prelude.{◌≡◌, ◌+◌, ◌-◌, ◌^◌, ◌<◌, ◌≤◌, max, ℕ, List, [], IfOk, OnOk, OnErr, length};
-ghost use Rattle.std.specs.Prelude.{drop, nat_le, vec_capacity};
+ghost use Rattle.std.specs.Prelude.{drop, vec_capacity};
 ghost use Rattle.std.specs.List.{All};
-ghost use Rattle.qpack_spec.specs.Field.{Field};
 ghost use Rattle.qpack_table.specs.Growth.{grown};
 ghost use Rattle.qpack_table.specs.Rows.{part_at, field_of_sought, IsHashed, Counts};
 ghost use Rattle.qpack_table.specs.Tables.{live_fields};
-ghost use Rattle.qpack_table.specs.Indexes.{AreRowsOf, HasRoomFor, FindsNewest, IsSplitOf, rows_behind, slots_at};
-ghost use Rattle.qpack_table.specs.declared.dynamic.index.row.Part.{Part};
-ghost use Rattle.qpack_table.specs.declared.dynamic.index.row.Row.{Row as RowOfSlots};
+ghost use Rattle.qpack_table.specs.Indexes.{AreRowsOf, AreRows, KeepsEntries, HasRoomFor, FindsNewest, IsSplitOf};
+ghost use Rattle.qpack_table.specs.Indexes.{WantsRow, GrowsByHalf, rows_behind};
 
 use crate::dynamic::entry::Entry;
 use crate::dynamic::growth::growth;
@@ -30,7 +28,8 @@ pub(super) struct Rows {
 impl Rows {
     /// No row.
     pub(super) fn new(alloc: Global) -> Rows
-        ensures { result.rows.items ≡ [] }
+        ensures empty { result.rows.items ≡ [] }
+        ensures room { vec_capacity result.rows ≡ 0 }
     {
         Rows {
             rows: Vec::new(alloc),
@@ -54,11 +53,8 @@ impl Rows {
     /// in the row that a hash will have then. It compares no entries, and the rows keep their slots.
     pub(super) fn split(&mut self, alloc: Global, hash: u32) -> Result<Split, AllocError>
         requires some { 0 < length self.old.rows.items }
-        requires rows { (part : Part) × (dropped : ℕ) × (live : List Field) × (entered : ℕ)
-            × AreRowsOf part dropped live entered self.old.rows.items }
-        ensures rows { (part : Part) (dropped entered : ℕ) (live : List Field)
-            → AreRowsOf part dropped live entered self.old.rows.items
-            → AreRowsOf part dropped live entered self.new.rows.items }
+        requires rows { AreRows self.old.rows.items }
+        ensures rows { KeepsEntries self.old.rows.items self.new.rows.items }
         ensures count { length self.new.rows.items ≡ length self.old.rows.items }
         ensures split { IfOk result (λ split. IsSplitOf self.new.rows.items split) }
         ensures room { IfOk result (λ split. HasRoomFor (rows_behind self.new.rows.items split) hash) }
@@ -66,8 +62,7 @@ impl Rows {
         ensures still { length self.old.rows.items < vec_capacity self.old.rows
             → vec_capacity self.new.rows ≡ vec_capacity self.old.rows }
         ensures kept { (other : ℕ) → HasRoomFor self.old.rows.items other → HasRoomFor self.new.rows.items other }
-        ensures capacity { vec_capacity self.new.rows
-            ≤ max (vec_capacity self.old.rows) (grown 1 (length self.old.rows.items)) }
+        ensures capacity { GrowsByHalf self.old self.new }
     {
         self.reserve_row()?;
         let count = self.rows.len();
@@ -76,9 +71,9 @@ impl Rows {
         Ok(split)
     }
 
-    /// Makes room for one index more in the row of a hash. Where that row is crowded and there are fewer rows than `most`,
-    /// it makes one row more, unless memory is refused: so there are about as many rows as indexes. It fails only where
-    /// there is no room.
+    /// Makes room for one index more in the row of a hash. Where that row is crowded and there are fewer rows than
+    /// `most`, it makes one row more, so that there are about as many rows as indexes. On error there are as many rows
+    /// as before. Otherwise it fails only where there is no room.
     pub(super) fn reserve_within(
         &mut self,
         alloc: Global,
@@ -86,37 +81,26 @@ impl Rows {
         hash: u32,
     ) -> Result<(), AllocError>
         requires some { 0 < length self.old.rows.items }
-        requires rows { (part : Part) × (dropped : ℕ) × (live : List Field) × (entered : ℕ)
-            × AreRowsOf part dropped live entered self.old.rows.items }
-        ensures rows { (part : Part) (dropped entered : ℕ) (live : List Field)
-            → AreRowsOf part dropped live entered self.old.rows.items
-            → AreRowsOf part dropped live entered self.new.rows.items }
+        requires rows { AreRows self.old.rows.items }
+        ensures rows { KeepsEntries self.old.rows.items self.new.rows.items }
         ensures few { length self.new.rows.items ≤ max (length self.old.rows.items) most }
         ensures many { length self.old.rows.items ≤ length self.new.rows.items }
-        ensures one { length self.new.rows.items ≤ length self.old.rows.items + 1 }
-        ensures still { (d : RowOfSlots) → slots_at self.old.rows.items hash d < 2
+        ensures still { (WantsRow most self.old.rows.items hash → ⊥)
             → length self.new.rows.items ≡ length self.old.rows.items }
+        ensures made { OnOk result (WantsRow most self.old.rows.items hash
+            → length self.new.rows.items ≡ length self.old.rows.items + 1) }
+        ensures err { OnErr result (length self.new.rows.items ≡ length self.old.rows.items) }
         ensures room { OnOk result (HasRoomFor self.new.rows.items hash) }
-        ensures full { OnErr result (HasRoomFor self.old.rows.items hash → ⊥) }
-        ensures capacity { vec_capacity self.new.rows
-            ≤ max (vec_capacity self.old.rows) (grown 1 (length self.old.rows.items)) }
-    {
-        if self.rows.len() < most && self.is_crowded(hash) {
-            if let Ok(split) = self.split(alloc, hash) {
-                self.put_split(split);
-                return Ok(());
-            }
-        }
-        self.reserve(alloc, hash)
-    }
-
-    /// Whether the row of a hash is crowded.
-    fn is_crowded(&self, hash: u32) -> bool
-        requires { 0 < length self.now.rows.items }
-        ensures { (d : RowOfSlots) → result ≡ nat_le 2 (slots_at self.now.rows.items hash d) }
+        ensures full { OnErr result (HasRoomFor self.old.rows.items hash → WantsRow most self.old.rows.items hash) }
+        ensures capacity { GrowsByHalf self.old self.new }
     {
         let home = position_of(hash, self.rows.len());
-        self.rows[home].is_crowded()
+        if self.rows.len() < most && self.rows[home].is_crowded() {
+            let split = self.split(alloc, hash)?;
+            self.put_split(split);
+            return Ok(());
+        }
+        self.rows[home].reserve(alloc)
     }
 
     /// Makes room for one row more. Where there is none, it makes room for half as many as there are, or for one.
@@ -127,8 +111,7 @@ impl Rows {
             → vec_capacity self.new.rows ≡ vec_capacity self.old.rows }
         ensures grown { OnOk result (vec_capacity self.old.rows ≤ length self.old.rows.items
             → vec_capacity self.new.rows ≡ grown 1 (length self.old.rows.items)) }
-        ensures capacity { vec_capacity self.new.rows
-            ≤ max (vec_capacity self.old.rows) (grown 1 (length self.old.rows.items)) }
+        ensures capacity { GrowsByHalf self.old self.new }
     {
         let count = self.rows.len();
         if count == self.rows.capacity() {
@@ -146,9 +129,7 @@ impl Rows {
     ) -> Result<(), AllocError>
         requires some { 0 < length self.old.rows.items }
         requires split { IsSplitOf self.old.rows.items split.old }
-        ensures rows { (part : Part) (dropped entered : ℕ) (live : List Field)
-            → AreRowsOf part dropped live entered self.old.rows.items
-            → AreRowsOf part dropped live entered self.new.rows.items }
+        ensures rows { KeepsEntries self.old.rows.items self.new.rows.items }
         ensures count { length self.new.rows.items ≡ length self.old.rows.items }
         ensures split { IsSplitOf self.new.rows.items split.new }
         ensures room { OnOk result (HasRoomFor (rows_behind self.new.rows.items split.new) hash) }
@@ -171,9 +152,7 @@ impl Rows {
         requires some { 0 < length self.old.rows.items }
         requires split { IsSplitOf self.old.rows.items split }
         requires vacant { length self.old.rows.items < vec_capacity self.old.rows }
-        ensures rows { (part : Part) (dropped entered : ℕ) (live : List Field)
-            → AreRowsOf part dropped live entered self.old.rows.items
-            → AreRowsOf part dropped live entered self.new.rows.items }
+        ensures rows { KeepsEntries self.old.rows.items self.new.rows.items }
         ensures count { length self.new.rows.items ≡ length self.old.rows.items + 1 }
         ensures placed { self.new.rows.items ≡ rows_behind self.old.rows.items split }
         ensures capacity { vec_capacity self.new.rows ≡ vec_capacity self.old.rows }
@@ -217,9 +196,7 @@ impl Rows {
     #[inline(always)]
     pub(super) fn reserve(&mut self, alloc: Global, hash: u32) -> Result<(), AllocError>
         requires { 0 < length self.old.rows.items }
-        ensures rows { (part : Part) (dropped entered : ℕ) (live : List Field)
-            → AreRowsOf part dropped live entered self.old.rows.items
-            → AreRowsOf part dropped live entered self.new.rows.items }
+        ensures rows { KeepsEntries self.old.rows.items self.new.rows.items }
         ensures count { length self.new.rows.items ≡ length self.old.rows.items }
         ensures room { OnOk result (HasRoomFor self.new.rows.items hash) }
         ensures full { OnErr result (HasRoomFor self.old.rows.items hash → ⊥) }

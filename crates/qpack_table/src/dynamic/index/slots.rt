@@ -12,8 +12,8 @@ use std::marker::Model;
 const FEW: usize = 4;
 
 /// Where slots are kept. Two fit in the row itself, so that hardly a row takes memory: in places, of which the second
-/// is empty unless the first is filled. Such rows are told apart by what they hold. With one kind of row for each number
-/// of slots, a processor mispredicts which it is.
+/// is empty unless the first is filled. Such rows are told apart by what they hold. With one kind of row for each
+/// number of slots, a processor mispredicts which it is.
 #[derive(Debug, Drop)]
 enum Kept {
     Here([Slot; 2]),

@@ -82,7 +82,9 @@ invariant_of-self-2 c =
           (c.args.absolute - c.total_dropped.result - 1) c.index_mut-entry.result.now _ c.self.invariant.references
           position
           (omega (arith, position, within, c.self.invariant.sized.counted))
-          (item_there _ _ _ within c.index_mut-entry.ensures.value) unflagged refl refl (c.push_reserved.ensures.items ∙ ap (λ (l : List ℕ). l ++ c.args.absolute ∷ []) c.make_room.ensures.items);
+          (item_there _ _ _ within c.index_mut-entry.ensures.value) unflagged refl refl
+          (c.push_reserved.ensures.items
+          ∙ ap (λ (l : List ℕ). l ++ c.args.absolute ∷ []) c.make_room.ensures.items);
       indexed = indexed_as c.self.inside.vas.dropped c.self.inside.entries.items _
           (same_live _ _ c.index_mut-entry.result.now _ within c.index_mut-entry.ensures.value refl)
           c.self.invariant.indexed;

@@ -1,4 +1,5 @@
 use Rattle.std.proofs.Common.{arith, rules}
+use Rattle.qpack_base.proofs.TextItems.{after_ok}
 use Rattle.qpack_table.specs.declared.dynamic.index.row.Part.TheVariants.{Name, Whole}
 use Rattle.qpack_table.proofs.WholeIndexes.{hashes_same}
 use Rattle.qpack_table.proofs.dynamic.index.Index.make_room.Goals as goal
@@ -11,3 +12,12 @@ returns-clause-index c = λ dropped entered live is. record {
   some = λ some. omega (arith, c.reserve_within.ensures.many, is.some (omega (arith, some, c.reserve.ensures.count)));
   few = omega (arith, c.reserve_within.ensures.few, is.few, c.count.ensures, c.reserve.ensures.count);
 }
+
+pub returns-clause-rows_of_names : goal.returns-clause-rows_of_names
+returns-clause-rows_of_names c =
+    let most = c.count.ensures in
+    after_ok c.reserve.result _ _ (λ _. record {
+      first = λ none. omega (arith, none, c.requires.some);
+      still = λ _ no. c.in_ok-reserve_within.ensures.still (λ wants. no (omega (arith, wants.0, most), wants.1));
+      made = λ wants. c.in_ok-reserve_within.ensures.made (omega (arith, wants.0, most), wants.1);
+    }) c.reserve.ensures.room

@@ -28,7 +28,8 @@ pub returns-in-Less-compare-clause-place : goal.returns-in-Less-compare-clause-p
 returns-in-Less-compare-clause-place c =
     let none : Slot = record { hash = 0; index = 0 } in
     gap_at_end _ _ _ c.args.places.now c.requires.places c.requires.row (key_of c.args.sought.now) none
-    (some_of _ _ c.is_none.ensures c.if-is_none.false) (some_of _ _ c.is_none-2.ensures c.if-is_none-2.false) (sym c.compare.ensures.order ∙ c.in-Less.is)
+    (some_of _ _ c.is_none.ensures c.if-is_none.false) (some_of _ _ c.is_none-2.ensures c.if-is_none-2.false)
+    (sym c.compare.ensures.order ∙ c.in-Less.is)
     (sym c.compare-2.ensures.order ∙ c.in-Less-compare.is)
 
 pub returns-in-Less-compare-clause-steps : goal.returns-in-Less-compare-clause-steps

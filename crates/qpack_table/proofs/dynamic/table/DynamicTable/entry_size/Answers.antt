@@ -1,6 +1,7 @@
 use Rattle.std.proofs.Common.{ℕ, ◌-◌, ◌<◌, ◌≤◌, length, refl, sym, arith}
 use Rattle.qpack_base.specs.HeaderFields.{field_of}
-use Rattle.qpack_table.proofs.Lookups.{field_there, field_missing, not_less, entry_measured, entry_unmeasured, entry_gone}
+use Rattle.qpack_table.proofs.Lookups.{field_there, field_missing, not_less}
+use Rattle.qpack_table.proofs.Lookups.{entry_measured, entry_unmeasured, entry_gone}
 use Rattle.qpack_table.proofs.dynamic.table.DynamicTable.entry_size.Goals as goal
 
 pub returns-then-absolute-dropped : goal.returns-then-absolute-dropped

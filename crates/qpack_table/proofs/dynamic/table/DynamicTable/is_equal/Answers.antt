@@ -10,8 +10,8 @@ returns-in-None g c =
     let past : length c.self.inside.entries.items ≤ position =
     not_less position _ (λ h. let there = c.in-None.ensures.variant.1 (omega (arith, h)) in cc) in
     sym
-    (passes_as _ c.args.self.now (is_field (line_of c.args.field.now).field) c.args.absolute c.total_dropped-dropped.result None
-    c.self.view_is c.total_dropped-dropped.ensures.exact c.if-absolute-dropped.false
+    (passes_as _ c.args.self.now (is_field (line_of c.args.field.now).field) c.args.absolute
+    c.total_dropped-dropped.result None c.self.view_is c.total_dropped-dropped.ensures.exact c.if-absolute-dropped.false
     (field_missing c.self.inside.entries.items position past))
 
 pub returns-then-eq : goal.returns-then-eq

@@ -34,10 +34,12 @@ invariant_of-self g c =
     c.give_back_room.new.entries.items _ _ _ c.args.size _ _ c.in_ok-evicted.evicted
     c.drop_oldest-freed.result
     c.self.invariant
-    evicted (omega (arith, c.in_ok-evicted.ensures.small)) (c.give_back_room.ensures.items ∙ c.drop_oldest-freed.ensures.left)
+    evicted (omega (arith, c.in_ok-evicted.ensures.small))
+    (c.give_back_room.ensures.items ∙ c.drop_oldest-freed.ensures.left)
     c.drop_oldest-freed.ensures.freed refl
     (ap (λ (p : Positions). p.dropped) c.drop_oldest-freed.ensures.dropped)
-    (ap (λ (p : Positions). p.total) c.drop_oldest-freed.ensures.dropped) (c.give_back_room.ensures.index _ c.drop_oldest-freed.ensures.index))
+    (ap (λ (p : Positions). p.total) c.drop_oldest-freed.ensures.dropped)
+    (c.give_back_room.ensures.index _ c.drop_oldest-freed.ensures.index))
 
 pub returns : goal.returns
 returns g c =
@@ -58,4 +60,5 @@ returns g c =
     ∙ c.in_ok-evicted.ensures.evictable)
     (omega (arith, evicted, ap (λ (p : Positions). p.dropped) c.drop_oldest-freed.ensures.dropped))
     (live_less c.self.inside.entries.items c.give_back_room.new.entries.items c.in_ok-evicted.evicted
-    (c.give_back_room.ensures.items ∙ c.drop_oldest-freed.ensures.left) ∙ ap (λ (n : ℕ). drop n (entries_of c.self.inside.entries.items)) evicted))
+    (c.give_back_room.ensures.items ∙ c.drop_oldest-freed.ensures.left)
+    ∙ ap (λ (n : ℕ). drop n (entries_of c.self.inside.entries.items)) evicted))

@@ -37,5 +37,6 @@ returns-clause-rows c =
     (rows_changed _ _ _ _ _ _ _ within (rows_entered _ _ _ _ _ _ _ _ within c.index_mut.ensures.value c.requires.rows
     slot next (omega (arith, c.requires.live.1, long))
     (sym (home_chosen c.args.sought.now.part _ _ _ _ (line_of c.args.sought.now.line).field
-    (field_at c.args.dropped (live_fields c.args.entries.now.items) c.args.index) c.requires.hashed c.requires.field c.position_of-home.ensures.position len))
+    (field_at c.args.dropped (live_fields c.args.entries.now.items) c.args.index) c.requires.hashed c.requires.field
+    c.position_of-home.ensures.position len))
     c.enter.ensures.row c.enter.ensures.slots))

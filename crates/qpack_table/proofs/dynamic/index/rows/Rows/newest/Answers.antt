@@ -26,7 +26,8 @@ returns-clause-found c =
     let within = home_within _ _ _ len c.position_of-home.ensures.within in
     newest_found_in _ _ _ _ _ c.requires.rows (sym (fields_long c.args.entries.now.items)) _ _ within c.index.ensures
     (line_of c.args.sought.now.line).field (home_chosen c.args.sought.now.part _ _ _ _
-    (line_of c.args.sought.now.line).field (line_of c.args.sought.now.line).field c.requires.hashed refl c.position_of-home.ensures.position len) _ c.find.ensures.found
+    (line_of c.args.sought.now.line).field (line_of c.args.sought.now.line).field c.requires.hashed refl
+    c.position_of-home.ensures.position len) _ c.find.ensures.found
 
 pub returns-clause-steps : goal.returns-clause-steps
 returns-clause-steps c =

@@ -1,18 +1,11 @@
-use Rattle.std.proofs.Common.{◌≡◌}
-use Rattle.qpack_base.proofs.TextItems.{after_err}
-use Rattle.qpack_table.specs.Indexes.{HasRoomFor}
+use Rattle.std.proofs.Common.{◌≡◌, length, rules}
+use Rattle.qpack_table.proofs.HashedRows.{home_within}
+use Rattle.qpack_table.proofs.RowsChanges.{rows_changed, rows_kept}
 use Rattle.qpack_table.proofs.dynamic.index.rows.Rows.reserve_within.Goals as goal
-use Rattle.qpack_table.proofs.dynamic.index.rows.Rows.reserve_within.Goals.{
-  then-len-most+then-is_crowded+in_default,
-  else-len-most,
-}
 
-pub returns-clause-full : goal.returns-clause-full
-returns-clause-full c =
-    let kept : HasRoomFor c.args.self.now.rows.items c.args.hash
-    → HasRoomFor c.if-len-most.self.rows.items c.args.hash =
-    λ has. elim c.if-len-most.branch [
-      | then-len-most+then-is_crowded+in_default w ↦ rw w.self-is (w.split.ensures.kept c.args.hash has)
-      | else-len-most w ↦ rw w.self-is has
-    ] in
-    after_err c.reserve.result _ _ (λ none has. none (kept has)) c.reserve.ensures.full
+pub returns-clause-rows : goal.returns-clause-rows
+returns-clause-rows c = λ part dropped entered live are.
+    let len : c.len.result ≡ length c.args.self.now.rows.items = search rules in
+    let within = home_within _ _ _ len c.position_of-home.ensures.within in
+    rows_changed _ _ _ _ _ _ _ within
+    (rows_kept _ _ _ _ _ _ _ _ within c.index_mut.ensures.value are c.reserve.ensures.slots)
