@@ -1,11 +1,11 @@
 -- A block whose fields are written under some choices: it is put together of its prefix and its lines, or given up.
 use Rattle.std.proofs.Common.{◌≡◌, ℕ, List, [], ◌∷◌, ◌++◌, map, take, drop, length, refl, sym, ap, subst, ◌∙◌}
-use Rattle.std.proofs.Common.{append-nil, append_assoc, Result, Ok, Err, Bool, cond, Option, None, Some, arith}
+use Rattle.std.proofs.Common.{append-nil, append_assoc, Result, Ok, Err, Option, None, Some}
 use Rattle.std.specs.Prelude.{IfOk, OnErr}
 use Rattle.std.proofs.Math.Seq.{take-length}
-use Rattle.qpack_spec.specs.Chosen.{Chosen, alone_chosen, literal_alone, line_alone, literal_chosen, line_chosen}
-use Rattle.qpack_spec.specs.Chosen.{unreferenced_chosen, chosen_field, chosen_fields, chosen_rule}
-use Rattle.qpack_spec.specs.Field.{Field, FieldLine, total_size}
+use Rattle.qpack_spec.specs.Chosen.{Chosen, alone_chosen, literal_alone, line_alone}
+use Rattle.qpack_spec.specs.Chosen.{chosen_field, chosen_fields, chosen_rule}
+use Rattle.qpack_spec.specs.Field.{Field, FieldLine}
 use Rattle.qpack_spec.specs.Instruction.{written_encoder_instructions}
 use Rattle.qpack_spec.specs.Line.{Line}
 use Rattle.qpack_spec.specs.Marked.{written_marked_lines, written_marked_block, stateless_line_marked}
@@ -15,10 +15,10 @@ use Rattle.qpack_spec.specs.Reading.{Block, greatest_of}
 use Rattle.qpack_spec.specs.Rule.{Draft, empty_draft, with_line, block_of, required_insert_count, committed_table}
 use Rattle.qpack_spec.specs.Stateless.{stateless_literal, stateless_line_of, stateless_line}
 use Rattle.qpack_spec.specs.StaticTable.{static_index, static_name_index}
-use Rattle.qpack_spec.specs.Table.{Table, fields_in, insert_count, without_references, commit}
+use Rattle.qpack_spec.specs.Table.{Table, insert_count, without_references, commit}
 use Rattle.qpack_spec.specs.Window.{maximum_capacity}
 use Rattle.qpack_base.specs.declared.coding.NoMemory.{NoMemory}
-use Rattle.qpack_codec.specs.Encoding.{draft_at, AddsLines}
+use Rattle.qpack_codec.specs.Encoding.{draft_at}
 use Rattle.qpack_codec.specs.ChoosesAlong.{Chooses, ChoosesAlong}
 use Rattle.qpack_codec.specs.ChosenSections.{AddsChosen, StopsAmongChosen, DraftsChosen, EncodesChosen, GivesUpChosen}
 use Rattle.qpack_codec.specs.ChosenSections.{AddsAlong, ChoosesSection, DraftsAlong, EncodesAlong}
@@ -170,22 +170,6 @@ encodes_chosen_block fs old begun mid new stream given before block written_old 
           ∙ ap (λ (t : Table). before ++ written_marked_block fs (block_of t (chosen_rule old fs cs))) begins;
       written = k.written ∙ ap (λ (x : Draft). written_old ++ written_encoder_instructions x.instructions) d;
     }
-
--- the answer is the required insert count
-pub encodes_chosen : (fs : List FieldLine) (r : Result ℕ NoMemory) (answer : Result ℕ EncoderError)
-    (old begun mid new : Table) (stream given : ℕ) (before block written_old written_new : List ℕ)
-    → begun ≡ without_references old → given ≡ stream
-    → IfOk r (λ required. DraftsChosen fs begun mid before block written_old written_new required)
-    → IfOk answer (λ required. (r ≡ Ok required) × (new ≡ commit mid given required))
-    → IfOk answer (λ required. EncodesChosen stream fs old new before block written_old written_new required)
-encodes_chosen fs r (Err e) old begun mid new stream given before block written_old written_new begins same ok ends = tt
-encodes_chosen fs r (Ok required) old begun mid new stream given before block written_old written_new begins same ok
-    ends =
-    let drafted : DraftsChosen fs begun mid before block written_old written_new required =
-    subst (λ (x : Result ℕ NoMemory). IfOk x (λ n. DraftsChosen fs begun mid before block written_old written_new n))
-    ends.0 ok in
-    encodes_chosen_block fs old begun mid new stream given before block written_old written_new required begins same
-    drafted ends.1
 
 -- ---- a section without the dynamic table, which is one of no choices
 

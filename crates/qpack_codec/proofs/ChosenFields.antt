@@ -1,5 +1,5 @@
 -- Field lines that are added to a block in progress by choices, one after the other.
-use Rattle.std.proofs.Common.{◌≡◌, ℕ, zero, suc, ◌+◌, ◌<◌, List, [], ◌∷◌, ◌++◌, map, take, length, get_or, Option}
+use Rattle.std.proofs.Common.{◌≡◌, ℕ, ◌+◌, ◌<◌, List, [], ◌∷◌, ◌++◌, map, take, length, get_or, Option}
 use Rattle.std.proofs.Common.{Some, None, refl, sym, ap, subst, ◌∙◌, append-nil, append_assoc, Bool}
 use Rattle.std.proofs.Common.{true, false, cond, arith, length-append, inl, inr, add-one}
 use Rattle.std.specs.Prelude.{◌&&◌}
@@ -216,20 +216,6 @@ chosen_last t base ls l mid new lines_old lines_mid lines_new written_old writte
     }
 
 -- ---- by position in a list of items that lend field lines
-
-pub chosen_next : {H : Type 0} (line : H → FieldLine) (xs : List H) (i : ℕ) (x : H) (f : FieldLine) (t : Table)
-    (base other : ℕ) (mid new : Table) (lines_old lines_mid lines_new written_old written_mid written_new : List ℕ)
-    → i < length xs → x ≡ get_or xs i x → other ≡ base → f ≡ line x
-    → AddsChosen (map line (take i xs)) t base mid lines_old lines_mid written_old written_mid
-    → AddsOne f other mid new lines_mid lines_new written_mid written_new
-    → AddsChosen (map line (take (i + 1) xs)) t base new lines_old lines_new written_old written_new
-chosen_next line xs i x f t base other mid new lines_old lines_mid lines_new written_old written_mid written_new within
-    is same lent so_far more =
-    rw (front_of line xs i x within, ← is)
-    (chosen_last t base (map line (take i xs)) (line x) mid new lines_old lines_mid lines_new written_old written_mid
-    written_new so_far
-    (subst (λ (b : ℕ). AddsOne (line x) b mid new lines_mid lines_new written_mid written_new) same
-    (subst (λ (l : FieldLine). AddsOne l other mid new lines_mid lines_new written_mid written_new) lent more)))
 
 stops_chosen : {H : Type 0} (line : H → FieldLine) (xs : List H) (i : ℕ) (x : H) (t : Table) (base : ℕ)
     (mid new : Table) (lines_old lines_mid written_old written_mid written_new : List ℕ)

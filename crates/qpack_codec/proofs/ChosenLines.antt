@@ -9,7 +9,7 @@ use Rattle.std.proofs.lemmas.List.{length-map}
 use Rattle.std.proofs.lemmas.Option.{slice_get_within}
 use Rattle.qpack_spec.specs.Chosen.{Chosen, Alone, References, Names, Inserts, passes_at, literal_alone, line_alone}
 use Rattle.qpack_spec.specs.Chosen.{literal_chosen, line_chosen, unreferenced_chosen, chosen_field}
-use Rattle.qpack_spec.specs.Chosen.{with_unreferenced_entry, alone_chosen, some_passes}
+use Rattle.qpack_spec.specs.Chosen.{alone_chosen, some_passes}
 use Rattle.qpack_spec.specs.Field.{Field, FieldLine, has_name, is_field}
 use Rattle.qpack_spec.specs.Handle.{Lookup, AtStatic, AtRelative, AtPostBase, NotFound, Found, found_entry, lookup_of}
 use Rattle.qpack_spec.specs.Handle.{literal_at, line_of, answer_of, Insertion, Insertable}
@@ -340,19 +340,6 @@ adds_only_alone t base l (choice.TheVariants.Named inserts) lines_old lines_new 
 adds_only_alone t base l choice.TheVariants.Inserted lines_old lines_new none equal named inserted lines =
     absurd (inserted refl)
 
--- a literal is the line of a field that no static field equals
-named_is_line : (t : Table) (base : ℕ) (f : Field) (o : Option ℕ) → static_index f ≡ None
-    → literal_chosen base (draft_at t) f (by_entry Names o) ≡ line_chosen base (draft_at t) f (by_entry Names o)
-named_is_line t base f None none = rw none refl
-named_is_line t base f (Some a) none = rw none refl
-
-pub line_of_named : (t new : Table) (base : ℕ) (l : FieldLine) (o : Option ℕ) (lines_old lines_new : List ℕ)
-    → static_index l.field ≡ None
-    → AddsLine l (literal_chosen base (draft_at t) l.field (by_entry Names o)) new lines_old lines_new
-    → AddsLine l (line_chosen base (draft_at t) l.field (by_entry Names o)) new lines_old lines_new
-line_of_named t new base l o lines_old lines_new none =
-    subst (λ (d : Draft). AddsLine l d new lines_old lines_new) (named_is_line t base l.field o none)
-
 -- ---- a marked field
 
 -- any choice but a name is a literal without the dynamic table
@@ -439,45 +426,6 @@ record AfterLine (d x y : Draft) : Type 0 where
   table : x.table ≡ y.table
   lines : x.lines ≡ d.lines
   instructions : x.instructions ≡ y.instructions
-
-after_if : (b : Bool) (d : Draft) (f : Field) → d.instructions ≡ []
-    → AfterLine d (cond b (with_unreferenced_entry d f) d)
-    (cond b (with_unreferenced_entry (draft_at d.table) f) (draft_at d.table))
-after_if true d f none =
-    record {
-      table = refl;
-      lines = refl;
-      instructions = ap (λ is. is ++ instruction_for f (entries_left d.table f) ∷ []) none;
-    }
-after_if false d f none = record { table = refl; lines = refl; instructions = none }
-
-after_line : (d : Draft) (mid : Table) (f : Field) → mid ≡ d.table → d.instructions ≡ []
-    → AfterLine d (unreferenced_chosen true d f) (unreferenced_chosen true (draft_at mid) f)
-after_line d mid f is none =
-    subst (λ (t : Table). AfterLine d (unreferenced_chosen true d f) (unreferenced_chosen true (draft_at t) f)) (sym is)
-    (after_if (true && has_room d.table f) d f none)
-
--- its line was written, and then it was inserted without a reference where there was room
-pub adds_inserted : (t mid new : Table) (base : ℕ) (l : FieldLine) (c : choice.Choice)
-    (lines_old lines_new written_old written_new : List ℕ) → l.never_indexed ≡ false → inserts_after c ≡ true
-    → AddsLine l (line_chosen base (draft_at t) l.field (line_choice t l.field c)) mid lines_old lines_new
-    → new ≡ (unreferenced_chosen true (draft_at mid) l.field).table
-    → written_new ≡ written_old
-    ++ written_encoder_instructions (unreferenced_chosen true (draft_at mid) l.field).instructions
-    → AddsLines (l ∷ []) (chosen_field base (draft_at t) l (chosen_of t l.field c)) new lines_old lines_new written_old
-    written_new
-adds_inserted t mid new base l c lines_old lines_new written_old written_new unmarked inserts k now written =
-    let d = line_chosen base (draft_at t) l.field (line_choice t l.field c) in
-    let is : chosen_field base (draft_at t) l (chosen_of t l.field c) ≡ unreferenced_chosen true d l.field =
-    unmarked_is t base l (chosen_of t l.field c) unmarked
-    ∙ ap (λ (b : Bool). unreferenced_chosen b d l.field) inserts in
-    let after = after_line d mid l.field k.table k.none in
-    subst (λ (x : Draft). AddsLines (l ∷ []) x new lines_old lines_new written_old written_new) (sym is)
-    (record {
-      table = now ∙ sym after.table;
-      lines = k.lines ∙ ap (λ ls. lines_old ++ written_marked_lines (l ∷ []) ls) (sym after.lines);
-      written = written ∙ ap (λ is. written_old ++ written_encoder_instructions is) (sym after.instructions);
-    })
 
 -- ---- a field that is inserted for its line
 
@@ -640,11 +588,6 @@ static_chosen t base l index lines_old lines_new written unmarked at lines =
 
 -- ---- an insertion that no line references
 
-pub unreferenced_table : (t new : Table) (base : ℕ) (f : Field) (insertion : Insertion) → has_room t f ≡ true
-    → unreferenced_insertion t base f ≡ record { insertion = insertion; table = new }
-    → new ≡ (unreferenced_chosen true (draft_at t) f).table
-unreferenced_table t new base f insertion room is = rw room (sym (ap (λ (x : Insertable). x.table) is))
-
 pub unreferenced_written : (t new : Table) (base : ℕ) (f : Field) (insertion : Insertion)
     (written_old written_new : List ℕ) → has_room t f ≡ true
     → unreferenced_insertion t base f ≡ record { insertion = insertion; table = new }
@@ -655,10 +598,6 @@ unreferenced_written t new base f insertion written_old written_new room is writ
     rw room (written
     ∙ ap (λ (b : List ℕ). written_old ++ b)
     (insertion_written t base f insertion (ap (λ (x : Insertable). x.insertion) is)))
-
-pub no_room_table : (t new : Table) (f : Field) → has_room t f ≡ false → new ≡ t
-    → new ≡ (unreferenced_chosen true (draft_at t) f).table
-no_room_table t new f room same = rw room same
 
 pub no_room_written : (t : Table) (f : Field) (written_old written_new : List ℕ) → has_room t f ≡ false
     → written_new ≡ written_old

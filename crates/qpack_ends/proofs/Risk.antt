@@ -70,11 +70,6 @@ or_neither : (b c : Bool) → (b || c) ≡ false → (b ≡ false) × (c ≡ fal
 or_neither true c h = absurd cc
 or_neither false c h = (refl, h)
 
-same_if : (b c : Bool) → (b ≡ true → c ≡ true) → (c ≡ true → b ≡ true) → b ≡ c
-same_if true c f g = sym (f refl)
-same_if false true f g = g refl
-same_if false false f g = refl
-
 -- ---- numbers, each once
 
 differs : (x a : ℕ) → nat_eq x a ≡ false → nat_eq a x ≡ false
@@ -248,10 +243,6 @@ kept_count rs t k =
       no_longer streams (streams_at_risk t) k.once (λ a e. sym (kept_is rs t a k) ∙ e),
       no_longer (streams_at_risk t) streams (at_risk_distinct t) (λ a e. kept_is rs t a k ∙ e),
     )
-
-pub none_at_risk : (t : Table) → t.unacknowledged ≡ [] → t.known_received_count ≡ 0 → AreAtRisk [] t
-none_at_risk t none first =
-    record { once = tt; above = tt; small = tt; known = omega (arith, first); each = λ known s le. rw none refl }
 
 -- it stays so where the table changes otherwise
 pub kept_same : (rs : List BlockedStream) (t u : Table) → u.known_received_count ≡ t.known_received_count

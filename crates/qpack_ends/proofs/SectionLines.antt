@@ -83,15 +83,6 @@ pub record Goes (u : LinesUnder) (number all : ℕ) (rest : List ℕ) (front : L
   pub enough : length rest ≤ steps
   pub is : with_front front (strict_lines_at steps u number all rest) ≡ whole
 
-pub goes_first : (u : LinesUnder) (rest : List ℕ)
-    → Goes u 0 0 rest [] (strict_lines_at (length rest) u 0 0 rest)
-goes_first u rest =
-    record { steps = length rest; enough = omega arith; is = none (strict_lines_at (length rest) u 0 0 rest) }
-  where
-    none : (r : Result (List FieldLine) SectionFault) → with_front [] r ≡ r
-    none (Ok fs) = refl
-    none (Err e) = refl
-
 pub goes_end : (u : LinesUnder) (number all : ℕ) (rest : List ℕ) (front : List FieldLine)
     (whole : Result (List FieldLine) SectionFault) → Goes u number all rest front whole → rest ≡ [] → whole ≡ Ok front
 unfolding strict_lines_at

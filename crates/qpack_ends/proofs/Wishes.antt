@@ -1,45 +1,16 @@
 -- A choice that keeps to the caller's word suits it, also as one of a section.
-use Rattle.std.proofs.Common.{◌≡◌, ℕ, Bool, Option, None, Some, true, false, List, [], ◌∷◌, refl, ap}
+use Rattle.std.proofs.Common.{ℕ, Bool, Option, None, Some, true, false, List, [], ◌∷◌}
 use Rattle.qpack_spec.specs.Chosen as chosen
 use Rattle.qpack_spec.specs.Chosen.{Chosen, chosen_field}
-use Rattle.qpack_spec.specs.Field.{Field, FieldLine, is_field, has_name}
+use Rattle.qpack_spec.specs.Field.{FieldLine}
 use Rattle.qpack_spec.specs.Rule.{Draft, empty_draft}
 use Rattle.qpack_spec.specs.StaticTable.{static_index}
-use Rattle.qpack_spec.specs.Table.{Table, insert_count, newest_index}
-use Rattle.qpack_codec.specs.Choices.{by_entry, line_choice, chosen_of}
+use Rattle.qpack_spec.specs.Table.{Table, insert_count}
 use Rattle.qpack_codec.specs.ChoosesAlong.{ChoosesUnless, ChoosesField, ChoosesAlong}
 use Rattle.qpack_codec.specs.ChosenSections.{EncodesAlong}
-use Rattle.qpack_codec.specs.declared.encoder.choices.Choice.{Choice}
-use Rattle.qpack_codec.specs.declared.encoder.choices.Choice.TheVariants.{Alone, Equal, Named, Inserted}
 use Rattle.qpack_codec.specs.declared.encoder.choices.Wish.{Wish}
-use Rattle.qpack_codec.specs.declared.encoder.choices.Wish.TheVariants.{Unmarked, Reuse, Insert, Never}
 use Rattle.qpack_ends.specs.Encoders.{EncodingEnd}
-use Rattle.qpack_ends.specs.Wishes.{KeepsWish, SuitsWish, by_wish, SuitsUnless, SuitsField, SuitAlong, KeepsWishes}
-
--- a line by an entry is no insertion
-named_is_none : (o : Option ℕ) → by_entry chosen.Names o ≡ chosen.Inserts → ⊥
-named_is_none None is = absurd cc
-named_is_none (Some a) is = absurd cc
-
-inserts_alone : (t : Table) (f : Field) (c : Choice) → (c ≡ Inserted → ⊥) → line_choice t f c ≡ chosen.Inserts → ⊥
-inserts_alone t f (Alone inserts) not is = absurd cc
-inserts_alone t f (Equal entry inserts) not is = absurd cc
-inserts_alone t f (Named inserts) not is = named_is_none (newest_index t (has_name f.name)) is
-inserts_alone t f Inserted not is = not refl
-
-pub keeps_suits : (t : Table) (l : FieldLine) (w : Wish) (newest : Option ℕ) (c : Choice)
-    → (l.never_indexed ≡ false → newest ≡ newest_index t (is_field l.field)) → KeepsWish t l.field w newest c
-    → SuitsWish t l w (chosen_of t l.field c)
-keeps_suits t l Insert None c is keeps = λ plain none.
-    record {
-      referenced = λ may. ap (λ (x : Choice). line_choice t l.field x) (keeps.0 may);
-      unreferenced = λ limit. keeps.1 limit;
-    }
-keeps_suits t l Insert (Some a) c is keeps = λ plain none. absurd (let k = is plain in cc)
-keeps_suits t l Reuse newest c is keeps = λ plain.
-    record { line = λ inserts. inserts_alone t l.field c keeps.0 inserts; unreferenced = keeps.1 }
-keeps_suits t l Unmarked newest c is keeps = tt
-keeps_suits t l Never newest c is keeps = tt
+use Rattle.qpack_ends.specs.Wishes.{by_wish, SuitsUnless, SuitsField, SuitAlong, KeepsWishes}
 
 -- ---- along the fields of a section
 

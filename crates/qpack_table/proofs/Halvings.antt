@@ -26,12 +26,6 @@ counts_more n left less old now new h some half raised grows = record {
 pub counts_all : (n left old new : ℕ) → CountsHalved n left old new → Counts n old new
 counts_all n left old new h = (h.least, λ all g. let m = h.most all g in omega (arith, m.2))
 
--- where it ends in the middle
-pub counts_found : (n left old now new : ℕ) → CountsHalved n left old now → 0 < left → new ≤ now + 1 → now ≤ new
-    → Counts n old new
-counts_found n left old now new h some raised grows =
-    counts_all n 0 old new (counts_more n left 0 old now new h some (omega arith) raised grows)
-
 pub counts_fewer : (m n old new : ℕ) → m ≤ n → Counts m old new → Counts n old new
 counts_fewer m n old new h c = (c.0, λ digits g. c.1 digits (omega (arith, h, g)))
 

@@ -1,7 +1,7 @@
 -- The marks of entries: which ones the block in progress references, and how many blocks reference each.
 use Rattle.std.proofs.Common.{◌≡◌, ℕ, zero, suc, ◌+◌, ◌-◌, ◌<◌, ◌≤◌, Bool, true, false, List, [], ◌∷◌, ◌++◌}
 use Rattle.std.proofs.Common.{length, map, drop, Some, refl, sym, ap, subst, ◌∙◌, arith, rules, get_or}
-use Rattle.std.proofs.Common.{append-nil, append_assoc}
+use Rattle.std.proofs.Common.{append-nil}
 use Rattle.std.specs.Prelude.{slice_get, slice_set, nat_eq}
 use Rattle.std.proofs.lemmas.Bool.{ne_eqb}
 use Rattle.std.proofs.lemmas.List.{drop_all, drop_more}
@@ -9,7 +9,6 @@ use Rattle.std.proofs.lemmas.Option.{slice_get_within}
 use Rattle.qpack_spec.specs.Table.{has_number}
 use Rattle.qpack_table.specs.Tables.{times, entry_of, entries_of, uses_of, flags_of, AreUsed, AreFlagged, AreCounted}
 use Rattle.qpack_table.specs.declared.dynamic.entry.Entry.{Entry}
-use Rattle.qpack_table.proofs.References.{times_append}
 use Rattle.qpack_table.proofs.EvictableEntries.{item_there}
 
 -- ---- one entry is written
@@ -233,36 +232,6 @@ counted_all dropped before now all i k end rest h =
     subst (λ (l : List ℕ). AreCounted dropped now (l ++ rest)) (drop_all i all end) (k.counts rest h)
 
 -- ---- what a block references, all of it
-
--- the first of some references are counted no more
-pub lowered_by : (dropped : ℕ) (before now next : List Entry) (first left all : List ℕ)
-    → Lowered dropped before now (first ++ left) all → entries_of next ≡ entries_of now → flags_of next ≡ flags_of now
-    → ((rest : List ℕ) → AreCounted dropped now (first ++ rest) → AreCounted dropped next rest)
-    → ((rest : List ℕ) → AreUsed dropped now (first ++ rest) → AreUsed dropped next rest)
-    → Lowered dropped before next left all
-lowered_by dropped before now next first left all k live flags counts uses = record {
-  live = live ∙ k.live;
-  flags = flags ∙ k.flags;
-  counts = λ rest h. counts (left ++ rest)
-      (subst (λ (l : List ℕ). AreCounted dropped now l) (append_assoc first left rest) (k.counts rest h));
-  uses = λ rest h. uses (left ++ rest)
-      (subst (λ (l : List ℕ). AreUsed dropped now l) (append_assoc first left rest) (k.uses rest h));
-}
-
--- they are counted, as others behind them are
-pub counted_first : (dropped : ℕ) (es : List Entry) (first rest : List ℕ) → AreCounted dropped es (first ++ rest)
-    → AreCounted dropped es first
-counted_first dropped es first rest h = λ position e at. omega (
-  arith,
-  h position e at,
-  times_append (dropped + position + 1) first rest,
-)
-
-pub counted_start : (dropped : ℕ) (before now : List Entry) (left all : List ℕ) → AreCounted dropped before all
-    → Lowered dropped before now left all → AreCounted dropped now left
-counted_start dropped before now left all start k =
-    subst (λ (l : List ℕ). AreCounted dropped now l) (append-nil left)
-    (k.counts [] (subst (λ (l : List ℕ). AreCounted dropped before l) (sym (append-nil all)) start))
 
 pub used_counted : (dropped : ℕ) (es : List Entry) (references more : List ℕ)
     → ((a : ℕ) → times a references ≤ times a more) → AreUsed dropped es more → AreCounted dropped es references

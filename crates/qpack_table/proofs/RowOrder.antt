@@ -1,5 +1,5 @@
 -- The order of fields, and of slots by their hashes and a part of their fields.
-use Rattle.std.proofs.Common.{◌≡◌, ℕ, List, refl, sym, ap, subst, ◌∙◌, inl, inr, ◌⊎◌}
+use Rattle.std.proofs.Common.{◌≡◌, ℕ, List, refl, sym, ap, subst, ◌∙◌}
 use Rattle.std.specs.Cmp.Lexicographic.{slice_cmp}
 use Rattle.std.specs.Cmp.{IsTotalOrder}
 use Rattle.std.specs.declared.cmp.Ordering.{Ordering}
@@ -120,21 +120,6 @@ same_key k l h = both (ranked k.hash l.hash Equal (sym (first_ties _ _ h))) (sam
 pub tie_of : (k l : Key) → k.hash ≡ l.hash → k.field ≡ l.field → key_cmp k l ≡ Equal
 tie_of k l hash field = (λ i. key_cmp k (record { hash = sym hash i; field = sym field i })) ∙ tied_itself
     key_cmp_total k
-
--- whether two fields are the same
-pub cases_field : (f g : Field) → (f ≡ g) ⊎ (f ≡ g → ⊥)
-cases_field f g = pick (field_cmp f g) refl
-  where
-    pick : (r : Ordering) → field_cmp f g ≡ r → (f ≡ g) ⊎ (f ≡ g → ⊥)
-    pick Less e = inr (λ h. unlike (sym e ∙ equal_when_same f g h))
-      where
-        unlike : Less ≡ Equal → ⊥
-        unlike q = cc
-    pick Equal e = inl (same_when_equal f g e)
-    pick Greater e = inr (λ h. unlike (sym e ∙ equal_when_same f g h))
-      where
-        unlike : Greater ≡ Equal → ⊥
-        unlike q = cc
 
 -- an order is one alone
 pub not_less_and_equal : (r : Ordering) → r ≡ Less → r ≡ Equal → ⊥

@@ -93,12 +93,6 @@ module _ (part : Part) (dropped : ℕ) (live : List Field) (row : List Slot) (is
               subst (λ (i : ℕ). key_cmp (key i d) k ≡ Greater) same (at d)
         ]
 
-    pub matched : key_cmp (key_at part dropped live slot) k ≡ Equal → IsMatch part dropped live row k middle
-    matched equal = record {
-      within = omega (arith, to, h.within);
-      equal = λ d. ap (λ (s : Slot). key_cmp (key_at part dropped live s) k) (there d) ∙ equal;
-    }
-
   pub ends : (low high : ℕ) → Searching part dropped live row k low high → high ≤ low
       → IsGap part dropped live row k low
   ends low high h le = record {

@@ -153,14 +153,6 @@ module _ (part : Part) (dropped : ℕ) (live : List Field) (row : List Slot) (is
         ∙ tied_parts t s e c (sym same)) in
         ap (λ (x : Slot). x.index) (sym first ∙ ap (λ (i : ℕ). get_or row i s) place ∙ second)
 
-    -- what doesn't have it
-    pub leaves_none : (index : ℕ) → HasNoIndex row index → Leaves row row index
-    leaves_none index none = record {
-      kept = λ s c ne. c;
-      only = λ s c. c;
-      gone = λ s c e. none c.0 s c.1 (ap (λ (x : Slot). x.index) c.2 ∙ e);
-    }
-
     module _ (index p : ℕ) (at : HasIndexAt row index p) (slot : Slot) (read : slot ≡ get_or row p slot) where
       went : IsPermutation row (slot ∷ remove row p)
       went = IsPermutation-remove row p slot at.within read

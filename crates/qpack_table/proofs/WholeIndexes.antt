@@ -2,7 +2,7 @@
 use Rattle.std.proofs.Common.{refl, ◌≡◌, ℕ, ◌+◌, ◌-◌, ◌<◌, ◌≤◌, [], ◌∷◌, ◌++◌, List, length, get_or, drop, sym, ap}
 use Rattle.std.proofs.Common.{subst, ◌∙◌, inl, inr, ◌⊎◌, arith}
 use Rattle.std.proofs.lemmas.Bool.{cases_lt}
-use Rattle.std.proofs.lemmas.List.{length-drop, length-append, get_or_append_left, get_or-drop}
+use Rattle.std.proofs.lemmas.List.{length-drop, length-append, get_or_append_left}
 use Rattle.std.proofs.Math.Seq.{get_or-append_seam}
 use Rattle.qpack_base.specs.HeaderFields.{field_of}
 use Rattle.qpack_spec.specs.Field.{Field, FieldLine, unmarked}
@@ -15,7 +15,7 @@ use Rattle.qpack_table.specs.declared.dynamic.index.Index.{Index}
 use Rattle.qpack_table.specs.declared.dynamic.index.hash.Hashes.{Hashes}
 use Rattle.qpack_table.specs.declared.dynamic.index.row.Part.{Part}
 use Rattle.qpack_table.specs.declared.dynamic.index.row.Part.TheVariants.{Name, Whole}
-use Rattle.qpack_table.proofs.RowChanges.{field_pushed, drop_field}
+use Rattle.qpack_table.proofs.RowChanges.{field_pushed}
 use Rattle.qpack_table.proofs.RowSearches.{entry_part}
 use Rattle.qpack_table.proofs.RowsChanges.{rows_pushed}
 use Rattle.qpack_table.proofs.Evictions.{joined_fields}
@@ -53,22 +53,6 @@ hashes_entered dropped live entered index hashes new h are next is made =
         subst (λ (x : Hashes). AreHashesOf x (field_at dropped live (dropped + k + 1)))
         (sym (get_or-append_seam hashes h [] d) ∙ ap (λ (i : ℕ). get_or (hashes ++ h ∷ []) i d) last)
         (subst (λ (a : ℕ). AreHashesOf h (field_at dropped live a)) there is)
-
-pub hashes_left : (dropped : ℕ) (live : List Field) (entered : ℕ) (hashes new : List Hashes) → 0 < entered
-    → AreAllHashesOf dropped live entered hashes → new ≡ drop 1 hashes
-    → AreAllHashesOf (dropped + 1) (drop 1 live) (entered - 1) new
-hashes_left dropped live entered hashes new inside are made =
-    subst (λ (l : List Hashes). AreAllHashesOf (dropped + 1) (drop 1 live) (entered - 1) l) (sym made) (record {
-      counted = omega (arith, length-drop 1 hashes, are.counted);
-      hashed = λ k d lt.
-          let there : dropped + (1 + k) + 1 ≡ dropped + 1 + k + 1 = omega arith in
-          subst (λ (x : Hashes). AreHashesOf x (field_at (dropped + 1) (drop 1 live) (dropped + 1 + k + 1)))
-          (sym (get_or-drop 1 hashes k d))
-          (subst (λ (f : Field). AreHashesOf (get_or hashes (1 + k) d) f)
-          (sym (drop_field dropped live (dropped + 1 + k + 1) (omega arith)))
-          (subst (λ (a : ℕ). AreHashesOf (get_or hashes (1 + k) d) (field_at dropped live a)) there
-          (are.hashed (1 + k) d (omega (arith, lt, inside)))));
-    })
 
 -- hashes that stay
 pub hashes_same : (dropped : ℕ) (live : List Field) (entered : ℕ) (hashes now : List Hashes) → now ≡ hashes
@@ -132,20 +116,6 @@ index_joined dropped es now e index is items =
     (index_pushed dropped (live_fields es) (field_of e.field) index
     (subst (λ (n : ℕ). IsIndexOf dropped (live_fields es) n index) (sym long) is)))
 
--- its hashes are those of the newest
-pub hashes_joined : (dropped : ℕ) (es now : List Entry) (e : Entry) (absolute : ℕ) (hashes : Hashes)
-    → AreHashesOf hashes (field_of e.field) → now ≡ es ++ e ∷ [] → absolute ≡ dropped + length es + 1
-    → AreHashesOf hashes (field_at dropped (live_fields now) absolute)
-hashes_joined dropped es now e absolute hashes are items newest =
-    let none : Field = record { name = []; value = [] } in
-    let position : absolute - dropped - 1 ≡ length (live_fields es) = omega (arith, newest, fields_long es) in
-    let same : field_at dropped (live_fields now) absolute ≡ field_of e.field =
-    ap (λ (l : List Field). get_or l (absolute - dropped - 1) none)
-    (ap (λ (l : List Entry). live_fields l) items ∙ joined_fields es e)
-    ∙ ap (λ (i : ℕ). get_or (live_fields es ++ field_of e.field ∷ []) i none) position
-    ∙ get_or-append_seam (live_fields es) (field_of e.field) [] none in
-    subst (λ (f : Field). AreHashesOf hashes f) (sym same) are
-
 -- how many were dropped so far, as the code counts them
 pub record DroppedThere (total dropped count inserted len : ℕ) : Type 0 where
   pub fits : len ≤ inserted
@@ -194,13 +164,3 @@ index_before from dropped absolute left now e index is items same at =
     subst (λ (n : ℕ). IsIndexOf dropped (live_fields now) n index) count
     (subst (λ (d : ℕ). IsIndexOf d (live_fields now) (length left) index) (sym same)
     (index_joined from left now e index is items))
-
-pub index_behind : (to dropped absolute : ℕ) (left now : List Entry) (e : Entry) (index : Index)
-    → IsIndexOf dropped (live_fields now) (absolute - dropped) index → now ≡ left ++ e ∷ [] → dropped ≡ to
-    → NewestThere dropped absolute (length left) → IsIndexOf to (live_fields now) (length now) index
-index_behind to dropped absolute left now e index is items same at =
-    let long : length now ≡ length left + 1 =
-    ap (λ (l : List Entry). length l) items ∙ length-append left (e ∷ []) in
-    let count : absolute - dropped ≡ length now = omega (arith, at.is, long) in
-    subst (λ (d : ℕ). IsIndexOf d (live_fields now) (length now) index) same
-    (subst (λ (n : ℕ). IsIndexOf dropped (live_fields now) n index) count is)

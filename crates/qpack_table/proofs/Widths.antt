@@ -114,9 +114,6 @@ position_within count hash some = pick (width_is count) (cases_lt (hash % width_
 
 module _ (count number width position : ℕ) (is : IsWidth count width) (masks : position ≡ bit_and number (width - 1))
   where
-    pub width_some : 0 < width
-    width_some = positive count width is
-
     same_width : width ≡ width_of count
     same_width = one_width count width (width_of count) is (width_is count)
 
@@ -127,9 +124,6 @@ module _ (count number width position : ℕ) (is : IsWidth count width) (masks :
 
     pub found_low : position < count → position ≡ position_among count number
     found_low lt = left ∙ sym (position_low count number (omega (arith, lt, left)))
-
-    pub half_within : 0 < count → count ≤ position → width / 2 ≤ position
-    half_within some ge = omega (arith, ge, half_below count width is some)
 
     pub found_high : count ≤ position → position - width / 2 ≡ position_among count number
     found_high ge =

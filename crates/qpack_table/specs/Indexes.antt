@@ -71,8 +71,8 @@ abbrev pub slots_at : List Row → ℕ → Row → ℕ
 slots_at rows hash d = length ((slice_index_or rows (position_among (length rows) hash) d).slots.items)
 
 -- the row of a hash is crowded, and there are fewer rows than `most`
-abbrev pub WantsRow : (most : ℕ) → List Row → (hash : ℕ) → Type 0
-WantsRow most rows hash = (length rows < most) × ((d : Row) → 2 ≤ slots_at rows hash d)
+abbrev pub NeedsRow : (most : ℕ) → List Row → (hash : ℕ) → Type 0
+NeedsRow most rows hash = (length rows < most) × ((d : Row) → 2 ≤ slots_at rows hash d)
 
 -- the row of a hash has room for one more
 pub record HasRoomFor (rows : List Row) (hash : ℕ) : Type 0 where
@@ -126,15 +126,15 @@ abbrev pub GrowsRows : (entries old new : ℕ) → Type 0
 GrowsRows entries old new = (entries < old → new ≡ old) × (old ≤ entries → new ≡ one_row_more old)
 
 -- the row of names of such hashes is crowded, and there are fewer of names than of fields
-abbrev pub WantsRowOfNames : Hashes → Index → Type 0
-WantsRowOfNames hashes index = WantsRow (length index.fields.rows.items) index.names.rows.items hashes.name
+abbrev pub NeedsRowOfNames : Hashes → Index → Type 0
+NeedsRowOfNames hashes index = NeedsRow (length index.fields.rows.items) index.names.rows.items hashes.name
 
--- where room is made for an entry with such hashes, one row of names more is made if it is wanted; at first 16
+-- where room is made for an entry with such hashes, one row of names more is made if it is needed; at first 16
 pub record GrowsNames (hashes : Hashes) (old new : Index) : Type 0 where
   pub first : length old.fields.rows.items ≡ 0 → length new.names.rows.items ≡ 16
-  pub still : 0 < length old.fields.rows.items → (WantsRowOfNames hashes old → ⊥)
+  pub still : 0 < length old.fields.rows.items → (NeedsRowOfNames hashes old → ⊥)
       → length new.names.rows.items ≡ length old.names.rows.items
-  pub made : WantsRowOfNames hashes old → length new.names.rows.items ≡ length old.names.rows.items + 1
+  pub made : NeedsRowOfNames hashes old → length new.names.rows.items ≡ length old.names.rows.items + 1
 
 -- rows that have room for at most half as many more, or for one
 abbrev pub HasFewSpare : Rows → Type 0

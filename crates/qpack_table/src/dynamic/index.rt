@@ -10,7 +10,7 @@ ghost use Rattle.qpack_table.specs.Tables.{entries_of, live_fields};
 ghost use Rattle.qpack_table.specs.declared.dynamic.index.hash.Hashes.{Hashes};
 ghost use Rattle.qpack_table.specs.Hashes.{name_hash};
 ghost use Rattle.qpack_table.specs.Indexes.{AreHashesOf, IsIndexOf, HasRoomForEntry, IsNewestIn};
-ghost use Rattle.qpack_table.specs.Indexes.{IsIndex, KeepsIndexed, HasNoRows, WantsRowOfNames};
+ghost use Rattle.qpack_table.specs.Indexes.{IsIndex, KeepsIndexed, HasNoRows, NeedsRowOfNames};
 ghost use Rattle.qpack_table.specs.Indexes.{GrowsRows, GrowsNames, one_row_more, HasFewSpare, MakesRoomForHashes};
 
 mod hash;
@@ -153,7 +153,7 @@ impl Index {
         ensures err { OnErr result (length self.new.fields.rows.items ≡ length self.old.fields.rows.items) }
         ensures room { OnOk result (HasRoomForEntry hashes self.new) }
         ensures full { OnErr result (length entries.now.items < length self.old.fields.rows.items
-            → HasRoomForEntry hashes self.old → WantsRowOfNames hashes self.old) }
+            → HasRoomForEntry hashes self.old → NeedsRowOfNames hashes self.old) }
         ensures fields { HasFewSpare self.old.fields → HasFewSpare self.new.fields }
         ensures names { HasFewSpare self.old.names → HasFewSpare self.new.names }
         ensures hashes { MakesRoomForHashes result self.old self.new }
@@ -173,7 +173,7 @@ impl Index {
         ensures rows { length self.new.fields.rows.items ≡ length self.old.fields.rows.items }
         ensures rows_of_names { OnOk result (GrowsNames hashes self.old self.new) }
         ensures room { OnOk result (HasRoomForEntry hashes self.new) }
-        ensures full { OnErr result (HasRoomForEntry hashes self.old → WantsRowOfNames hashes self.old) }
+        ensures full { OnErr result (HasRoomForEntry hashes self.old → NeedsRowOfNames hashes self.old) }
         ensures fields { HasFewSpare self.old.fields → HasFewSpare self.new.fields }
         ensures names { HasFewSpare self.old.names → HasFewSpare self.new.names }
         ensures hashes { MakesRoomForHashes result self.old self.new }

@@ -9,7 +9,7 @@ ghost use Rattle.qpack_table.specs.Growth.{grown};
 ghost use Rattle.qpack_table.specs.Rows.{part_at, field_of_sought, IsHashed, Counts};
 ghost use Rattle.qpack_table.specs.Tables.{live_fields};
 ghost use Rattle.qpack_table.specs.Indexes.{AreRowsOf, AreRows, KeepsEntries, HasRoomFor, FindsNewest, IsSplitOf};
-ghost use Rattle.qpack_table.specs.Indexes.{WantsRow, GrowsByHalf, rows_behind};
+ghost use Rattle.qpack_table.specs.Indexes.{NeedsRow, GrowsByHalf, rows_behind};
 
 use crate::dynamic::entry::Entry;
 use crate::dynamic::growth::growth;
@@ -85,13 +85,13 @@ impl Rows {
         ensures rows { KeepsEntries self.old.rows.items self.new.rows.items }
         ensures few { length self.new.rows.items ≤ max (length self.old.rows.items) most }
         ensures many { length self.old.rows.items ≤ length self.new.rows.items }
-        ensures still { (WantsRow most self.old.rows.items hash → ⊥)
+        ensures still { (NeedsRow most self.old.rows.items hash → ⊥)
             → length self.new.rows.items ≡ length self.old.rows.items }
-        ensures made { OnOk result (WantsRow most self.old.rows.items hash
+        ensures made { OnOk result (NeedsRow most self.old.rows.items hash
             → length self.new.rows.items ≡ length self.old.rows.items + 1) }
         ensures err { OnErr result (length self.new.rows.items ≡ length self.old.rows.items) }
         ensures room { OnOk result (HasRoomFor self.new.rows.items hash) }
-        ensures full { OnErr result (HasRoomFor self.old.rows.items hash → WantsRow most self.old.rows.items hash) }
+        ensures full { OnErr result (HasRoomFor self.old.rows.items hash → NeedsRow most self.old.rows.items hash) }
         ensures capacity { GrowsByHalf self.old self.new }
     {
         let home = position_of(hash, self.rows.len());

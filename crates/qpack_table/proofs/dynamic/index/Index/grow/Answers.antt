@@ -7,6 +7,6 @@ returns-clause-rows_of_names c =
     omega (arith, c.count-2.ensures, c.in_ok-fields.ensures.count) in
     record {
       first = λ none. absurd (c.if-count-eq0.false (omega (arith, none, c.count.ensures)));
-      still = λ _ no. c.in_ok-reserve_within.ensures.still (λ wants. no (omega (arith, wants.0, most), wants.1));
-      made = λ wants. c.in_ok-reserve_within.ensures.made (omega (arith, wants.0, most), wants.1);
+      still = λ _ no. c.in_ok-reserve_within.ensures.still (λ needs. no (omega (arith, needs.0, most), needs.1));
+      made = λ needs. c.in_ok-reserve_within.ensures.made (omega (arith, needs.0, most), needs.1);
     }

@@ -18,6 +18,6 @@ returns-clause-rows_of_names c =
     let most = c.count.ensures in
     after_ok c.reserve.result _ _ (λ _. record {
       first = λ none. omega (arith, none, c.requires.some);
-      still = λ _ no. c.in_ok-reserve_within.ensures.still (λ wants. no (omega (arith, wants.0, most), wants.1));
-      made = λ wants. c.in_ok-reserve_within.ensures.made (omega (arith, wants.0, most), wants.1);
+      still = λ _ no. c.in_ok-reserve_within.ensures.still (λ needs. no (omega (arith, needs.0, most), needs.1));
+      made = λ needs. c.in_ok-reserve_within.ensures.made (omega (arith, needs.0, most), needs.1);
     }) c.reserve.ensures.room
