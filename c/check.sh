@@ -152,4 +152,6 @@ run "$room/bench" "$corpus" 3
 run "$room/bench" "$corpus" 3 4096 10
 compile bytes bytes.c -O2
 run "$room/bytes" "$corpus"
+compile huffman huffman.c -O2
+run "$room/huffman" "$corpus" 3
 echo "c/check.sh: $passed runs passed over $library, $with$left_out"
