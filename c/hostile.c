@@ -99,7 +99,7 @@ static void fill_tables(kind k) {
   __real_free(f);
 }
 
-/* ---- Fields of equal hashes, which the encoder's index keeps in one row, in order */
+/* ---- Fields whose hashes are equal with the seed 0: then the encoder's index keeps them in one row, in order */
 
 /* Returns whether the encoder finds the field of a place at this absolute index: else its value is in the section. */
 static int finds(h3_qpack_encoder *e, size_t place, size_t index) {
@@ -111,12 +111,12 @@ static int finds(h3_qpack_encoder *e, size_t place, size_t index) {
   return a.len < sizeof f.value && a.required == index;
 }
 
-/* Each insertion puts a slot in front of its row, and the eviction for it takes one near the front: so either moves nearly
- * all other slots of the row, sixteen bytes each. */
-static void move_slots(void) {
+/* With the seed 0, each insertion puts a slot in front of its row, and the eviction for it takes one near the front: so
+ * either moves nearly all other slots of the row, sixteen bytes each. */
+static void move_slots(const char *label, uint64_t encoder_seed) {
   size_t calls = size < 200 ? size / 2 : 100;
   h3_qpack_encoder e;
-  open_encoder(&e, size * FIELD, 16, 1000);
+  open_seeded(&e, size * FIELD, 16, 1000, encoder_seed);
   for (size_t i = 0; i < size; i++) {
     field f = field_of_place(calls + i);
     CHECK(encode_heard(&e, &f, NULL) == i + 1);
@@ -127,7 +127,7 @@ static void move_slots(void) {
     CHECK(encode_heard(&e, &f, NULL) == size + i + 1);
   }
   CHECK(most_taken() <= BASE + size * 1024);
-  end_case("encode", "each insertion and eviction moves the slots of its row", calls, 0);
+  end_case("encode", label, calls, 0);
   for (size_t place = 0; place < size + calls; place++) {
     int is_live = place < calls || place >= 2 * calls;
     CHECK(finds(&e, place, place < calls ? size + calls - place : place - calls + 1) == is_live);
@@ -477,7 +477,8 @@ static void declare(void) {
 static void run_size(void) {
   for (kind k = 0; k < KINDS; k++)
     if (k != ONE_ROW || size <= 10000) fill_tables(k); /* names for more are not found in seconds */
-  move_slots();
+  move_slots("each insertion and eviction moves the slots of its row", 0);
+  move_slots("the same fields, with another seed", 0x5eed);
   read_strings(&plain);
   read_strings(&shortest);
   read_strings(&longest);

@@ -174,7 +174,7 @@ static inline field *make_fields(kind k, size_t count) {
   return made;
 }
 
-/* The field of a place. All such have equal hashes, and sorted they stand in the order of their places. */
+/* The field of a place. With the seed 0 all such have equal hashes, and are sorted in the order of their places. */
 static inline field field_of_place(uint64_t place) {
   field f;
   memcpy(f.name, "x-one-x-one-x-on", 16);
@@ -186,13 +186,19 @@ static inline field field_of_place(uint64_t place) {
 
 static uint8_t section[1 << 12], stream[1 << 20];
 
-static inline void open_encoder(h3_qpack_encoder *e, size_t capacity, size_t blocked, size_t unacknowledged) {
+static inline void open_seeded(h3_qpack_encoder *e, size_t capacity, size_t blocked, size_t unacknowledged,
+                               uint64_t encoder_seed) {
   h3_qpack_encoder_settings settings;
   h3_qpack_encoder_settings_default(&settings);
   settings.max_capacity = settings.capacity = capacity;
   settings.max_blocked = blocked;
   settings.most_unacknowledged = unacknowledged;
+  settings.seed = encoder_seed;
   CHECK(!h3_qpack_encoder_new(e, &settings));
+}
+
+static inline void open_encoder(h3_qpack_encoder *e, size_t capacity, size_t blocked, size_t unacknowledged) {
+  open_seeded(e, capacity, blocked, unacknowledged, 0);
 }
 
 /* A decoder whose peer set the greatest capacity. */

@@ -3,7 +3,9 @@ package h3qpack
 // #include "bridge.h"
 import "C"
 
-// EncoderSettings are those that the peer sent, and what this side makes of its table. A zero of the last two is the
+import "hash/maphash"
+
+// EncoderSettings are those that the peer sent, and what this side makes of its table. A zero of the last three is the
 // default.
 type EncoderSettings struct {
 	// MaxCapacity is the peer's SETTINGS_QPACK_MAX_TABLE_CAPACITY, in bytes, below 2^30. For a peer with more pass 0.
@@ -16,6 +18,9 @@ type EncoderSettings struct {
 	// MostUnacknowledged is 100 by default. While that many sections that reference the table are unacknowledged,
 	// sections reference only the static table.
 	MostUnacknowledged uint64
+	// Seed is what the hashes of the table's fields are computed with, a random number by default. With one that nobody
+	// can guess, nobody can choose fields that take long to insert. No byte that is written depends on it.
+	Seed uint64
 }
 
 // inC returns the settings with their defaults.
@@ -29,6 +34,10 @@ func (s EncoderSettings) inC() C.h3_qpack_encoder_settings {
 	}
 	if s.MostUnacknowledged != 0 {
 		settings.most_unacknowledged = C.uint64_t(s.MostUnacknowledged)
+	}
+	settings.seed = C.uint64_t(s.Seed)
+	if s.Seed == 0 {
+		settings.seed = C.uint64_t(maphash.Bytes(maphash.MakeSeed(), nil))
 	}
 	return settings
 }

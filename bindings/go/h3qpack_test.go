@@ -310,6 +310,21 @@ func TestSettings(t *testing.T) {
 	}
 }
 
+func TestSeed(t *testing.T) {
+	var written [2][]byte
+	for i := range written {
+		encoder, err := NewEncoder(EncoderSettings{MaxCapacity: 4096, MaxBlocked: 16, Seed: uint64(i + 1)})
+		must(t, err)
+		defer encoder.Close()
+		for stream := uint64(0); stream < 12; stream += 4 {
+			written[i] = append(written[i], encode(t, encoder, stream, request).Section...)
+		}
+	}
+	if !bytes.Equal(written[0], written[1]) {
+		t.Fatalf("% x and % x by another seed", written[0], written[1])
+	}
+}
+
 func TestOutOfRange(t *testing.T) {
 	_, err := NewEncoder(EncoderSettings{MaxCapacity: 1 << 30})
 	expect(t, err, ErrInvalid)

@@ -353,6 +353,7 @@ int LLVMFuzzerTestOneInput(const uint8_t *p, size_t len) {
   settings.max_blocked = c.knows_peer ? c.max_blocked : 0;
   settings.capacity = p[3] / 4 % 2 ? c.max_capacity / 2 : 65536;
   settings.most_unacknowledged = c.most_unacknowledged;
+  settings.seed = p[3] / 8;
   CHECK(h3_qpack_encoder_new(&c.library, &settings) == H3_QPACK_OK);
   for (uint64_t i = 0; i < STREAMS; i++) c.streams[i] = i;
   strict_new_encoder(&c.strict);

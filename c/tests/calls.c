@@ -40,7 +40,7 @@ static void use_settings(void) {
   h3_qpack_decoder_settings_default(NULL);
   h3_qpack_encoder_settings_default(&es);
   h3_qpack_decoder_settings_default(&ds);
-  CHECK(!es.max_capacity && !es.max_blocked && es.capacity == 4096 && es.most_unacknowledged == 100);
+  CHECK(!es.max_capacity && !es.max_blocked && es.capacity == 4096 && es.most_unacknowledged == 100 && !es.seed);
   CHECK(!ds.max_capacity && !ds.max_blocked && ds.max_section_size == 65536);
   es.max_capacity = 200;
   es.max_blocked = 3;
@@ -485,12 +485,43 @@ static void keep_results(void) {
   h3_qpack_decoder_del(&d);
 }
 
+/* No byte depends on the seed: encoders of two seeds write the same of all lists. */
+static void compare_seeds(void) {
+  static uint8_t sections[2][1 << 16], streams[2][1 << 16];
+  h3_qpack_encoder_settings settings;
+  h3_qpack_encoder encoders[2];
+  h3_qpack_encoder_settings_default(&settings);
+  settings.max_capacity = 4096;
+  settings.max_blocked = settings.most_unacknowledged = 1000;
+  for (int i = 0; i < 2; i++) {
+    settings.seed = (uint64_t)i * 0x9e3779b97f4a7c15u;
+    CHECK(!h3_qpack_encoder_new(&encoders[i], &settings));
+  }
+  for (size_t i = 0; i < nlists; i++) {
+    size_t len[2], stream_len[2];
+    for (int k = 0; k < 2; k++) {
+      h3_qpack_encoded a =
+          h3_qpack_encoder_encode(&encoders[k], 4 * i, lists[i].nv, lists[i].len, sections[k], sizeof sections[k]);
+      CHECK(a.status == H3_QPACK_OK);
+      len[k] = a.len;
+      stream_len[k] = h3_qpack_encoder_write_encoder(&encoders[k], streams[k], sizeof streams[k]);
+    }
+    CHECK(len[0] == len[1] && !memcmp(sections[0], sections[1], len[0]));
+    CHECK(stream_len[0] == stream_len[1] && !memcmp(streams[0], streams[1], stream_len[0]));
+  }
+  for (int i = 0; i < 2; i++) {
+    CHECK(h3_qpack_encoder_get_icnt(&encoders[i]) > 0);
+    h3_qpack_encoder_del(&encoders[i]);
+  }
+}
+
 int main(int argc, char **argv) {
   CHECK(argc == 2);
   read_corpus(argv[1], 0);
   add_random_lists(50);
   compare_versions();
   use_settings();
+  compare_seeds();
   take_peer_settings();
   refuse_arguments();
   take_null_texts();

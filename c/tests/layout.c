@@ -59,6 +59,7 @@ static void print_settings(void) {
   FIELD(h3_qpack_encoder_settings, max_blocked);
   FIELD(h3_qpack_encoder_settings, capacity);
   FIELD(h3_qpack_encoder_settings, most_unacknowledged);
+  FIELD(h3_qpack_encoder_settings, seed);
   SIZE(h3_qpack_decoder_settings);
   FIELD(h3_qpack_decoder_settings, max_capacity);
   FIELD(h3_qpack_decoder_settings, max_blocked);

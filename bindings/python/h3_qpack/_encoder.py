@@ -1,5 +1,6 @@
 """The encoder of a connection."""
 
+import secrets
 from typing import Any, Iterable, NamedTuple, Optional
 
 from . import _library as lib
@@ -33,6 +34,9 @@ class Encoder(End):
     `most_unacknowledged` sections that reference the table are unacknowledged, by default 100, sections reference only
     the static table.
 
+    `seed` is what the hashes of the table's fields are computed with, below 2^64, by default a random number. With one
+    that nobody can guess, nobody can choose fields that take long to insert. No byte that is written depends on it.
+
     Raises InvalidArgument if a setting is out of its range.
     """
 
@@ -46,12 +50,14 @@ class Encoder(End):
         max_blocked: int = 0,
         capacity: Optional[int] = None,
         most_unacknowledged: Optional[int] = None,
+        seed: Optional[int] = None,
     ) -> None:
         given = {
             "max_capacity": max_capacity,
             "max_blocked": max_blocked,
             "capacity": capacity,
             "most_unacknowledged": most_unacknowledged,
+            "seed": secrets.randbits(64) if seed is None else seed,
         }
         super().__init__(lib.EncoderSettings(), given)
 

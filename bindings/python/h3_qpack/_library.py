@@ -82,6 +82,7 @@ class EncoderSettings(ctypes.Structure):
         ("max_blocked", c_uint64),
         ("capacity", c_uint64),
         ("most_unacknowledged", c_uint64),
+        ("seed", c_uint64),
     ]
 
 

@@ -214,6 +214,15 @@ class EndsTest(unittest.TestCase):
         with Encoder(max_capacity=4096, max_blocked=16, capacity=0) as encoder:
             self.assertEqual(encoder.encode(0, REQUEST).required, 0)
 
+    def test_seed(self) -> None:
+        written = []
+        for seed in (None, 0, 2**64 - 1):
+            with Encoder(max_capacity=4096, max_blocked=16, seed=seed) as encoder:
+                written.append([encoder.encode(stream, REQUEST).section for stream in (0, 4, 8)])
+        self.assertEqual(written[0], written[1])
+        self.assertEqual(written[1], written[2])
+        self.refused(InvalidArgument, lambda: Encoder(seed=2**64))
+
     def test_out_of_range(self) -> None:
         for number in (2**30, -1, 2**64):
             self.refused(InvalidArgument, lambda: Encoder(max_capacity=number))

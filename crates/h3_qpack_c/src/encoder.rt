@@ -69,7 +69,8 @@ fn begin(alloc: Global, settings: EncoderSettings) -> Result<State, SettingsErro
 }
 
 /// Makes an encoding end for a peer that sent these settings: its maximum capacity in bytes, below 2^30, and its limit
-/// of blocked streams. The end's own settings are its capacity, and how many sections may wait for acknowledgments.
+/// of blocked streams. The end's own settings are its capacity, how many sections may wait for acknowledgments, and the
+/// seed of its table's hashes.
 #[unsafe(no_mangle)]
 pub extern "C" fn h3q_encoder_new(
     alloc: Global,
@@ -77,6 +78,7 @@ pub extern "C" fn h3q_encoder_new(
     max_blocked: usize,
     capacity: usize,
     most_unacknowledged: usize,
+    seed: u64,
     out: &mut Slot,
 ) -> i32
     ensures { let settings : EncoderSettings = record {
@@ -84,6 +86,7 @@ pub extern "C" fn h3q_encoder_new(
       max_blocked = max_blocked;
       capacity = capacity;
       most_unacknowledged = most_unacknowledged;
+      seed = seed;
     } in Makes (max_capacity < 2 ^ 30) (KeepsNew settings out.new.value) (out.new ≡ out.old) result }
 {
     let settings = EncoderSettings {
@@ -91,6 +94,7 @@ pub extern "C" fn h3q_encoder_new(
         max_blocked,
         capacity,
         most_unacknowledged,
+        seed,
     };
     let Ok(state) = begin(alloc, settings) else {
         return INVALID;

@@ -54,6 +54,7 @@ encoder_settings s =
       max_blocked = s.decoder.max_blocked;
       capacity = s.capacity;
       most_unacknowledged = s.most_unacknowledged;
+      seed = 0;
     }
 
 -- both ends were made with these settings, and nothing has happened (section 3.2.3)

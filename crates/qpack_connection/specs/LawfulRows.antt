@@ -238,7 +238,7 @@ table_after p sections blocked =
 abbrev pub encoder_after : Table → List DecoderInstruction → List ℕ → EncodingEnd
 encoder_after t heard before =
     record {
-      settings = record { max_capacity = 220; max_blocked = 1; capacity = 220; most_unacknowledged = 16 };
+      settings = record { max_capacity = 220; max_blocked = 1; capacity = 220; most_unacknowledged = 16; seed = 0 };
       table = t;
       wanted = None;
       stream = record { pending = []; place = behind heard before };

@@ -56,6 +56,7 @@ server max_blocked inserted known sections heard before =
         max_blocked = max_blocked;
         capacity = 4096;
         most_unacknowledged = 100;
+        seed = 0;
       };
       table = record {
         capacity = 4096;

@@ -65,6 +65,7 @@ impl ConnectionSettings {
             max_blocked: self.decoder.max_blocked,
             capacity: self.capacity,
             most_unacknowledged: self.most_unacknowledged,
+            seed: 0,
         }
     }
 }

@@ -84,6 +84,9 @@ fn is_of_header_fields(word: &str) -> Result<bool> {
     }
 }
 
+/// A seed of the table's hashes, on which no byte depends.
+const SEED: u64 = 0x5EED;
+
 /// The settings of words.
 pub(crate) fn read_settings(words: &mut Words<'_>) -> Result<EncoderSettings> {
     Ok(EncoderSettings {
@@ -91,6 +94,7 @@ pub(crate) fn read_settings(words: &mut Words<'_>) -> Result<EncoderSettings> {
         max_blocked: words.count()?,
         capacity: words.count()?,
         most_unacknowledged: words.count()?,
+        seed: SEED,
     })
 }
 

@@ -63,17 +63,21 @@ pub struct EncoderSettings {
     /// How many sections may wait for acknowledgments (RFC 9204, section 4.4.1) before sections are written without
     /// references.
     pub most_unacknowledged: usize,
+    /// What the hashes of the table's index are computed with. The bytes that are written depend on no seed. With one
+    /// that nobody can guess, nobody can prepare fields that take long to insert.
+    pub seed: u64,
 }
 
 impl EncoderSettings {
     /// Returns settings with the peer's maximum capacity in bytes and its limit of blocked streams, a capacity of 4,096
-    /// bytes, and at most 100 sections that wait for acknowledgments.
+    /// bytes, at most 100 sections that wait for acknowledgments, and the seed 0.
     pub fn new(max_capacity: usize, max_blocked: usize) -> EncoderSettings
         ensures { result ≡ record {
           max_capacity = max_capacity;
           max_blocked = max_blocked;
           capacity = 4096;
           most_unacknowledged = 100;
+          seed = 0;
         } }
     {
         EncoderSettings {
@@ -81,6 +85,7 @@ impl EncoderSettings {
             max_blocked,
             capacity: DEFAULT_CAPACITY,
             most_unacknowledged: DEFAULT_UNACKNOWLEDGED,
+            seed: 0,
         }
     }
 
@@ -648,7 +653,7 @@ fn new_table(alloc: Global, settings: EncoderSettings) -> Result<DynamicTable, S
         × (t ≡ empty_table 0 (Some settings.max_capacity) 4096)) }
     ensures err { IfErr result (λ e. (e ≡ CapacityTooLarge) × (2 ^ 30 ≤ settings.max_capacity)) }
 {
-    let mut table = DynamicTable::new(alloc);
+    let mut table = DynamicTable::with_seed(alloc, settings.seed);
     if table.set_agreed_max(settings.max_capacity).is_err() {
         return Err(SettingsError::CapacityTooLarge);
     }

@@ -9,6 +9,9 @@ use h3_qpack::coding::Cursor;
 use qpack_ends::encoder::{ConnectionEncoder, EncoderSettings};
 use std::alloc::Global;
 
+/// A seed of the table's hashes, on which no byte depends.
+const SEED: u64 = 0x5EED;
+
 /// An encoding end, and how many lists it encoded.
 #[derive(Drop)]
 struct Sender {
@@ -17,9 +20,10 @@ struct Sender {
 }
 
 impl Sender {
-    /// Makes an encoding end of a browser's settings.
+    /// Makes an encoding end of a browser's settings, with another seed than the server's.
     fn new(alloc: Global, max_capacity: usize, max_blocked: usize) -> Result<Sender> {
-        let settings = EncoderSettings::new(max_capacity, max_blocked);
+        let mut settings = EncoderSettings::new(max_capacity, max_blocked);
+        settings.seed = SEED;
         Ok(Sender {
             end: ConnectionEncoder::new(alloc, settings)?,
             encoded: 0,

@@ -163,37 +163,37 @@ pub newest_of_none : (part : Part) (dropped : ℕ) (live : List Field) (f : Fiel
 newest_of_none part dropped live f none = λ other at same. none (omega (arith, at.0, at.1))
 
 -- what is found by a whole field is what the definitions find
-pub newest_field : (dropped : ℕ) (es : List Entry) (f : Field) (found : Option ℕ)
-    → FindsNewest Whole dropped (live_fields es) f found → IsNewestIn dropped (entries_of es) (is_field f) found
-newest_field dropped es f None h =
+pub newest_field : (seed dropped : ℕ) (es : List Entry) (f : Field) (found : Option ℕ)
+    → FindsNewest (Whole seed) dropped (live_fields es) f found → IsNewestIn dropped (entries_of es) (is_field f) found
+newest_field seed dropped es f None h =
     newest_nowhere dropped (entries_of es) (is_field f) (λ b at.
     h b at.live (sym (same_field f (field_at dropped (live_fields es) b) at.passes)))
-newest_field dropped es f (Some a) h =
+newest_field seed dropped es f (Some a) h =
     newest_at dropped (entries_of es) (is_field f) a
     (record { live = h.0; passes = passes f (field_at dropped (live_fields es) a) h.1 })
     (λ b at. h.2 b at.live (sym (same_field f (field_at dropped (live_fields es) b) at.passes)))
 
 -- and by a name
-only_name : (name : List ℕ) (f : Field) → has_name name f ≡ true
-    → part_of Name f ≡ part_of Name (record { name = name; value = [] })
-only_name name f h =
+only_name : (seed : ℕ) (name : List ℕ) (f : Field) → has_name name f ≡ true
+    → part_of (Name seed) f ≡ part_of (Name seed) (record { name = name; value = [] })
+only_name seed name f h =
     let same : f.name ≡ name = sym (same_name name f h) in
     λ i. record { name = same i; value = [] }
 
-pub newest_name : (dropped : ℕ) (es : List Entry) (name : List ℕ) (found : Option ℕ)
-    → FindsNewest Name dropped (live_fields es) (record { name = name; value = [] }) found
+pub newest_name : (seed dropped : ℕ) (es : List Entry) (name : List ℕ) (found : Option ℕ)
+    → FindsNewest (Name seed) dropped (live_fields es) (record { name = name; value = [] }) found
     → IsNewestIn dropped (entries_of es) (has_name name) found
-newest_name dropped es name None h =
+newest_name seed dropped es name None h =
     newest_nowhere dropped (entries_of es) (has_name name)
-    (λ b at. h b at.live (only_name name (field_at dropped (live_fields es) b) at.passes))
-newest_name dropped es name (Some a) h =
+    (λ b at. h b at.live (only_name seed name (field_at dropped (live_fields es) b) at.passes))
+newest_name seed dropped es name (Some a) h =
     newest_at dropped (entries_of es) (has_name name) a
     (record {
       live = h.0;
       passes = (bytes_eq-Decides name (field_at dropped (live_fields es) a).name).1
           (sym (ap (λ (f : Field). f.name) h.1));
     })
-    (λ b at. h.2 b at.live (only_name name (field_at dropped (live_fields es) b) at.passes))
+    (λ b at. h.2 b at.live (only_name seed name (field_at dropped (live_fields es) b) at.passes))
 
 -- ---- a row has no more slots than entries are live
 

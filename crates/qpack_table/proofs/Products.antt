@@ -12,40 +12,41 @@ product_below a b g h =
     omega (arith, mul-le-mul_right b most, h)
 
 -- one piece more, and none
-pub piece_taken : (hash : ℕ) (bytes piece rest : List ℕ) → piece ≡ take 16 bytes → rest ≡ drop 16 bytes
+pub piece_taken : (factor hash : ℕ) (bytes piece rest : List ℕ) → piece ≡ take 16 bytes → rest ≡ drop 16 bytes
     → length rest + 16 ≡ length bytes
-    → pieces_hash (length rest / 16) (piece_hash hash piece) rest ≡ pieces_hash (length bytes / 16) hash bytes
+    → pieces_hash factor (length rest / 16) (piece_hash factor hash piece) rest
+    ≡ pieces_hash factor (length bytes / 16) hash bytes
 unfolding pieces_hash
-piece_taken hash bytes piece rest first behind long =
+piece_taken factor hash bytes piece rest first behind long =
     let count : length bytes / 16 ≡ suc (length rest / 16) = omega (arith, long) in
-    (λ i. pieces_hash (length rest / 16) (piece_hash hash (first i)) (behind i))
-    ∙ sym (ap (λ (n : ℕ). pieces_hash n hash bytes) count)
+    (λ i. pieces_hash factor (length rest / 16) (piece_hash factor hash (first i)) (behind i))
+    ∙ sym (ap (λ (n : ℕ). pieces_hash factor n hash bytes) count)
 
-pub no_piece : (hash : ℕ) (bytes : List ℕ) → length bytes < 16
-    → rest_hash hash bytes ≡ pieces_hash (length bytes / 16) hash bytes
+pub no_piece : (factor hash : ℕ) (bytes : List ℕ) → length bytes < 16
+    → rest_hash factor hash bytes ≡ pieces_hash factor (length bytes / 16) hash bytes
 unfolding pieces_hash
-no_piece hash bytes few =
+no_piece factor hash bytes few =
     let count : length bytes / 16 ≡ 0 = omega (arith, few) in
-    sym (ap (λ (n : ℕ). pieces_hash n hash bytes) count)
+    sym (ap (λ (n : ℕ). pieces_hash factor n hash bytes) count)
 
-pub rest_short : (hash : ℕ) (rest : List ℕ) → length rest < 8
-    → short_hash hash rest ≡ rest_hash hash rest
+pub rest_short : (factor hash : ℕ) (rest : List ℕ) → length rest < 8
+    → short_hash factor hash rest ≡ rest_hash factor hash rest
 unfolding rest_hash
-rest_short hash rest few = rw (lt-leb 8 (length rest) few) refl
+rest_short factor hash rest few = rw (lt-leb 8 (length rest) few) refl
 
-pub rest_long : (hash : ℕ) (rest first last : List ℕ) → 8 ≤ length rest → first ≡ take 8 rest
+pub rest_long : (factor hash : ℕ) (rest first last : List ℕ) → 8 ≤ length rest → first ≡ take 8 rest
     → last ≡ drop (length rest - 8) rest
-    → words_hash hash (from_le_bytes w64 first) (from_le_bytes w64 last) ≡ rest_hash hash rest
+    → words_hash factor hash (from_le_bytes w64 first) (from_le_bytes w64 last) ≡ rest_hash factor hash rest
 unfolding rest_hash
-rest_long hash rest first last long a b = rw (a, b, le-leb 8 (length rest) long) refl
+rest_long factor hash rest first last long a b = rw (a, b, le-leb 8 (length rest) long) refl
 
-pub short_few : (hash : ℕ) (rest : List ℕ) → length rest < 4
-    → words_hash hash (few_bytes rest) 0 ≡ short_hash hash rest
+pub short_few : (factor hash : ℕ) (rest : List ℕ) → length rest < 4
+    → words_hash factor hash (few_bytes rest) 0 ≡ short_hash factor hash rest
 unfolding short_hash
-short_few hash rest few = rw (lt-leb 4 (length rest) few) refl
+short_few factor hash rest few = rw (lt-leb 4 (length rest) few) refl
 
-pub short_long : (hash : ℕ) (rest first last : List ℕ) → 4 ≤ length rest → first ≡ take 4 rest
+pub short_long : (factor hash : ℕ) (rest first last : List ℕ) → 4 ≤ length rest → first ≡ take 4 rest
     → last ≡ drop (length rest - 4) rest
-    → words_hash hash (from_le_bytes w32 first) (from_le_bytes w32 last) ≡ short_hash hash rest
+    → words_hash factor hash (from_le_bytes w32 first) (from_le_bytes w32 last) ≡ short_hash factor hash rest
 unfolding short_hash
-short_long hash rest first last long a b = rw (a, b, le-leb 4 (length rest) long) refl
+short_long factor hash rest first last long a b = rw (a, b, le-leb 4 (length rest) long) refl

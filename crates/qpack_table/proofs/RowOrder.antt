@@ -53,13 +53,13 @@ first_ties Greater s h = absurd cc
 
 -- either part has the name
 part_name : (part : Part) (f : Field) → (part_of part f).name ≡ f.name
-part_name Name f = refl
-part_name Whole f = refl
+part_name (Name seed) f = refl
+part_name (Whole seed) f = refl
 
 -- fields with the same part have the same hash of it
 pub same_hash : (part : Part) (f g : Field) → part_of part f ≡ part_of part g → hash_of part f ≡ hash_of part g
-same_hash Name f g h = ap (λ (x : Field). hash_of Name x) h
-same_hash Whole f g h = ap (λ (x : Field). hash_of Whole x) h
+same_hash (Name seed) f g h = ap (λ (x : Field). hash_of (Name seed) x) h
+same_hash (Whole seed) f g h = ap (λ (x : Field). hash_of (Whole seed) x) h
 
 -- names that differ decide
 pub decided_by_name : (part : Part) (f g : Field) (o : Ordering) (name other : List ℕ) → name ≡ f.name → other ≡ g.name
@@ -72,20 +72,20 @@ decided_by_name part f g o name other is has names apart =
     ∙ (λ i. slice_cmp nat_cmp ((is ∙ sym (part_name part f)) i) ((has ∙ sym (part_name part g)) i)))
 
 -- a name is decided by nothing else
-pub decided_by_tie : (f g : Field) (o : Ordering) (name other : List ℕ) → name ≡ f.name → other ≡ g.name
-    → o ≡ slice_cmp nat_cmp name other → o ≡ Equal → Equal ≡ field_cmp (part_of Name f) (part_of Name g)
+pub decided_by_tie : (seed : ℕ) (f g : Field) (o : Ordering) (name other : List ℕ) → name ≡ f.name → other ≡ g.name
+    → o ≡ slice_cmp nat_cmp name other → o ≡ Equal → Equal ≡ field_cmp (part_of (Name seed) f) (part_of (Name seed) g)
 unfolding field_cmp
-decided_by_tie f g o name other is has names equal =
+decided_by_tie seed f g o name other is has names equal =
     let tied : slice_cmp nat_cmp f.name g.name ≡ Equal =
     sym (names ∙ (λ i. slice_cmp nat_cmp (is i) (has i))) ∙ equal in
     sym (first_equal _ _ tied)
 
 -- else the values do
-pub decided_by_value : (f g : Field) (o v : Ordering) (name other value more : List ℕ) → name ≡ f.name
+pub decided_by_value : (seed : ℕ) (f g : Field) (o v : Ordering) (name other value more : List ℕ) → name ≡ f.name
     → other ≡ g.name → value ≡ f.value → more ≡ g.value → o ≡ slice_cmp nat_cmp name other → o ≡ Equal
-    → v ≡ slice_cmp nat_cmp value more → v ≡ field_cmp (part_of Whole f) (part_of Whole g)
+    → v ≡ slice_cmp nat_cmp value more → v ≡ field_cmp (part_of (Whole seed) f) (part_of (Whole seed) g)
 unfolding field_cmp
-decided_by_value f g o v name other value more is has there holds names equal values =
+decided_by_value seed f g o v name other value more is has there holds names equal values =
     let tied : slice_cmp nat_cmp f.name g.name ≡ Equal =
     sym (names ∙ (λ i. slice_cmp nat_cmp (is i) (has i))) ∙ equal in
     values ∙ (λ i. slice_cmp nat_cmp (there i) (holds i)) ∙ sym (first_equal _ _ tied)

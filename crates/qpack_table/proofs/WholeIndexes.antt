@@ -23,49 +23,50 @@ use Rattle.qpack_table.proofs.Lookups.{fields_long}
 
 -- ---- the hashes of all entries
 
-hashes_pushed : (dropped : ℕ) (live : List Field) (f : Field) (hashes : List Hashes)
-    → AreAllHashesOf dropped live (length live) hashes → AreAllHashesOf dropped (live ++ f ∷ []) (length live) hashes
-hashes_pushed dropped live f hashes are = record {
+hashes_pushed : (seed dropped : ℕ) (live : List Field) (f : Field) (hashes : List Hashes)
+    → AreAllHashesOf seed dropped live (length live) hashes
+    → AreAllHashesOf seed dropped (live ++ f ∷ []) (length live) hashes
+hashes_pushed seed dropped live f hashes are = record {
   counted = are.counted;
   hashed = λ k d h.
-      subst (λ (x : Field). AreHashesOf (get_or hashes k d) x)
+      subst (λ (x : Field). AreHashesOf seed (get_or hashes k d) x)
       (sym (field_pushed dropped live f (dropped + k + 1) (omega arith, omega (arith, h)))) (are.hashed k d h);
 }
 
-pub hashes_entered : (dropped : ℕ) (live : List Field) (entered index : ℕ) (hashes new : List Hashes) (h : Hashes)
-    → AreAllHashesOf dropped live entered hashes → index ≡ dropped + entered + 1
-    → AreHashesOf h (field_at dropped live index) → new ≡ hashes ++ h ∷ []
-    → AreAllHashesOf dropped live (entered + 1) new
-hashes_entered dropped live entered index hashes new h are next is made =
-    subst (λ (l : List Hashes). AreAllHashesOf dropped live (entered + 1) l) (sym made) (record {
+pub hashes_entered : (seed dropped : ℕ) (live : List Field) (entered index : ℕ) (hashes new : List Hashes) (h : Hashes)
+    → AreAllHashesOf seed dropped live entered hashes → index ≡ dropped + entered + 1
+    → AreHashesOf seed h (field_at dropped live index) → new ≡ hashes ++ h ∷ []
+    → AreAllHashesOf seed dropped live (entered + 1) new
+hashes_entered seed dropped live entered index hashes new h are next is made =
+    subst (λ (l : List Hashes). AreAllHashesOf seed dropped live (entered + 1) l) (sym made) (record {
       counted = omega (arith, length-append hashes (h ∷ []), are.counted);
       hashed = λ k d lt. pick k d lt (cases_lt k entered);
     })
   where
     pick : (k : ℕ) (d : Hashes) → k < entered + 1 → (k < entered) ⊎ (entered ≤ k)
-        → AreHashesOf (get_or (hashes ++ h ∷ []) k d) (field_at dropped live (dropped + k + 1))
+        → AreHashesOf seed (get_or (hashes ++ h ∷ []) k d) (field_at dropped live (dropped + k + 1))
     pick k d lt (inl less) =
-        subst (λ (x : Hashes). AreHashesOf x (field_at dropped live (dropped + k + 1)))
+        subst (λ (x : Hashes). AreHashesOf seed x (field_at dropped live (dropped + k + 1)))
         (sym (get_or_append_left hashes (h ∷ []) d k (omega (arith, less, are.counted)))) (are.hashed k d less)
     pick k d lt (inr le) =
         let last : length hashes ≡ k = omega (arith, le, lt, are.counted) in
         let there : index ≡ dropped + k + 1 = omega (arith, le, lt, next) in
-        subst (λ (x : Hashes). AreHashesOf x (field_at dropped live (dropped + k + 1)))
+        subst (λ (x : Hashes). AreHashesOf seed x (field_at dropped live (dropped + k + 1)))
         (sym (get_or-append_seam hashes h [] d) ∙ ap (λ (i : ℕ). get_or (hashes ++ h ∷ []) i d) last)
-        (subst (λ (a : ℕ). AreHashesOf h (field_at dropped live a)) there is)
+        (subst (λ (a : ℕ). AreHashesOf seed h (field_at dropped live a)) there is)
 
 -- hashes that stay
-pub hashes_same : (dropped : ℕ) (live : List Field) (entered : ℕ) (hashes now : List Hashes) → now ≡ hashes
-    → AreAllHashesOf dropped live entered hashes → AreAllHashesOf dropped live entered now
-hashes_same dropped live entered hashes now e are =
-    subst (λ (l : List Hashes). AreAllHashesOf dropped live entered l) (sym e) are
+pub hashes_same : (seed dropped : ℕ) (live : List Field) (entered : ℕ) (hashes now : List Hashes) → now ≡ hashes
+    → AreAllHashesOf seed dropped live entered hashes → AreAllHashesOf seed dropped live entered now
+hashes_same seed dropped live entered hashes now e are =
+    subst (λ (l : List Hashes). AreAllHashesOf seed dropped live entered l) (sym e) are
 
 index_pushed : (dropped : ℕ) (live : List Field) (f : Field) (index : Index)
     → IsIndexOf dropped live (length live) index → IsIndexOf dropped (live ++ f ∷ []) (length live) index
 index_pushed dropped live f index is = record {
-  fields = rows_pushed Whole dropped live f index.fields.rows.items is.fields;
-  names = rows_pushed Name dropped live f index.names.rows.items is.names;
-  hashes = hashes_pushed dropped live f index.hashes.items is.hashes;
+  fields = rows_pushed (Whole index.seed) dropped live f index.fields.rows.items is.fields;
+  names = rows_pushed (Name index.seed) dropped live f index.names.rows.items is.names;
+  hashes = hashes_pushed index.seed dropped live f index.hashes.items is.hashes;
   some = is.some;
   few = is.few;
 }

@@ -20,7 +20,7 @@ use Rattle.qpack_table.specs.declared.dynamic.encoder.DynamicInsertionResult.The
 use Rattle.qpack_table.specs.declared.dynamic.encoder.DynamicInsertionResult.TheVariants.{NotInserted}
 use Rattle.qpack_table.specs.declared.dynamic.sought.FoundField.{FoundField}
 use Rattle.qpack_table.specs.declared.dynamic.sought.SoughtField.{SoughtField}
-use Rattle.qpack_table.specs.Indexes.{AreHashesOf}
+use Rattle.qpack_table.specs.Indexes.{AreSeededHashesOf}
 
 -- where a field or its name was found
 abbrev pub lookup_of : DynamicLookupResult → Lookup
@@ -41,13 +41,13 @@ insertion_of (NotInserted lookup) = handle.NotInserted (lookup_of lookup)
 -- what is known of a field that was sought in a table: its hashes, unless there was no entry, the newest entry that is
 -- it, and the least static field of its name
 pub record IsSoughtIn (t : table.Table) (f : Field) (sought : SoughtField) : Type 0 where
-  pub hashes : IfSome sought.hashes (λ hashes. AreHashesOf hashes f)
+  pub hashes : IfSome sought.hashes (λ known. AreSeededHashesOf known f)
   pub newest : sought.newest ≡ newest_index t (is_field f)
   pub static_name : sought.static_name ≡ static_name_index f.name
 
 -- the hashes that are known of a field that was sought are its own
 abbrev pub AreHashesIn : Field → SoughtField → Type 0
-AreHashesIn f sought = IfSome sought.hashes (λ hashes. AreHashesOf hashes f)
+AreHashesIn f sought = IfSome sought.hashes (λ known. AreSeededHashesOf known f)
 
 -- what is known of a field that was found, as of one that was sought
 abbrev pub IsFoundIn : table.Table → Field → FoundField → Type 0

@@ -10,58 +10,67 @@ abbrev pub folded_product : ℕ → ℕ → ℕ
 folded_product a b = bit_xor (bit_and (a * b) (2 ^ 64 - 1)) (a * b / 2 ^ 64)
 
 -- one step over two words
-unfoldable pub words_hash : ℕ → ℕ → ℕ → ℕ
-words_hash hash low high = folded_product (bit_xor hash low) (bit_xor 16646288086500911323 high)
+unfoldable pub words_hash : (factor hash low high : ℕ) → ℕ
+words_hash factor hash low high = folded_product (bit_xor hash low) (bit_xor factor high)
 
 -- a number of a few bytes, the greatest first
 unfoldable pub few_bytes : List ℕ → ℕ
 few_bytes bytes = fold (λ word byte. (word * 256 % 2 ^ 64 + byte) % 2 ^ 64) 0 bytes
 
 -- one step over 16 bytes
-unfoldable pub piece_hash : ℕ → List ℕ → ℕ
-piece_hash hash piece = words_hash hash (bit_and (from_le_bytes w128 piece) (2 ^ 64 - 1))
+unfoldable pub piece_hash : (factor hash : ℕ) → List ℕ → ℕ
+piece_hash factor hash piece = words_hash factor hash (bit_and (from_le_bytes w128 piece) (2 ^ 64 - 1))
     (from_le_bytes w128 piece / 2 ^ 64)
 
 -- the last step over fewer than eight: the first and the last four, which may overlap, or all
-unfoldable pub short_hash : ℕ → List ℕ → ℕ
-short_hash hash rest =
+unfoldable pub short_hash : (factor hash : ℕ) → List ℕ → ℕ
+short_hash factor hash rest =
     if nat_le 4 (length rest)
-    then words_hash hash (from_le_bytes w32 (take 4 rest)) (from_le_bytes w32 (drop (length rest - 4) rest))
-    else words_hash hash (few_bytes rest) 0
+    then words_hash factor hash (from_le_bytes w32 (take 4 rest)) (from_le_bytes w32 (drop (length rest - 4) rest))
+    else words_hash factor hash (few_bytes rest) 0
 
 -- the last step, over fewer than sixteen: the first and the last eight, which may overlap
-unfoldable pub rest_hash : ℕ → List ℕ → ℕ
-rest_hash hash rest =
+unfoldable pub rest_hash : (factor hash : ℕ) → List ℕ → ℕ
+rest_hash factor hash rest =
     if nat_le 8 (length rest)
-    then words_hash hash (from_le_bytes w64 (take 8 rest)) (from_le_bytes w64 (drop (length rest - 8) rest))
-    else short_hash hash rest
+    then words_hash factor hash (from_le_bytes w64 (take 8 rest)) (from_le_bytes w64 (drop (length rest - 8) rest))
+    else short_hash factor hash rest
 
--- so many steps, and the last one
-unfoldable pub pieces_hash : ℕ → ℕ → List ℕ → ℕ
-pieces_hash zero hash bytes = rest_hash hash bytes
-pieces_hash (suc more) hash bytes = pieces_hash more (piece_hash hash (take 16 bytes)) (drop 16 bytes)
+-- a number of steps, and the last one
+unfoldable pub pieces_hash : (factor count hash : ℕ) → List ℕ → ℕ
+pieces_hash factor zero hash bytes = rest_hash factor hash bytes
+pieces_hash factor (suc more) hash bytes =
+    pieces_hash factor more (piece_hash factor hash (take 16 bytes)) (drop 16 bytes)
 
 -- the hash goes on over bytes, whose number is hashed too
-unfoldable pub bytes_hash : ℕ → List ℕ → ℕ
-bytes_hash seed bytes = pieces_hash (length bytes / 16) (bit_xor seed (length bytes)) bytes
+unfoldable pub bytes_hash : (factor hash : ℕ) → List ℕ → ℕ
+bytes_hash factor hash bytes = pieces_hash factor (length bytes / 16) (bit_xor hash (length bytes)) bytes
 
--- the least power of two that is at least so many
+-- where a hash begins under a seed, and a factor of each of its products
+abbrev pub start_of : ℕ → ℕ
+start_of seed = bit_xor 11562461410679940143 seed
+
+abbrev pub factor_of : ℕ → ℕ
+factor_of seed = bit_xor 16646288086500911323 seed
+
+-- the least power of two that is at least a number
 unfoldable pub width_of : ℕ → ℕ
 width_of zero = 1
 width_of (suc n) = if nat_lt (width_of n) (suc n) then 2 * width_of n else width_of n
 
--- the position of a hash among so many, by linear hashing: its remainder by the width, or half the width below where
--- that is past the last
+-- the position of a hash among a number of rows, by linear hashing: its remainder by the width, or half the width below
+-- if that is past the last
 unfoldable pub position_among : ℕ → ℕ → ℕ
 position_among count hash =
     if nat_lt (hash % width_of count) count
     then hash % width_of count
     else hash % width_of count - width_of count / 2
 
--- 32 bits of the hash of a name
-unfoldable pub name_hash : List ℕ → ℕ
-name_hash name = bytes_hash 11562461410679940143 name / 2 ^ 32
+-- 32 bits of the hash of a name under a seed
+unfoldable pub name_hash : (seed : ℕ) → List ℕ → ℕ
+name_hash seed name = bytes_hash (factor_of seed) (start_of seed) name / 2 ^ 32
 
--- 32 bits of the hash of a field, which goes on from that of its name over its value
-unfoldable pub field_hash : Field → ℕ
-field_hash f = bytes_hash (bytes_hash 11562461410679940143 f.name) f.value / 2 ^ 32
+-- 32 bits of the hash of a field under a seed, which goes on from that of its name over its value
+unfoldable pub field_hash : (seed : ℕ) → Field → ℕ
+field_hash seed f =
+    bytes_hash (factor_of seed) (bytes_hash (factor_of seed) (start_of seed) f.name) f.value / 2 ^ 32

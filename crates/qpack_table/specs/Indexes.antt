@@ -11,6 +11,7 @@ use Rattle.qpack_table.specs.Hashes.{field_hash, name_hash, position_among}
 use Rattle.qpack_table.specs.Rows.{field_at, part_at, hash_of, IsLiveIndex, IsRow, HasRoom, goes_to}
 use Rattle.qpack_table.specs.declared.dynamic.index.Index.{Index}
 use Rattle.qpack_table.specs.declared.dynamic.index.hash.Hashes.{Hashes}
+use Rattle.qpack_table.specs.declared.dynamic.index.hash.SeededHashes.{SeededHashes}
 use Rattle.qpack_table.specs.declared.dynamic.index.row.Part.{Part}
 use Rattle.qpack_table.specs.declared.dynamic.index.row.Part.TheVariants.{Name, Whole}
 use Rattle.qpack_table.specs.declared.dynamic.index.row.Row.{Row}
@@ -18,7 +19,7 @@ use Rattle.qpack_table.specs.declared.dynamic.index.row.Slot.{Slot}
 use Rattle.qpack_table.specs.declared.dynamic.index.row.Split.{Split}
 use Rattle.qpack_table.specs.declared.dynamic.index.rows.Rows.{Rows}
 
--- the row of a part, among so many
+-- the row of a part, among a number of rows
 abbrev pub home : Part → ℕ → Field → ℕ
 home part count f = position_among count (hash_of part f)
 
@@ -28,8 +29,8 @@ HasSlotOf part dropped live row index =
     (s : Slot) × Contains row s × (index ≤ s.index) × (s.index ≤ dropped + length live)
     × (part_at part dropped live s.index ≡ part_at part dropped live index)
 
--- of so many of the oldest live entries, the newest of each part stands in the rows, each in that of its part, and
--- nothing else does
+-- of the oldest live entries, `entered` of them, the newest of each part is in the rows, each in the row of its part,
+-- and nothing else is
 pub record AreRowsOf (part : Part) (dropped : ℕ) (live : List Field) (entered : ℕ) (rows : List Row) : Type 0 where
   pub some : 0 < entered → 0 < length rows
   pub are_rows : (k : ℕ) (d : Row) → k < length rows
@@ -86,20 +87,25 @@ FindsNewest part dropped live f found =
     (λ index. IsLiveIndex dropped live index × (part_at part dropped live index ≡ f)
     × ((other : ℕ) → IsLiveIndex dropped live other → part_at part dropped live other ≡ f → other ≤ index))
 
-abbrev pub AreHashesOf : Hashes → Field → Type 0
-AreHashesOf hashes f = (hashes.name ≡ name_hash f.name) × (hashes.field ≡ field_hash f)
+-- the hashes of a field under a seed
+abbrev pub AreHashesOf : (seed : ℕ) → Hashes → Field → Type 0
+AreHashesOf seed hashes f = (hashes.name ≡ name_hash seed f.name) × (hashes.field ≡ field_hash seed f)
 
--- the hashes of so many of the oldest live entries
-pub record AreAllHashesOf (dropped : ℕ) (live : List Field) (entered : ℕ) (hashes : List Hashes) : Type 0 where
+-- its hashes under the seed that is with them
+abbrev pub AreSeededHashesOf : SeededHashes → Field → Type 0
+AreSeededHashesOf known f = AreHashesOf known.seed known.hashes f
+
+-- the hashes of the oldest live entries, `entered` of them
+pub record AreAllHashesOf (seed dropped : ℕ) (live : List Field) (entered : ℕ) (hashes : List Hashes) : Type 0 where
   pub counted : length hashes ≡ entered
   pub hashed : (k : ℕ) (d : Hashes) → k < entered
-      → AreHashesOf (slice_index_or hashes k d) (field_at dropped live (dropped + k + 1))
+      → AreHashesOf seed (slice_index_or hashes k d) (field_at dropped live (dropped + k + 1))
 
--- so many of the oldest live entries are in the index; there are no more rows of names than of fields
+-- the oldest live entries, `entered` of them, are in the index; there are no more rows of names than of fields
 pub record IsIndexOf (dropped : ℕ) (live : List Field) (entered : ℕ) (index : Index) : Type 0 where
-  pub fields : AreRowsOf Whole dropped live entered index.fields.rows.items
-  pub names : AreRowsOf Name dropped live entered index.names.rows.items
-  pub hashes : AreAllHashesOf dropped live entered index.hashes.items
+  pub fields : AreRowsOf (Whole index.seed) dropped live entered index.fields.rows.items
+  pub names : AreRowsOf (Name index.seed) dropped live entered index.names.rows.items
+  pub hashes : AreAllHashesOf index.seed dropped live entered index.hashes.items
   pub some : 0 < length index.fields.rows.items → 0 < length index.names.rows.items
   pub few : length index.names.rows.items ≤ length index.fields.rows.items
 
@@ -121,7 +127,7 @@ abbrev pub one_row_more : ℕ → ℕ
 one_row_more zero = 32
 one_row_more (suc n) = suc (suc n)
 
--- an index of so many entries that makes room for one more keeps its rows, unless they would be fewer than the entries
+-- an index that makes room for one more entry keeps its rows, unless they would be fewer than the entries
 abbrev pub GrowsRows : (entries old new : ℕ) → Type 0
 GrowsRows entries old new = (entries < old → new ≡ old) × (old ≤ entries → new ≡ one_row_more old)
 

@@ -26,13 +26,13 @@ field_at dropped live index = slice_index_or live (index - dropped - 1) (record 
 
 -- a part of a field: its name alone, or all of it
 abbrev pub part_of : Part → Field → Field
-part_of Name f = record { name = f.name; value = [] }
-part_of Whole f = f
+part_of (Name seed) f = record { name = f.name; value = [] }
+part_of (Whole seed) f = f
 
--- the hash of that part
+-- the hash of that part under the seed
 abbrev pub hash_of : Part → Field → ℕ
-hash_of Name f = name_hash f.name
-hash_of Whole f = field_hash f
+hash_of (Name seed) f = name_hash seed f.name
+hash_of (Whole seed) f = field_hash seed f
 
 -- the part of the field of a live entry's absolute index
 abbrev pub part_at : Part → ℕ → List Field → ℕ → Field
@@ -74,7 +74,7 @@ pub record IsRow (part : Part) (dropped : ℕ) (live : List Field) (row : List S
   pub slots : (s : Slot) → Contains row s → IsSlot part dropped live s
   pub rises : AllPairs (λ a b. key_cmp (key_at part dropped live a) (key_at part dropped live b) ≡ Less) row
 
--- where there is one row more than so many, whether a slot belongs to the new one
+-- whether a slot belongs to the new row, if there is one row more than `count`
 abbrev pub goes_to : ℕ → Slot → Bool
 goes_to count s = position_among (count + 1) s.hash == count
 
@@ -134,7 +134,7 @@ pub record HasIndexAt (row : List Slot) (index position : ℕ) : Type 0 where
 abbrev pub HasNoIndex : List Slot → ℕ → Type 0
 HasNoIndex row index = (j : ℕ) (d : Slot) → j < length row → (slice_index_or row j d).index ≢ index
 
--- a search among so many raised the count by at most the binary digits of their number, which are the fewest whose
--- power of two is above it; 0 has none
+-- a search among `n` raised the count by at most the binary digits of `n`, which are the fewest whose power of two is
+-- above it; 0 has none
 abbrev pub Counts : ℕ → ℕ → ℕ → Type 0
 Counts n old new = (old ≤ new) × ((digits : ℕ) → n < 2 ^ digits → new ≤ old + digits)

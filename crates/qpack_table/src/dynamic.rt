@@ -20,17 +20,14 @@ mod index;
 mod lookups;
 mod open_blocks;
 mod sought;
-mod steps;
 mod table;
-mod tracking;
 
 pub use crate::dynamic::encoder::{
     DynamicInsertionResult, DynamicLookupResult, DynamicTableEncoder,
 };
 pub use crate::dynamic::entry_index::{EntryIndex, NoIndex};
-pub use crate::dynamic::index::Index;
+pub use crate::dynamic::index::{Index, Steps};
 pub use crate::dynamic::sought::{FoundField, SoughtField};
-pub use crate::dynamic::steps::Steps;
 pub use crate::dynamic::table::{DynamicTable, DynamicTableDecoder, ReceivedTable};
 
 /// Why a call of the dynamic table failed.

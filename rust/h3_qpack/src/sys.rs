@@ -144,6 +144,7 @@ extern "C" {
         max_blocked: usize,
         capacity: usize,
         most_unacknowledged: usize,
+        seed: u64,
         at: *mut *mut c_void,
     ) -> i32;
     fn h3q_encoder_free(encoder: Handle);
@@ -301,10 +302,11 @@ impl Encoder {
         max_blocked: usize,
         capacity: usize,
         most_unacknowledged: usize,
+        seed: u64,
     ) -> Result<Encoder, i32> {
         let mut at = ptr::null_mut();
         // SAFETY: `at` is there for the call, which writes to it.
-        match unsafe { h3q_encoder_new(max_capacity, max_blocked, capacity, most_unacknowledged, &mut at) } {
+        match unsafe { h3q_encoder_new(max_capacity, max_blocked, capacity, most_unacknowledged, seed, &mut at) } {
             OK => Ok(Encoder { handle: UnsafeCell::new(Handle { at }) }),
             status => Err(status),
         }

@@ -220,3 +220,22 @@ fn an_end_is_moved_to_a_thread_and_dropped_there() {
     decoder.receive(&answered.unwrap()).unwrap();
     assert_eq!(decoder.decode(0, &section), Ok(Reading::Fields { count: 1, required: 1 }));
 }
+
+#[test]
+fn no_byte_depends_on_the_seed() {
+    let seeds = [Some(0), Some(u64::MAX), None];
+    let mut encoders = seeds.map(|seed| {
+        let settings = EncoderSettings { seed, ..EncoderSettings::new(4096, 100) };
+        ConnectionEncoder::new(settings).unwrap()
+    });
+    for (list, stream) in lists(&mut Random::new(11)).iter().zip((0..).step_by(4)) {
+        let mut encode = |encoder: &mut ConnectionEncoder| {
+            let (mut section, mut instructions) = (Vec::new(), Vec::new());
+            encoder.encode(stream, lines(list), &mut section).unwrap();
+            encoder.take_encoder_stream(&mut instructions).unwrap();
+            (section, instructions)
+        };
+        let written: Vec<_> = encoders.iter_mut().map(&mut encode).collect();
+        assert!(written.iter().all(|other| *other == written[0]), "{written:?}");
+    }
+}

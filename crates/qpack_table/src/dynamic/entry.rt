@@ -89,6 +89,7 @@ pub(super) fn drop_oldest<I: EntryIndex>(
     ensures capacity { deque_capacity entries.new ≡ deque_capacity entries.old }
     ensures index { I.is_index_of index.new vas.new.dropped entries.new.items }
     ensures room { (key : I.Key) → I.has_room key index.old → I.has_room key index.new }
+    ensures own { (key : I.Key) → I.is_own key index.old → I.is_own key index.new }
     ensures dropped { vas.new ≡ record vas.old { dropped = vas.old.dropped + evicted } }
     ensures freed { result + total_size (drop evicted (fields_in (entries_of entries.old.items))) ≡
         total_size (fields_in (entries_of entries.old.items)) }
@@ -113,12 +114,13 @@ pub(super) fn give_back_room<I: EntryIndex>(entries: &mut VecDeque<Entry>, index
     ensures kept { 0 < length entries.old.items → deque_capacity entries.new ≡ deque_capacity entries.old }
     ensures index_given { length entries.old.items ≡ 0 → I.has_no_rows index.new }
     ensures index_kept { 0 < length entries.old.items → index.new ≡ index.old }
+    ensures own { (key : I.Key) → I.is_own key index.old → I.is_own key index.new }
     ensures index { (dropped : ℕ) → I.is_index_of index.old dropped entries.old.items
         → I.is_index_of index.new dropped entries.new.items }
 {
     if entries.is_empty() {
         entries.shrink_to_fit();
-        *index = I::without_entries(*entries.allocator());
+        *index = index.emptied();
     }
 }
 
@@ -160,6 +162,7 @@ pub(super) fn replace_oldest<I: EntryIndex>(
         ≤ max (deque_capacity entries.old) (grown 18 (length entries.old.items)) }
 {
     let size = entry.field.mem_size();
+    let key = index.own_key(key, &entry.field.as_line());
     make_room(entries, ENTRIES)?;
     index.reserve(entries, vas.total_dropped(), key)?;
     let freed = drop_oldest(entries, index, vas, evicted);

@@ -3,14 +3,14 @@
 ghost use Rattle.std.specs.Prelude.{◌≡◌, ℕ, ◌+◌, ◌^◌, ◌<◌, ◌≤◌, ⊤, List, [], ◌∷◌, ◌++◌, OnOk, length, drop};
 ghost use Rattle.qpack_base.specs.HeaderFields.{field_of, line_of};
 ghost use Rattle.qpack_spec.specs.Field.{Field};
-ghost use Rattle.qpack_table.specs.Indexes.{AreHashesOf, HasNoRows, HasRoomForEntry};
+ghost use Rattle.qpack_table.specs.Indexes.{AreSeededHashesOf, HasNoRows, HasRoomForEntry};
 ghost use Rattle.qpack_table.specs.Tables.{IsIndexOfEntries};
 ghost use Rattle.qpack_table.specs.declared.dynamic.entry.Entry.{Entry};
 
 use crate::dynamic::entry::Entry;
-use crate::dynamic::index::{Hashes, Index};
+use crate::dynamic::index::{Index, SeededHashes};
 use qpack_base::field::FieldLine;
-use std::alloc::{AllocError, Global};
+use std::alloc::AllocError;
 use std::collections::VecDeque;
 
 /// What is kept beside the entries of a [`DynamicTable`](crate::dynamic::DynamicTable), as a map is over its hasher:
@@ -25,20 +25,31 @@ pub trait EntryIndex: Drop {
     // The key is that of the field.
     ghost is_key_of: { Self.Key → Field → Type 0 };
 
+    // The key is one that it finds entries by.
+    ghost is_own: { Self.Key → Self → Type 0 };
+
     // It has no rows, and no memory for any.
     ghost has_no_rows: { Self → Type 0 };
 
     // There is room for one more entry, with this key.
     ghost has_room: { Self.Key → Self → Type 0 };
 
-    /// Returns the key of a field.
-    fn key_of(field: &FieldLine<'_>) -> Self::Key
-        ensures { is_key_of result (line_of field.now).field };
+    /// Returns the key of a field, by which it finds entries.
+    fn key_of(&self, field: &FieldLine<'_>) -> Self::Key
+        ensures key { is_key_of result (line_of field.now).field }
+        ensures own { is_own result self.now };
 
-    /// Returns what is kept beside no entries. It takes no memory.
-    fn without_entries(alloc: Global) -> Self
+    /// Returns the key of a field by which it finds entries, where another key of the field is known.
+    fn own_key(&self, key: Self::Key, field: &FieldLine<'_>) -> Self::Key
+        requires { is_key_of key (line_of field.now).field }
+        ensures key { is_key_of result (line_of field.now).field }
+        ensures own { is_own result self.now };
+
+    /// Returns what is kept beside no entries, which finds them by the same keys. It takes no memory.
+    fn emptied(&self) -> Self
         ensures index { (dropped : ℕ) → is_index_of result dropped [] }
-        ensures no_rows { has_no_rows result };
+        ensures no_rows { has_no_rows result }
+        ensures own { (key : Self.Key) → is_own key self.now → is_own key result };
 
     /// Makes room for one more entry, with this key. On error the same entries are in.
     fn reserve(
@@ -50,6 +61,7 @@ pub trait EntryIndex: Drop {
         requires index { is_index_of self.old dropped entries.now.items }
         requires few { dropped + length entries.now.items ≤ 2 ^ 62 }
         ensures index { is_index_of self.new dropped entries.now.items }
+        ensures own { (other : Self.Key) → is_own other self.old → is_own other self.new }
         ensures room { OnOk result (has_room key self.new) };
 
     /// Adds the newest entry, which was pushed after those that are in. There is room.
@@ -57,8 +69,10 @@ pub trait EntryIndex: Drop {
         requires few { dropped + length entries.now.items ≤ 2 ^ 62 }
         requires pushed { (front : List Entry) × (newest : Entry) × (entries.now.items ≡ front ++ newest ∷ [])
             × is_index_of self.old dropped front × is_key_of key (field_of newest.field) }
+        requires own { is_own key self.old }
         requires room { has_room key self.old }
-        ensures index { is_index_of self.new dropped entries.now.items };
+        ensures index { is_index_of self.new dropped entries.now.items }
+        ensures own { (other : Self.Key) → is_own other self.old → is_own other self.new };
 
     /// Removes the oldest entry, which is about to be popped. It takes no memory, and the room that was made stays.
     fn leave(&mut self, entries: &VecDeque<Entry>, dropped: usize)
@@ -66,26 +80,34 @@ pub trait EntryIndex: Drop {
         requires few { dropped + length entries.now.items < 2 ^ 64 }
         requires index { is_index_of self.old dropped entries.now.items }
         ensures index { is_index_of self.new (dropped + 1) (drop 1 entries.now.items) }
+        ensures own { (key : Self.Key) → is_own key self.old → is_own key self.new }
         ensures room { (key : Self.Key) → has_room key self.old → has_room key self.new };
 }
 
 impl EntryIndex for Index {
-    type Key = Hashes;
+    type Key = SeededHashes;
 
     ghost is_index_of = { λ index dropped entries. IsIndexOfEntries index dropped entries };
 
-    ghost is_key_of = { λ hashes f. AreHashesOf hashes f };
+    ghost is_key_of = { λ known f. AreSeededHashesOf known f };
+
+    ghost is_own = { λ known index. known.seed ≡ index.seed };
 
     ghost has_no_rows = { λ index. HasNoRows index };
 
-    ghost has_room = { λ hashes index. HasRoomForEntry hashes index };
+    ghost has_room = { λ known index. HasRoomForEntry known.hashes index };
 
-    fn key_of(field: &FieldLine<'_>) -> Hashes {
-        Hashes::of(field)
+    fn key_of(&self, field: &FieldLine<'_>) -> SeededHashes {
+        SeededHashes::of(self.seed(), field)
     }
 
-    fn without_entries(alloc: Global) -> Index {
-        Index::new(alloc)
+    #[inline(always)]
+    fn own_key(&self, key: SeededHashes, field: &FieldLine<'_>) -> SeededHashes {
+        key.reseeded(self.seed(), field)
+    }
+
+    fn emptied(&self) -> Index {
+        Index::emptied(self)
     }
 
     #[inline(always)]
@@ -93,14 +115,14 @@ impl EntryIndex for Index {
         &mut self,
         entries: &VecDeque<Entry>,
         dropped: usize,
-        key: Hashes,
+        key: SeededHashes,
     ) -> Result<(), AllocError> {
-        Index::reserve(self, entries, dropped, key)
+        Index::reserve(self, entries, dropped, key.hashes)
     }
 
     #[inline(always)]
-    fn enter(&mut self, entries: &VecDeque<Entry>, dropped: usize, key: Hashes) {
-        Index::enter(self, entries, dropped, dropped + entries.len(), key);
+    fn enter(&mut self, entries: &VecDeque<Entry>, dropped: usize, key: SeededHashes) {
+        Index::enter(self, entries, dropped, dropped + entries.len(), key.hashes);
     }
 
     #[inline(always)]
@@ -120,13 +142,17 @@ impl EntryIndex for NoIndex {
 
     ghost is_key_of = { λ _ _. ⊤ };
 
+    ghost is_own = { λ _ _. ⊤ };
+
     ghost has_no_rows = { λ _. ⊤ };
 
     ghost has_room = { λ _ _. ⊤ };
 
-    fn key_of(_field: &FieldLine<'_>) -> () {}
+    fn key_of(&self, _field: &FieldLine<'_>) -> () {}
 
-    fn without_entries(_alloc: Global) -> NoIndex {
+    fn own_key(&self, _key: (), _field: &FieldLine<'_>) -> () {}
+
+    fn emptied(&self) -> NoIndex {
         NoIndex
     }
 

@@ -1,7 +1,7 @@
-//! The index of the live entries, by which the newest entry with a field, or with a name, is found. It keeps hashes and
-//! absolute indexes alone: each call is lent the entries, and is told how many were dropped.
+//! The index of the live entries, by which the newest entry with a field, or with a name, is found. It keeps only
+//! hashes and absolute indexes: pass each call the entries, and how many were dropped before them.
 
-ghost use Rattle.std.specs.Prelude.{◌≡◌, ◌+◌, ◌-◌, ◌^◌, ◌<◌, ◌≤◌, ℕ, [], OnOk, OnErr, length, drop};
+ghost use Rattle.std.specs.Prelude.{◌≡◌, ◌+◌, ◌-◌, ◌^◌, ◌<◌, ◌≤◌, ℕ, [], OnOk, OnErr, length, drop, min};
 ghost use Rattle.std.specs.Prelude.{vec_capacity};
 ghost use Rattle.qpack_base.specs.HeaderFields.{line_of};
 ghost use Rattle.qpack_spec.specs.Field.{is_field, has_name};
@@ -20,14 +20,43 @@ mod slots;
 
 use crate::dynamic::entry::Entry;
 use crate::dynamic::growth::{HASHES, ROWS, ROWS_OF_NAMES, make_room};
-pub(super) use crate::dynamic::index::hash::Hashes;
 use crate::dynamic::index::hash::hash_name;
+pub(super) use crate::dynamic::index::hash::{Hashes, SeededHashes};
 use crate::dynamic::index::row::{Part, Sought};
 use crate::dynamic::index::rows::Rows;
-use crate::dynamic::steps::Steps;
 use qpack_base::field::FieldLine;
 use std::alloc::{AllocError, Global};
 use std::collections::VecDeque;
+
+/// A count of the comparisons of a sought field with entries, at most 2^64 - 1.
+#[derive(Debug, Drop)]
+pub struct Steps {
+    count: u64,
+}
+
+impl Steps {
+    /// Returns a counter of no comparisons.
+    pub fn new() -> Steps
+        ensures { result.count ≡ 0 }
+    {
+        Steps { count: 0 }
+    }
+
+    /// Returns how many comparisons were made.
+    pub fn count(&self) -> u64
+        ensures { result ≡ self.now.count }
+    {
+        self.count
+    }
+
+    /// Counts one more comparison.
+    pub(super) fn raise(&mut self)
+        ensures raised { self.new.count ≡ min (self.old.count + 1) (2 ^ 64 - 1) }
+        ensures grows { self.old.count ≤ self.new.count }
+    {
+        self.count = self.count.saturating_add(1);
+    }
+}
 
 /// The newest live entry of each different field, and of each different name. There are at least as many rows of
 /// fields as entries, and about as many of names as there are names.
@@ -37,24 +66,44 @@ pub struct Index {
     names: Rows,
     /// The hashes of each live entry, the oldest first.
     hashes: VecDeque<Hashes>,
+    /// What the hashes are computed under.
+    seed: u64,
     alloc: Global,
 }
 
 impl Index {
-    /// The index of no entry, which takes no memory.
-    pub(super) fn new(alloc: Global) -> Index
+    /// Returns the index of no entry, with a seed. It takes no memory.
+    pub(super) fn new(alloc: Global, seed: u64) -> Index
         ensures index { (dropped : ℕ) → IsIndexOf dropped [] 0 result }
         ensures no_rows { HasNoRows result }
+        ensures seed { result.seed ≡ seed }
     {
         Index {
             fields: Rows::new(alloc),
             names: Rows::new(alloc),
             hashes: VecDeque::new(alloc),
+            seed,
             alloc,
         }
     }
 
-    /// The newest entry with the field. Where there is no entry, nothing is hashed.
+    /// Returns what the hashes are computed under.
+    pub(super) fn seed(&self) -> u64
+        ensures { result ≡ self.now.seed }
+    {
+        self.seed
+    }
+
+    /// Returns another index of no entry, with the same seed.
+    pub(super) fn emptied(&self) -> Index
+        ensures index { (dropped : ℕ) → IsIndexOf dropped [] 0 result }
+        ensures no_rows { HasNoRows result }
+        ensures seed { result.seed ≡ self.now.seed }
+    {
+        Index::new(self.alloc, self.seed)
+    }
+
+    /// Returns the newest entry with the field. If there is no entry, nothing is hashed.
     pub(super) fn newest_equal(
         &self,
         entries: &VecDeque<Entry>,
@@ -69,10 +118,11 @@ impl Index {
         if entries.is_empty() {
             return None;
         }
-        self.newest_hashed(entries, dropped, field, Hashes::of(field), steps)
+        let hashes = Hashes::of(self.seed, field);
+        self.newest_hashed(entries, dropped, field, hashes, steps)
     }
 
-    /// The newest entry with a field that has such hashes.
+    /// Returns the newest entry with a field that has these hashes.
     #[inline(always)]
     pub(super) fn newest_hashed(
         &self,
@@ -83,19 +133,19 @@ impl Index {
         steps: &mut Steps,
     ) -> Option<usize>
         requires index { IsIndexOf dropped (live_fields entries.now.items) (length entries.now.items) self.now }
-        requires hashes { AreHashesOf hashes (line_of field.now).field }
+        requires hashes { AreHashesOf self.now.seed hashes (line_of field.now).field }
         ensures found { IsNewestIn dropped (entries_of entries.now.items) (is_field (line_of field.now).field) result }
         ensures steps { Counts (length entries.now.items) steps.old.count steps.new.count }
     {
         let sought = Sought {
-            part: Part::Whole,
+            part: Part::Whole(self.seed),
             line: *field,
             hash: hashes.field,
         };
         self.fields.newest(entries, dropped, &sought, steps)
     }
 
-    /// The newest entry with the name. Where there is no entry, nothing is hashed.
+    /// Returns the newest entry with the name. If there is no entry, nothing is hashed.
     pub(super) fn newest_of_name(
         &self,
         entries: &VecDeque<Entry>,
@@ -110,10 +160,11 @@ impl Index {
         if entries.is_empty() {
             return None;
         }
-        self.newest_hashed_name(entries, dropped, name, hash_name(name), steps)
+        let hash = hash_name(self.seed, name);
+        self.newest_hashed_name(entries, dropped, name, hash, steps)
     }
 
-    /// The newest entry with a name that has such a hash.
+    /// Returns the newest entry with a name that has this hash.
     pub(super) fn newest_hashed_name(
         &self,
         entries: &VecDeque<Entry>,
@@ -123,20 +174,20 @@ impl Index {
         steps: &mut Steps,
     ) -> Option<usize>
         requires index { IsIndexOf dropped (live_fields entries.now.items) (length entries.now.items) self.now }
-        requires hash { hash ≡ name_hash name.now }
+        requires hash { hash ≡ name_hash self.now.seed name.now }
         ensures found { IsNewestIn dropped (entries_of entries.now.items) (has_name name.now) result }
         ensures steps { Counts (length entries.now.items) steps.old.count steps.new.count }
     {
         let sought = Sought {
-            part: Part::Name,
+            part: Part::Name(self.seed),
             line: FieldLine::new(name, &[]),
             hash,
         };
         self.names.newest(entries, dropped, &sought, steps)
     }
 
-    /// Makes room for one entry more, with such hashes. Where there would be fewer rows of fields than entries, it
-    /// makes one more, or the first ones. On error the same entries are in, in as many rows of fields as before.
+    /// Makes room for one more entry, with these hashes. If there would be fewer rows of fields than entries, it makes
+    /// one more, or the first ones. On error the same entries are in, in as many rows of fields.
     #[inline(always)]
     pub(super) fn reserve(
         &mut self,
@@ -157,6 +208,7 @@ impl Index {
         ensures fields { HasFewSpare self.old.fields → HasFewSpare self.new.fields }
         ensures names { HasFewSpare self.old.names → HasFewSpare self.new.names }
         ensures hashes { MakesRoomForHashes result self.old self.new }
+        ensures seed { self.new.seed ≡ self.old.seed }
     {
         if entries.len() < self.fields.count() {
             return self.make_room(hashes);
@@ -164,8 +216,8 @@ impl Index {
         self.grow(hashes)
     }
 
-    /// Makes room for one entry more in its rows and among the hashes. Where the row of its name is crowded, it makes
-    /// one row of names more. Otherwise it fails only where there is no room.
+    /// Makes room for one more entry in its rows and among the hashes. If the row of its name is crowded, it makes one
+    /// more row of names. Otherwise it fails only if there is no room.
     fn make_room(&mut self, hashes: Hashes) -> Result<(), AllocError>
         requires some { 0 < length self.old.fields.rows.items }
         requires index { IsIndex self.old }
@@ -177,6 +229,7 @@ impl Index {
         ensures fields { HasFewSpare self.old.fields → HasFewSpare self.new.fields }
         ensures names { HasFewSpare self.old.names → HasFewSpare self.new.names }
         ensures hashes { MakesRoomForHashes result self.old self.new }
+        ensures seed { self.new.seed ≡ self.old.seed }
     {
         make_room(&mut self.hashes, HASHES)?;
         self.names
@@ -184,8 +237,8 @@ impl Index {
         self.fields.reserve(self.alloc, hashes.field)
     }
 
-    /// Makes one row of fields more, and one of names where the row of this name is crowded, or the first ones; and
-    /// room for one entry more. It hashes nothing again. What can fail comes first.
+    /// Makes one more row of fields, and one of names if the row of this name is crowded, or the first ones; and room
+    /// for one more entry. It hashes nothing again. What can fail comes first.
     #[inline(never)]
     fn grow(&mut self, hashes: Hashes) -> Result<(), AllocError>
         requires index { IsIndex self.old }
@@ -198,6 +251,7 @@ impl Index {
         ensures fields { HasFewSpare self.old.fields → HasFewSpare self.new.fields }
         ensures names { HasFewSpare self.old.names → HasFewSpare self.new.names }
         ensures hashes { MakesRoomForHashes result self.old self.new }
+        ensures seed { self.new.seed ≡ self.old.seed }
     {
         if self.fields.count() == 0 {
             return self.make_first_rows(hashes);
@@ -223,6 +277,7 @@ impl Index {
         ensures fields { HasFewSpare self.old.fields → HasFewSpare self.new.fields }
         ensures names { HasFewSpare self.old.names → HasFewSpare self.new.names }
         ensures hashes { MakesRoomForHashes result self.old self.new }
+        ensures seed { self.new.seed ≡ self.old.seed }
     {
         let mut fields = Rows::with_count(self.alloc, ROWS)?;
         let mut names = Rows::with_count(self.alloc, ROWS_OF_NAMES)?;
@@ -234,7 +289,7 @@ impl Index {
         Ok(())
     }
 
-    /// An entry comes in behind all that are in, of which it is the next newer one. There is room.
+    /// Adds the next newer entry after those that are in. There is room.
     #[inline(always)]
     pub(super) fn enter(
         &mut self,
@@ -245,19 +300,20 @@ impl Index {
     )
         requires live { (dropped < index) × (index ≤ dropped + length entries.now.items) }
         requires index { IsIndexOf dropped (live_fields entries.now.items) (index - dropped - 1) self.old }
-        requires hashes { AreHashesOf hashes (field_at dropped (live_fields entries.now.items) index) }
+        requires hashes { AreHashesOf self.old.seed hashes (field_at dropped (live_fields entries.now.items) index) }
         requires room { HasRoomForEntry hashes self.old }
         ensures index { IsIndexOf dropped (live_fields entries.now.items) (index - dropped) self.new }
         ensures rows { length self.new.fields.rows.items ≡ length self.old.fields.rows.items }
+        ensures seed { self.new.seed ≡ self.old.seed }
     {
         let line = entries[index - dropped - 1].field.as_line();
         let field = Sought {
-            part: Part::Whole,
+            part: Part::Whole(self.seed),
             line,
             hash: hashes.field,
         };
         let name = Sought {
-            part: Part::Name,
+            part: Part::Name(self.seed),
             line,
             hash: hashes.name,
         };
@@ -266,7 +322,7 @@ impl Index {
         self.hashes.push_back_reserved(hashes);
     }
 
-    /// The oldest entry, which is about to be popped, goes out. It takes no memory, and the room that was made stays.
+    /// Removes the oldest entry, which is about to be popped. It takes no memory, and the room that was made stays.
     pub(super) fn leave(&mut self, entries: &VecDeque<Entry>, dropped: usize)
         requires some { 0 < length entries.now.items }
         requires few { dropped + length entries.now.items < 2 ^ 64 }
@@ -274,16 +330,17 @@ impl Index {
         ensures index { IsIndexOf (dropped + 1) (drop 1 (live_fields entries.now.items))
             (length entries.now.items - 1) self.new }
         ensures room { (hashes : Hashes) → HasRoomForEntry hashes self.old → HasRoomForEntry hashes self.new }
+        ensures seed { self.new.seed ≡ self.old.seed }
     {
         let hashes = self.hashes[0];
         let line = entries[0].field.as_line();
         let field = Sought {
-            part: Part::Whole,
+            part: Part::Whole(self.seed),
             line,
             hash: hashes.field,
         };
         let name = Sought {
-            part: Part::Name,
+            part: Part::Name(self.seed),
             line,
             hash: hashes.name,
         };

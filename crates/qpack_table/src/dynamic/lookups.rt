@@ -13,11 +13,11 @@ ghost use Rattle.qpack_table.specs.declared.dynamic.Error.TheVariants.{Memory as
 ghost use Rattle.qpack_spec.specs.Handle as handle;
 ghost use Rattle.qpack_table.specs.Handles.{Finds, Inserts, InsertsIf, IsSoughtIn, lookup_of, insertion_of, kept_index};
 ghost use Rattle.qpack_table.specs.Handles.{referenced_insertion, unreferenced_insertion};
-ghost use Rattle.qpack_table.specs.Indexes.{AreHashesOf};
+ghost use Rattle.qpack_table.specs.Indexes.{AreSeededHashesOf};
 
 use crate::dynamic::Error;
 use crate::dynamic::encoder::{DynamicInsertionResult, DynamicLookupResult};
-use crate::dynamic::index::Hashes;
+use crate::dynamic::index::SeededHashes;
 use crate::dynamic::sought::SoughtField;
 use crate::dynamic::table::{DynamicTable, MOST_INSERTIONS};
 use qpack_base::coding::NoMemory;
@@ -201,7 +201,7 @@ impl DynamicTable {
             (with_entry self.old (sent_entry (line_of field.now).field)) (insert_count self.old + 1)) }
         ensures err { IfErr result (λ e. (e ≡ NoRoom) × (self.new ≡ self.old)) }
     {
-        let hashes = sought.hashes_of(field);
+        let hashes = self.hashes_of(field, sought);
         let insertion = self.insertion_of(base, field, hashes, sought, evicted);
         let copy = stored(self.allocator(), field, sought.static_name)?;
         self.insert_sent(copy, hashes, evicted)?;
@@ -266,7 +266,7 @@ impl DynamicTable {
         ensures new { OnOk result (self.new ≡ with_entry self.old (sent_entry (line_of field.now).field)) }
         ensures err { IfErr result (λ e. (e ≡ NoRoom) × (self.new ≡ self.old)) }
     {
-        let hashes = sought.hashes_of(field);
+        let hashes = self.hashes_of(field, sought);
         let insertion = self.insertion_of(base, field, hashes, sought, evicted);
         let copy = stored(self.allocator(), field, sought.static_name)?;
         self.insert_hashed(copy, true, evicted, hashes)?;
@@ -280,11 +280,11 @@ impl DynamicTable {
         &self,
         base: usize,
         field: &FieldLine<'_>,
-        hashes: Hashes,
+        hashes: SeededHashes,
         sought: &SoughtField,
         evicted: usize,
     ) -> DynamicInsertionResult
-        requires hashes { AreHashesOf hashes (line_of field.now).field }
+        requires hashes { AreSeededHashesOf hashes (line_of field.now).field }
         requires sought { IsSoughtIn self.now (line_of field.now).field sought.now }
         requires few { insert_count self.now < 2 ^ 62 }
         requires evicted { evicted ≤ length self.now.live }

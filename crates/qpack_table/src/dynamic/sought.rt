@@ -7,15 +7,14 @@ ghost use Rattle.qpack_spec.specs.Field.{has_name, is_field};
 ghost use Rattle.qpack_spec.specs.Handle.{find_field};
 ghost use Rattle.qpack_spec.specs.StaticTable.{static_name_index};
 ghost use Rattle.qpack_spec.specs.Table.{newest_index};
-ghost use Rattle.qpack_table.specs.Handles.{Finds, IsSoughtIn, IsFoundIn, lookup_in};
-ghost use Rattle.qpack_table.specs.Hashes.{name_hash};
-ghost use Rattle.qpack_table.specs.Indexes.{AreHashesOf};
+ghost use Rattle.qpack_table.specs.Handles.{AreHashesIn, Finds, IsSoughtIn, IsFoundIn, lookup_in};
+ghost use Rattle.qpack_table.specs.Hashes.{name_hash, field_hash};
+ghost use Rattle.qpack_table.specs.Indexes.{AreSeededHashesOf};
 ghost use Rattle.qpack_table.specs.Rows.{Counts};
 
 use crate::dynamic::Error;
 use crate::dynamic::encoder::DynamicLookupResult;
-use crate::dynamic::index::Hashes;
-use crate::dynamic::steps::Steps;
+use crate::dynamic::index::{SeededHashes, Steps};
 use crate::dynamic::table::DynamicTable;
 use crate::vas::AbsoluteIndex;
 use qpack_base::field::{FieldLine, HeaderField};
@@ -24,7 +23,7 @@ use qpack_base::field::{FieldLine, HeaderField};
 #[derive(Debug, Clone, Copy)]
 pub struct SoughtField {
     /// Its hashes, which are not computed if there is no entry.
-    pub(super) hashes: Option<Hashes>,
+    pub(super) hashes: Option<SeededHashes>,
     /// The absolute index of the newest live entry that is the field.
     pub(super) newest: Option<AbsoluteIndex>,
     /// The least index of a static field with its name.
@@ -57,25 +56,26 @@ impl SoughtField {
         self.static_name
     }
 
-    /// Returns a hash of the field, its name and its value, which is the same for every table. Computes it unless it is
-    /// known.
+    /// Returns a hash of the field, its name and its value, which is the same for every table and every seed. Computes
+    /// it unless it is known.
     #[inline(always)]
-    pub fn hash(&self, field: &FieldLine<'_>) -> u32 {
-        match self.hashes {
-            Some(hashes) => hashes.of_field(),
-            None => Hashes::of(field).of_field(),
-        }
+    pub fn hash(&self, field: &FieldLine<'_>) -> u32
+        requires { AreHashesIn (line_of field.now).field self.now }
+        ensures { result ≡ field_hash 0 (line_of field.now).field }
+    {
+        self.hashes_under(0, field).hash()
     }
 
-    /// Returns its hashes, and computes them unless they are known.
+    /// Returns its hashes under a seed. Computes them unless they are known.
     #[inline(always)]
-    pub(super) fn hashes_of(&self, field: &FieldLine<'_>) -> Hashes
-        requires { IfSome self.now.hashes (λ hashes. AreHashesOf hashes (line_of field.now).field) }
-        ensures { AreHashesOf result (line_of field.now).field }
+    pub(super) fn hashes_under(&self, seed: u64, field: &FieldLine<'_>) -> SeededHashes
+        requires { AreHashesIn (line_of field.now).field self.now }
+        ensures seed { result.seed ≡ seed }
+        ensures hashes { AreSeededHashesOf result (line_of field.now).field }
     {
         match self.hashes {
-            Some(hashes) => hashes,
-            None => Hashes::of(field),
+            Some(known) => known.reseeded(seed, field),
+            None => SeededHashes::of(seed, field),
         }
     }
 }
@@ -112,12 +112,21 @@ impl DynamicTable {
                 static_name,
             };
         }
-        let hashes = Hashes::of(field);
+        let hashes = SeededHashes::of(self.index.seed(), field);
         SoughtField {
             hashes: Some(hashes),
             newest: self.newest_hashed(field, hashes),
             static_name,
         }
+    }
+
+    /// Returns the hashes of a field that was sought, by which the index finds it.
+    #[inline(always)]
+    pub(super) fn hashes_of(&self, field: &FieldLine<'_>, sought: &SoughtField) -> SeededHashes
+        requires { AreHashesIn (line_of field.now).field sought.now }
+        ensures { AreSeededHashesOf result (line_of field.now).field }
+    {
+        sought.hashes_under(self.index.seed(), field)
     }
 
     /// Seeks a field, and finds the newest entry that is it, which is referenced if it may be.
@@ -144,7 +153,7 @@ impl DynamicTable {
         name: &[u8],
         sought: &SoughtField,
     ) -> Option<AbsoluteIndex>
-        requires { IfSome sought.now.hashes (λ hashes. hashes.name ≡ name_hash name.now) }
+        requires { IfSome sought.now.hashes (λ known. known.hashes.name ≡ name_hash known.seed name.now) }
         ensures { result ≡ newest_index self.now (has_name name.now) }
     {
         match sought.hashes {
@@ -186,16 +195,16 @@ impl DynamicTable {
     pub(super) fn newest_hashed(
         &self,
         field: &FieldLine<'_>,
-        hashes: Hashes,
+        hashes: SeededHashes,
     ) -> Option<AbsoluteIndex>
-        requires { AreHashesOf hashes (line_of field.now).field }
+        requires { AreSeededHashesOf hashes (line_of field.now).field }
         ensures { result ≡ newest_index self.now (is_field (line_of field.now).field) }
     {
         self.index.newest_hashed(
             &self.entries,
             self.vas.total_dropped(),
             field,
-            hashes,
+            hashes.reseeded(self.index.seed(), field).hashes,
             &mut Steps::new(),
         )
     }
@@ -217,16 +226,20 @@ impl DynamicTable {
         self.newest_named(name, &mut Steps::new())
     }
 
-    /// Returns the absolute index of the newest live entry with the name, which has this hash.
-    pub(super) fn newest_hashed_name(&self, name: &[u8], hashes: Hashes) -> Option<AbsoluteIndex>
-        requires { hashes.name ≡ name_hash name.now }
+    /// Returns the absolute index of the newest live entry with the name, which has these hashes.
+    pub(super) fn newest_hashed_name(
+        &self,
+        name: &[u8],
+        hashes: SeededHashes,
+    ) -> Option<AbsoluteIndex>
+        requires { hashes.hashes.name ≡ name_hash hashes.seed name.now }
         ensures { result ≡ newest_index self.now (has_name name.now) }
     {
         self.index.newest_hashed_name(
             &self.entries,
             self.vas.total_dropped(),
             name,
-            hashes.name,
+            hashes.name_under(self.index.seed(), name),
             &mut Steps::new(),
         )
     }

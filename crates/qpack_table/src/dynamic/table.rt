@@ -14,7 +14,7 @@ ghost use Rattle.qpack_spec.specs.Reading.{relative_field, post_base_field};
 ghost use Rattle.qpack_spec.specs.Window.{absolute_entry, eviction_count, relative_entry, greatest_capacity};
 ghost use Rattle.qpack_spec.specs.Window.{maximum_capacity};
 ghost use Rattle.std.specs.Option.{option_map};
-ghost use Rattle.qpack_table.specs.Indexes.{AreHashesOf};
+ghost use Rattle.qpack_table.specs.Indexes.{AreSeededHashesOf};
 ghost use Rattle.qpack_table.specs.Positions.{positions_of};
 ghost use Rattle.qpack_table.specs.Tables.{IsEvictableAt, LooksUp, IsInserted, entries_of, Changes, ChangesWithMemory};
 ghost use Rattle.qpack_table.specs.Tables.{refusal_of};
@@ -27,7 +27,7 @@ use crate::dynamic::block::make_room;
 use crate::dynamic::capacities::{Capacities, GREATEST_CAPACITY};
 use crate::dynamic::entry::{Entry, drop_oldest, give_back_room, replace_oldest};
 use crate::dynamic::entry_index::{EntryIndex, NoIndex};
-use crate::dynamic::index::{Hashes, Index};
+use crate::dynamic::index::{Index, SeededHashes};
 use crate::dynamic::open_blocks::{BlockedBlocks, OpenBlocks};
 use crate::vas::VirtualAddressSpace;
 use qpack_base::field::{FieldLine, HeaderField};
@@ -93,7 +93,15 @@ impl DynamicTable {
     pub fn new(alloc: Global) -> DynamicTable
         ensures { result ≡ empty_table 0 None 0 }
     {
-        DynamicTable::with_index(alloc, Index::new(alloc))
+        DynamicTable::with_seed(alloc, 0)
+    }
+
+    /// Returns an empty table, as `new` does, whose index hashes fields with a seed. What it returns depends on no
+    /// seed; but only with a secret one nobody can prepare fields that take long to insert.
+    pub fn with_seed(alloc: Global, seed: u64) -> DynamicTable
+        ensures { result ≡ empty_table 0 None 0 }
+    {
+        DynamicTable::with_index(alloc, Index::new(alloc, seed))
     }
 
     /// Sets how many blocks may be blocked at once, at most 65,534 (RFC 9204, section 2.1.2).
@@ -114,10 +122,10 @@ impl DynamicTable {
     pub(super) fn insert_sent(
         &mut self,
         field: HeaderField,
-        hashes: Hashes,
+        hashes: SeededHashes,
         evicted: usize,
     ) -> Result<(), AllocError>
-        requires hashes { AreHashesOf hashes (field_of field) }
+        requires hashes { AreSeededHashesOf hashes (field_of field) }
         requires few { insert_count self.old < 2 ^ 62 }
         requires fits { field_size (field_of field) ≤ self.old.capacity }
         requires evicted { evicted ≡ eviction_count_for self.old (field_of field) }
@@ -350,7 +358,7 @@ impl<I: EntryIndex> DynamicTable<I> {
         ensures ok { OnOk result (self.new ≡ with_entry self.old (record { field = field_of field; sent = sent })) }
         ensures err { OnErr result (self.new ≡ self.old) }
     {
-        let key = I::key_of(&field.as_line());
+        let key = self.index.key_of(&field.as_line());
         self.insert_hashed(field, sent, evicted, key)
     }
 

@@ -6,7 +6,9 @@ use super::take_all;
 use crate::field::{FieldLine, Wish, WishedField};
 use crate::room::{gather, make_room};
 use crate::sys::{self, Lent};
+use std::collections::hash_map::RandomState;
 use std::fmt;
+use std::hash::{BuildHasher, Hasher};
 
 /// The settings of an encoder.
 #[derive(Debug, Clone, Copy, PartialEq, Eq)]
@@ -20,13 +22,16 @@ pub struct EncoderSettings {
     /// While this number of sections is unacknowledged (RFC 9204, section 4.4.1), sections reference only the static
     /// table.
     pub most_unacknowledged: usize,
+    /// What the hashes of the table's fields are computed with; `None` for a random number. With one that nobody can
+    /// guess, nobody can choose fields that take long to insert. No byte that is written depends on it.
+    pub seed: Option<u64>,
 }
 
 impl EncoderSettings {
-    /// Returns the settings for a peer that sent these two, with a capacity of 4,096 bytes and 100 unacknowledged
-    /// sections.
+    /// Returns the settings for a peer that sent these two, with a capacity of 4,096 bytes, 100 unacknowledged sections
+    /// and a random seed.
     pub fn new(max_capacity: usize, max_blocked: usize) -> EncoderSettings {
-        EncoderSettings { max_capacity, max_blocked, capacity: 4096, most_unacknowledged: 100 }
+        EncoderSettings { max_capacity, max_blocked, capacity: 4096, most_unacknowledged: 100, seed: None }
     }
 }
 
@@ -53,8 +58,9 @@ impl ConnectionEncoder {
     /// - [`SettingsError::OutOfRange`] if `max_capacity` is 2^30 or more: for such a peer pass 0.
     /// - [`SettingsError::NoMemory`].
     pub fn new(settings: EncoderSettings) -> Result<ConnectionEncoder, SettingsError> {
-        let EncoderSettings { max_capacity, max_blocked, capacity, most_unacknowledged } = settings;
-        match sys::Encoder::new(max_capacity, max_blocked, capacity, most_unacknowledged) {
+        let EncoderSettings { max_capacity, max_blocked, capacity, most_unacknowledged, seed } = settings;
+        let seed = seed.unwrap_or_else(|| RandomState::new().build_hasher().finish());
+        match sys::Encoder::new(max_capacity, max_blocked, capacity, most_unacknowledged, seed) {
             Ok(end) => Ok(ConnectionEncoder { end, list_size: 0 }),
             Err(status) => Err(SettingsError::of(status)),
         }

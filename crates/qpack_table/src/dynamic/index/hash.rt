@@ -1,21 +1,24 @@
-//! The hashes of fields and of names. That they spread them is not promised: a bad one costs time.
+//! The hashes of fields and of names, under a seed. How well they spread is not promised: a bad one costs time.
 
 ghost use Rattle.std.specs.Prelude.{◌≡◌, ◌^◌, ◌<◌, ◌≤◌};
 ghost use Rattle.qpack_base.specs.HeaderFields.{line_of};
-ghost use Rattle.qpack_table.specs.Hashes.{bytes_hash, name_hash, field_hash, position_among};
+ghost use Rattle.qpack_table.specs.Hashes.{bytes_hash, name_hash, field_hash, position_among, start_of, factor_of};
 ghost use Rattle.qpack_table.specs.Hashes.{words_hash, piece_hash, rest_hash, short_hash, few_bytes, folded_product};
+ghost use Rattle.qpack_table.specs.Indexes.{AreSeededHashesOf};
 
 use qpack_base::field::FieldLine;
 
-/// Any number will do: this is a part of that of `wyhash`, as the next.
-const SEED: u64 = 0xA076_1D64_78BD_642F;
+/// Where a hash begins. Any number will do: this and the next are of `wyhash`.
+const START: u64 = 0xA076_1D64_78BD_642F;
 
-const SECRET: u64 = 0xE703_7ED1_A0B4_28DB;
+/// A factor of each product of a hash. The seed goes into this too: if the factor is known, bytes can be chosen that
+/// make the product 0 whatever came before them.
+const FACTOR: u64 = 0xE703_7ED1_A0B4_28DB;
 
 /// The low half of 128 bits.
 const LOW_HALF: u128 = (1 << 64) - 1;
 
-/// The hashes of a field.
+/// The hashes of a field under some seed.
 #[derive(Debug, Clone, Copy)]
 pub struct Hashes {
     /// Of its name.
@@ -25,31 +28,94 @@ pub struct Hashes {
 }
 
 impl Hashes {
-    /// Those of a field: what goes on from the name over the value is not hashed twice.
+    /// Returns the hashes of a field under a seed. That of the field goes on from the name, which is hashed once.
     #[inline(always)]
-    pub(in crate::dynamic) fn of(field: &FieldLine<'_>) -> Hashes
-        ensures name { result.name ≡ name_hash (line_of field.now).field.name }
-        ensures field { result.field ≡ field_hash (line_of field.now).field }
+    pub(super) fn of(seed: u64, field: &FieldLine<'_>) -> Hashes
+        ensures name { result.name ≡ name_hash seed (line_of field.now).field.name }
+        ensures field { result.field ≡ field_hash seed (line_of field.now).field }
     {
-        let name = hash_bytes(SEED, field.name);
-        let field = hash_bytes(name, field.value);
+        let factor = factor_of(seed);
+        let name = hash_bytes(factor, start_of(seed), field.name);
+        let field = hash_bytes(factor, name, field.value);
         Hashes {
             name: (name >> 32) as u32,
             field: (field >> 32) as u32,
         }
     }
+}
 
-    /// The hash of the whole field.
-    pub(in crate::dynamic) fn of_field(&self) -> u32
-        ensures { result ≡ self.now.field }
+/// The hashes of a field, with the seed that they were computed under.
+#[derive(Debug, Clone, Copy)]
+pub struct SeededHashes {
+    pub(super) seed: u64,
+    pub(in crate::dynamic) hashes: Hashes,
+}
+
+impl SeededHashes {
+    /// Returns the hashes of a field under a seed.
+    #[inline(always)]
+    pub(in crate::dynamic) fn of(seed: u64, field: &FieldLine<'_>) -> SeededHashes
+        ensures seed { result.seed ≡ seed }
+        ensures hashes { AreSeededHashesOf result (line_of field.now).field }
     {
-        self.field
+        SeededHashes {
+            seed,
+            hashes: Hashes::of(seed, field),
+        }
+    }
+
+    /// Returns the hashes of the field under a seed. It computes them only if these have another.
+    #[inline(always)]
+    pub(in crate::dynamic) fn reseeded(self, seed: u64, field: &FieldLine<'_>) -> SeededHashes
+        requires { AreSeededHashesOf self (line_of field.now).field }
+        ensures seed { result.seed ≡ seed }
+        ensures hashes { AreSeededHashesOf result (line_of field.now).field }
+    {
+        if self.seed == seed {
+            return self;
+        }
+        SeededHashes::of(seed, field)
+    }
+
+    /// Returns the hash of the field, its name and its value.
+    pub(in crate::dynamic) fn hash(self) -> u32
+        ensures { result ≡ self.hashes.field }
+    {
+        self.hashes.field
+    }
+
+    /// Returns the hash of its name under a seed. It computes it only if this one has another.
+    #[inline(always)]
+    pub(in crate::dynamic) fn name_under(&self, seed: u64, name: &[u8]) -> u32
+        requires { self.now.hashes.name ≡ name_hash self.now.seed name.now }
+        ensures { result ≡ name_hash seed name.now }
+    {
+        if self.seed == seed {
+            return self.hashes.name;
+        }
+        hash_name(seed, name)
     }
 }
 
-/// The position of a hash among so many rows, by linear hashing. It is the remainder of the hash by the width, the
-/// least power of two that is at least the count; or half the width below, where no row is there yet. So one row more
-/// takes hashes of one other row alone, that of [`split_among`].
+/// Returns the number that a hash begins with under a seed.
+#[inline(always)]
+fn start_of(seed: u64) -> u64
+    ensures { result ≡ start_of seed }
+{
+    START ^ seed
+}
+
+/// Returns a factor of each product of a hash under a seed.
+#[inline(always)]
+fn factor_of(seed: u64) -> u64
+    ensures { result ≡ factor_of seed }
+{
+    FACTOR ^ seed
+}
+
+/// Returns the position of a hash among a number of rows, by linear hashing. It is the remainder of the hash by the
+/// width, the least power of two that is at least the number; or half the width below, if there is no such row yet. So
+/// one more row takes hashes of one other row alone, that of [`split_among`].
 pub(super) fn position_of(hash: u32, count: usize) -> usize
     requires some { 0 < count }
     requires few { count ≤ 2 ^ 63 }
@@ -59,7 +125,7 @@ pub(super) fn position_of(hash: u32, count: usize) -> usize
     position_below(hash as usize, count)
 }
 
-/// The position of the row that one row more takes hashes of: where those stand that belong to the new one.
+/// Returns the position of the row that one more row takes hashes of.
 pub(super) fn split_among(count: usize) -> usize
     requires some { 0 < count }
     requires few { count ≤ 2 ^ 63 }
@@ -69,7 +135,7 @@ pub(super) fn split_among(count: usize) -> usize
     position_below(count, count)
 }
 
-/// The position of any number among so many.
+/// Returns the position of any number among a number of rows.
 #[inline(always)]
 fn position_below(number: usize, count: usize) -> usize
     requires some { 0 < count }
@@ -86,63 +152,68 @@ fn position_below(number: usize, count: usize) -> usize
     }
 }
 
-/// A name's hash.
-pub(super) fn hash_name(name: &[u8]) -> u32
-    ensures { result ≡ name_hash name.now }
+/// Returns the hash of a name under a seed.
+pub(super) fn hash_name(seed: u64, name: &[u8]) -> u32
+    ensures { result ≡ name_hash seed name.now }
 {
-    (hash_bytes(SEED, name) >> 32) as u32
+    (hash_bytes(factor_of(seed), start_of(seed), name) >> 32) as u32
 }
 
-/// The hash goes on over bytes, 16 at a step.
-fn hash_bytes(seed: u64, bytes: &[u8]) -> u64
-    ensures { result ≡ bytes_hash seed bytes.now }
+/// Continues a hash over bytes, 16 at a step.
+fn hash_bytes(factor: u64, start: u64, bytes: &[u8]) -> u64
+    ensures { result ≡ bytes_hash factor start bytes.now }
 {
-    let mut hash = seed ^ bytes.len() as u64;
+    let mut hash = start ^ bytes.len() as u64;
     let mut rest = bytes;
     while let Some((piece, more)) = rest.split_first_chunk::<16>() {
-        hash = hash_piece(hash, *piece);
+        hash = hash_piece(factor, hash, *piece);
         rest = more;
     }
-    hash_rest(hash, rest)
+    hash_rest(factor, hash, rest)
 }
 
-/// One step over 16 bytes.
-fn hash_piece(hash: u64, piece: [u8; 16]) -> u64
-    ensures { result ≡ piece_hash hash piece }
+/// Continues a hash over 16 bytes.
+fn hash_piece(factor: u64, hash: u64, piece: [u8; 16]) -> u64
+    ensures { result ≡ piece_hash factor hash piece }
 {
     let word = u128::from_le_bytes(piece);
-    hash_words(hash, (word & LOW_HALF) as u64, (word >> 64) as u64)
+    hash_words(factor, hash, (word & LOW_HALF) as u64, (word >> 64) as u64)
 }
 
-/// The last step, over fewer bytes: the first and the last eight, which may overlap.
-fn hash_rest(hash: u64, rest: &[u8]) -> u64
-    ensures { result ≡ rest_hash hash rest.now }
+/// Ends a hash with fewer than 16 bytes: the first and the last eight, which may overlap.
+fn hash_rest(factor: u64, hash: u64, rest: &[u8]) -> u64
+    ensures { result ≡ rest_hash factor hash rest.now }
 {
     let Some((first, _)) = rest.split_first_chunk::<8>() else {
-        return hash_short(hash, rest);
+        return hash_short(factor, hash, rest);
     };
     let Some((_, last)) = rest.split_last_chunk::<8>() else {
         unreachable!()
     };
-    hash_words(hash, u64::from_le_bytes(*first), u64::from_le_bytes(*last))
+    hash_words(
+        factor,
+        hash,
+        u64::from_le_bytes(*first),
+        u64::from_le_bytes(*last),
+    )
 }
 
-/// The same over fewer than eight: the first and the last four, or all.
-fn hash_short(hash: u64, rest: &[u8]) -> u64
-    ensures { result ≡ short_hash hash rest.now }
+/// Ends a hash with fewer than eight bytes: the first and the last four, which may overlap, or all.
+fn hash_short(factor: u64, hash: u64, rest: &[u8]) -> u64
+    ensures { result ≡ short_hash factor hash rest.now }
 {
     let Some((first, _)) = rest.split_first_chunk::<4>() else {
-        return hash_words(hash, few_bytes(rest), 0);
+        return hash_words(factor, hash, few_bytes(rest), 0);
     };
     let Some((_, last)) = rest.split_last_chunk::<4>() else {
         unreachable!()
     };
     let low = u32::from_le_bytes(*first);
     let high = u32::from_le_bytes(*last);
-    hash_words(hash, u64::from(low), u64::from(high))
+    hash_words(factor, hash, u64::from(low), u64::from(high))
 }
 
-/// A number of a few bytes, the greatest first.
+/// Returns the number that a few bytes are, the greatest first.
 fn few_bytes(bytes: &[u8]) -> u64
     ensures { result ≡ few_bytes bytes.now }
 {
@@ -153,14 +224,14 @@ fn few_bytes(bytes: &[u8]) -> u64
     word
 }
 
-/// One step over two words.
-fn hash_words(hash: u64, low: u64, high: u64) -> u64
-    ensures { result ≡ words_hash hash low high }
+/// Continues a hash over two words.
+fn hash_words(factor: u64, hash: u64, low: u64, high: u64) -> u64
+    ensures { result ≡ words_hash factor hash low high }
 {
-    fold_product(hash ^ low, SECRET ^ high)
+    fold_product(hash ^ low, factor ^ high)
 }
 
-/// Both halves of a product, in one.
+/// Returns both halves of a product, in one number.
 fn fold_product(a: u64, b: u64) -> u64
     ensures { result ≡ folded_product a b }
 {

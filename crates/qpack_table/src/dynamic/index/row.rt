@@ -1,5 +1,5 @@
-//! A row of the index: slots that rise by the hash of a part of their entries' fields, then by that part. It is
-//! searched by halving.
+//! A row of the index: slots that rise by the hash of a part of their entries' fields, then by that part. A search
+//! halves them.
 
 ghost use Rattle.std.specs.Prelude.{◌≡◌, ◌≢◌, ◌==◌, ◌+◌, ◌-◌, ◌^◌, ◌<◌, ◌≤◌, [], ◌∷◌, ◌++◌, min, length, IfSome};
 ghost use Rattle.std.specs.Prelude.{IfNone, IfOk, OnOk, OnErr, not, nat_le};
@@ -15,9 +15,9 @@ ghost use Rattle.qpack_table.specs.Tables.{live_fields};
 ghost use Rattle.qpack_table.specs.declared.dynamic.index.row.Slot.{Slot};
 
 use crate::dynamic::entry::Entry;
+use crate::dynamic::index::Steps;
 use crate::dynamic::index::hash::position_of;
 use crate::dynamic::index::slots::Slots;
-use crate::dynamic::steps::Steps;
 use qpack_base::bytes::same;
 use qpack_base::field::FieldLine;
 use std::alloc::{AllocError, Global};
@@ -27,11 +27,11 @@ use std::collections::VecDeque;
 /// A row of at most this many slots is searched for an index without a look at an entry.
 const MOST_SCANNED: usize = 8;
 
-/// Which part of its field an entry is found by.
+/// Which part of its field an entry is found by, with the seed of the part's hash.
 #[derive(Debug, Clone, Copy)]
 pub(super) enum Part {
-    Name,
-    Whole,
+    Name(u64),
+    Whole(u64),
 }
 
 /// A part of a field that is sought, with its hash.
@@ -53,7 +53,7 @@ impl Slot {
     /// No slot.
     pub(super) const NONE: Slot = Slot { hash: 0, index: 0 };
 
-    /// Whether it is none.
+    /// Returns whether it is none.
     #[inline(always)]
     pub(super) fn is_none(&self) -> bool
         ensures { result ≡ (self.now.index == 0) }
@@ -62,7 +62,7 @@ impl Slot {
     }
 }
 
-/// How an entry stands to what is sought. Nothing else compares the two, and nothing else raises the count.
+/// Compares an entry with what is sought. Nothing else compares the two, and nothing else raises the count.
 fn compare_entry(sought: &Sought<'_>, entry: &Entry, steps: &mut Steps) -> Ordering
     ensures order { result ≡ field_cmp (part_of sought.now.part (field_of entry.now.field))
         (field_of_sought sought.now) }
@@ -72,15 +72,14 @@ fn compare_entry(sought: &Sought<'_>, entry: &Entry, steps: &mut Steps) -> Order
     steps.raise();
     match compare_bytes(entry.field.name.as_slice(), sought.line.name) {
         Ordering::Equal => match sought.part {
-            Part::Name => Ordering::Equal,
-            Part::Whole => compare_bytes(entry.field.value.as_slice(), sought.line.value),
+            Part::Name(_) => Ordering::Equal,
+            Part::Whole(_) => compare_bytes(entry.field.value.as_slice(), sought.line.value),
         },
         apart => apart,
     }
 }
 
-/// How two byte strings stand to each other. Where hashes are the same they are mostly equal, which is found out eight
-/// bytes at a time.
+/// Compares two byte strings. If hashes are the same they are mostly equal, which is found out eight bytes at a time.
 fn compare_bytes(a: &[u8], b: &[u8]) -> Ordering
     ensures { result ≡ slice_cmp nat_cmp a.now b.now }
 {
@@ -90,7 +89,7 @@ fn compare_bytes(a: &[u8], b: &[u8]) -> Ordering
     a.cmp(b)
 }
 
-/// How a slot stands to what is sought: its entry is looked at only where the hashes are the same.
+/// Compares a slot with what is sought. It looks at the entry only if the hashes are the same.
 fn compare(
     sought: &Sought<'_>,
     slot: Slot,
@@ -110,8 +109,8 @@ fn compare(
     }
 }
 
-/// Where the slot with what is sought is in two places, or where it would stand. In most rows no slot has the hash that
-/// is sought: that is found out first, of both at once.
+/// Returns where the slot with what is sought is in two places, or where it would be. In most rows no slot has the hash
+/// that is sought: that is found out first, of both at once.
 #[inline(always)]
 fn search_here(
     places: &[Slot; 2],
@@ -148,7 +147,7 @@ fn search_here(
     }
 }
 
-/// Where a slot of a hash would stand in two places that rise, of which neither has it.
+/// Returns where a slot of a hash would be in two places that rise, of which neither has it.
 #[inline(always)]
 fn gap_here(first: Slot, second: Slot, hash: u32) -> usize
     requires first { first.hash ≢ hash }
@@ -164,8 +163,8 @@ fn gap_here(first: Slot, second: Slot, hash: u32) -> usize
     2
 }
 
-/// Where the slot with what is sought is among slots in order, or where it would stand. Each comparison leaves at most
-/// half of the slots.
+/// Returns where the slot with what is sought is among slots in order, or where it would be. Each comparison leaves at
+/// most half of the slots.
 fn search_by_halves(
     slots: &[Slot],
     entries: &VecDeque<Entry>,
@@ -191,7 +190,7 @@ fn search_by_halves(
     Err(low)
 }
 
-/// The position of an index in two places.
+/// Returns the position of an index in two places.
 #[inline(always)]
 fn position_here(places: &[Slot; 2], index: usize) -> Option<usize>
     requires places { ArePlaces places.now }
@@ -209,7 +208,7 @@ fn position_here(places: &[Slot; 2], index: usize) -> Option<usize>
     None
 }
 
-/// The position of an index among slots in order.
+/// Returns the position of an index among slots in order.
 fn position_outside(
     slots: &[Slot],
     entries: &VecDeque<Entry>,
@@ -238,7 +237,7 @@ fn position_outside(
     }
 }
 
-/// The position of an index among slots, slot by slot.
+/// Returns the position of an index among slots. It looks at one after the other.
 fn scan(slots: &[Slot], index: usize) -> Option<usize>
     ensures some { IfSome result (λ position. HasIndexAt slots.now index position) }
     ensures none { IfNone result (HasNoIndex slots.now index) }
@@ -262,7 +261,7 @@ pub(super) struct Split {
 }
 
 impl Row {
-    /// An empty row.
+    /// Returns an empty row.
     pub(super) fn new() -> Row
         ensures { result.slots.items ≡ [] }
     {
@@ -271,7 +270,7 @@ impl Row {
         }
     }
 
-    /// Makes room for one slot more. It fails only where there is none.
+    /// Makes room for one more slot. It fails only if there is none.
     pub(super) fn reserve(&mut self, alloc: Global) -> Result<(), AllocError>
         ensures slots { self.new.slots.items ≡ self.old.slots.items }
         ensures ok { OnOk result (HasRoom self.new) }
@@ -281,15 +280,15 @@ impl Row {
         self.slots.reserve(alloc)
     }
 
-    /// Whether it has as many slots as fit in the row itself, or more.
+    /// Returns whether it has as many slots as fit in the row itself, or more.
     pub(super) fn is_crowded(&self) -> bool
         ensures { result ≡ nat_le 2 (length self.now.slots.items) }
     {
         self.slots.as_slice().len() >= 2
     }
 
-    /// Splits its slots where there is one row more than so many: into those that stay, and those whose hashes belong
-    /// to the new row. Both are in order, since it walks them so.
+    /// Splits its slots, if there is one row more than `count`: into those that stay, and those whose hashes belong to
+    /// the new row. Both are in order, since the slots are.
     pub(super) fn split(&self, alloc: Global, count: usize) -> Result<Split, AllocError>
         requires slots { All (λ s. 0 < s.index) self.now.slots.items }
         requires few { count < 2 ^ 63 }
@@ -320,7 +319,7 @@ impl Row {
         self.slots.push(alloc, slot)
     }
 
-    /// Where the slot with what is sought is, or where it would stand.
+    /// Returns where the slot with what is sought is, or where it would be.
     #[inline(always)]
     fn search(
         &self,
@@ -340,7 +339,7 @@ impl Row {
         }
     }
 
-    /// The index whose entry has what is sought.
+    /// Returns the index whose entry has what is sought.
     #[inline(always)]
     pub(super) fn find(
         &self,
@@ -361,7 +360,7 @@ impl Row {
         }
     }
 
-    /// Takes a live index in, for which there is room: into the slot of the same part, if there is one.
+    /// Adds a live index, for which there is room: in the slot of the same part, if there is one.
     pub(super) fn enter(
         &mut self,
         entries: &VecDeque<Entry>,
@@ -391,7 +390,7 @@ impl Row {
         }
     }
 
-    /// Takes an index out, if it is there.
+    /// Removes an index, if it is there.
     pub(super) fn leave(
         &mut self,
         entries: &VecDeque<Entry>,
@@ -413,7 +412,7 @@ impl Row {
         }
     }
 
-    /// The position of an index.
+    /// Returns the position of an index.
     fn position_of(
         &self,
         entries: &VecDeque<Entry>,

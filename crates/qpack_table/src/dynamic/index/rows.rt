@@ -1,6 +1,6 @@
-//! Rows by a hash: for each different part of the live entries' fields, the newest index that has it stands in the row
-//! of the part's hash. Where every hash is the same, one row has all of them, and is searched by halving as ever.
-//! Rows grow one at a time, by linear hashing (Litwin): each new one takes slots of one other row, and the rest stay.
+//! Rows by a hash: for each different part of the live entries' fields, the newest index that has it is in the row of
+//! the part's hash. If every hash is the same, one row has all of them, and a search halves it as any other. Rows grow
+//! one at a time, by linear hashing (Litwin): each new one takes slots of one other row, and the rest stay.
 
 ghost use Rattle.std.specs.Prelude.{◌≡◌, ◌+◌, ◌-◌, ◌^◌, ◌<◌, ◌≤◌, max, ℕ, List, [], IfOk, OnOk, OnErr, length};
 ghost use Rattle.std.specs.Prelude.{drop, vec_capacity};
@@ -13,9 +13,9 @@ ghost use Rattle.qpack_table.specs.Indexes.{NeedsRow, GrowsByHalf, rows_behind};
 
 use crate::dynamic::entry::Entry;
 use crate::dynamic::growth::growth;
+use crate::dynamic::index::Steps;
 use crate::dynamic::index::hash::{position_of, split_among};
 use crate::dynamic::index::row::{Row, Sought, Split};
-use crate::dynamic::steps::Steps;
 use std::alloc::{AllocError, Global};
 use std::collections::VecDeque;
 
@@ -26,7 +26,7 @@ pub(super) struct Rows {
 }
 
 impl Rows {
-    /// No row.
+    /// Returns no row.
     pub(super) fn new(alloc: Global) -> Rows
         ensures empty { result.rows.items ≡ [] }
         ensures room { vec_capacity result.rows ≡ 0 }
@@ -36,7 +36,7 @@ impl Rows {
         }
     }
 
-    /// Makes that many empty rows, with room for no more.
+    /// Makes a number of empty rows, with room for no more.
     pub(super) fn with_count(alloc: Global, count: usize) -> Result<Rows, AllocError>
         ensures count { IfOk result (λ rows. length rows.rows.items ≡ count) }
         ensures room { IfOk result (λ rows. vec_capacity rows.rows ≡ count) }
@@ -49,7 +49,7 @@ impl Rows {
         Ok(Rows { rows })
     }
 
-    /// Splits the row that one row more takes slots of, and makes room for that one. It makes room for one index more
+    /// Splits the row that one more row takes slots of, and makes room for that row. It makes room for one more index
     /// in the row that a hash will have then. It compares no entries, and the rows keep their slots.
     pub(super) fn split(&mut self, alloc: Global, hash: u32) -> Result<Split, AllocError>
         requires some { 0 < length self.old.rows.items }
@@ -71,9 +71,9 @@ impl Rows {
         Ok(split)
     }
 
-    /// Makes room for one index more in the row of a hash. Where that row is crowded and there are fewer rows than
-    /// `most`, it makes one row more, so that there are about as many rows as indexes. On error there are as many rows
-    /// as before. Otherwise it fails only where there is no room.
+    /// Makes room for one more index in the row of a hash. If that row is crowded and there are fewer rows than `most`,
+    /// it makes one more row, so that there are about as many rows as indexes. On error there are as many rows as
+    /// before. Otherwise it fails only if there is no room.
     pub(super) fn reserve_within(
         &mut self,
         alloc: Global,
@@ -103,7 +103,7 @@ impl Rows {
         self.rows[home].reserve(alloc)
     }
 
-    /// Makes room for one row more. Where there is none, it makes room for half as many as there are, or for one.
+    /// Makes room for one more row. If there is none, it makes room for half as many as there are, or for one.
     fn reserve_row(&mut self) -> Result<(), AllocError>
         ensures rows { self.new.rows.items ≡ self.old.rows.items }
         ensures vacant { OnOk result (length self.new.rows.items < vec_capacity self.new.rows) }
@@ -120,7 +120,7 @@ impl Rows {
         Ok(())
     }
 
-    /// Makes room for one index more in the row that a hash will have once the split is put in place.
+    /// Makes room for one more index in the row that a hash will have once the split is put in place.
     fn reserve_behind(
         &mut self,
         alloc: Global,
@@ -147,7 +147,7 @@ impl Rows {
         self.rows[home].reserve(alloc)
     }
 
-    /// Puts a split in place: what stays where the whole row was, and what goes behind the last row.
+    /// Puts a split in place: what stays where the whole row was, and what goes after the last row.
     pub(super) fn put_split(&mut self, split: Split)
         requires some { 0 < length self.old.rows.items }
         requires split { IsSplitOf self.old.rows.items split }
@@ -162,14 +162,14 @@ impl Rows {
         self.rows.push_reserved(split.goes);
     }
 
-    /// How many rows there are.
+    /// Returns the number of rows.
     pub(super) fn count(&self) -> usize
         ensures { result ≡ length self.now.rows.items }
     {
         self.rows.len()
     }
 
-    /// The newest index whose entry has what is sought.
+    /// Returns the newest index whose entry has what is sought.
     #[inline(always)]
     pub(super) fn newest(
         &self,
@@ -192,7 +192,7 @@ impl Rows {
         self.rows[home].find(entries, dropped, sought, steps)
     }
 
-    /// Makes room for one index more in the row of a hash. It fails only where there is none.
+    /// Makes room for one more index in the row of a hash. It fails only if there is none.
     #[inline(always)]
     pub(super) fn reserve(&mut self, alloc: Global, hash: u32) -> Result<(), AllocError>
         requires { 0 < length self.old.rows.items }
@@ -206,7 +206,7 @@ impl Rows {
         self.rows[home].reserve(alloc)
     }
 
-    /// An entry comes in behind all that are in, of which it is the next newer one. There is room.
+    /// Adds the next newer entry after those that are in. There is room.
     pub(super) fn enter(
         &mut self,
         entries: &VecDeque<Entry>,
@@ -229,7 +229,7 @@ impl Rows {
         self.rows[home].enter(entries, dropped, index, sought);
     }
 
-    /// The oldest entry, which is about to be popped, goes out: its slot does, if no newer one has the same part.
+    /// Removes the oldest entry, which is about to be popped: its slot, if no newer entry has the same part.
     pub(super) fn leave(&mut self, entries: &VecDeque<Entry>, dropped: usize, sought: &Sought<'_>)
         requires some { 0 < length entries.now.items }
         requires few { dropped + length entries.now.items < 2 ^ 64 }

@@ -8,12 +8,12 @@ use crate::dynamic::index::row::Slot;
 use std::alloc::{AllocError, Global};
 use std::marker::Model;
 
-/// For how many slots a vector has room at first.
+/// The number of slots that a vector has room for at first.
 const FEW: usize = 4;
 
-/// Where slots are kept. Two fit in the row itself, so that hardly a row takes memory: in places, of which the second
-/// is empty unless the first is filled. Such rows are told apart by what they hold. With one kind of row for each
-/// number of slots, a processor mispredicts which it is.
+/// Where slots are kept. Two fit in the row itself, so few rows take memory: in places, of which the second is empty
+/// unless the first is filled. What the places hold says how many slots there are: with one kind of row for each number
+/// of them, a processor would mispredict which it is.
 #[derive(Debug, Drop)]
 enum Kept {
     Here([Slot; 2]),
@@ -39,7 +39,7 @@ impl Model for Slots {
 }
 
 impl Slots {
-    /// No slots.
+    /// Returns no slots.
     pub(super) fn new() -> Slots
         ensures { result.items ≡ [] }
     {
@@ -48,7 +48,7 @@ impl Slots {
         }
     }
 
-    /// The two places in the row itself, if the slots are kept there.
+    /// Returns the two places in the row itself, if the slots are kept there.
     #[inline(always)]
     pub(super) fn here(&self) -> Option<&[Slot; 2]>
         ensures slots { IfSome result (λ places. slots_here places.now ≡ self.now.items) }
@@ -60,7 +60,7 @@ impl Slots {
         }
     }
 
-    /// All slots, in order.
+    /// Returns all slots, in order.
     #[inline(always)]
     pub(super) fn as_slice(&self) -> &[Slot]
         ensures { result.now ≡ self.now.items }
@@ -71,7 +71,7 @@ impl Slots {
         }
     }
 
-    /// Makes room for one slot more. It fails only where there is none.
+    /// Makes room for one more slot. It fails only if there is none.
     #[inline(always)]
     pub(super) fn reserve(&mut self, alloc: Global) -> Result<(), AllocError>
         ensures slots { self.new.items ≡ self.old.items }

@@ -33,6 +33,7 @@ loop-preserved g c =
           c.loop.entries.items c.pop_front.new.self.items c.in-Some.entry c.leave.ensures.index c.in-Some.ensures.items
           (ap (λ (p : Positions). p.dropped) c.drop.ensures ∙ ap (λ (n : ℕ). n + 1) (sym at.is));
       room = λ key has. c.leave.ensures.room key (i.room key has);
+      own = λ key is. c.leave.ensures.own key (i.own key is);
       freed = omega (arith, exact, one.sum, one.fits, i.freed);
       dropped = omega (arith, i.dropped, ap (λ (p : Positions). p.dropped) c.drop.ensures);
       total = ap (λ (p : Positions). p.total) c.drop.ensures ∙ i.total;
@@ -65,3 +66,6 @@ returns-after-loop-clause-index g c = c.loop.invariant.index
 
 pub returns-after-loop-clause-room : goal.returns-after-loop-clause-room
 returns-after-loop-clause-room g c = c.loop.invariant.room
+
+pub returns-after-loop-clause-own : goal.returns-after-loop-clause-own
+returns-after-loop-clause-own g c = c.loop.invariant.own

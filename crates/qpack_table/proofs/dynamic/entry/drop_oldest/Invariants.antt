@@ -13,6 +13,7 @@ invariant-loop g l = let then = l.initial.entries in record {
       ≡ total_size (fields_in (entries_of then.items));
   index : g.I.EntryIndex.is_index_of l.index l.vas.dropped l.entries.items;
   room : (key : _) → g.I.EntryIndex.has_room key l.initial.index → g.I.EntryIndex.has_room key l.index;
+  own : (key : _) → g.I.EntryIndex.is_own key l.initial.index → g.I.EntryIndex.is_own key l.index;
   dropped : l.vas.dropped ≡ l.initial.vas.dropped + l.counter;
   total : l.vas.total ≡ l.initial.vas.total;
 }

@@ -1,7 +1,7 @@
 use Rattle.std.proofs.Common.{◌≡◌, ℕ, ◌+◌, ◌∷◌, [], ◌++◌, List, drop, length, ap, sym, subst, ◌∙◌, arith}
 use Rattle.std.proofs.lemmas.List.{length-append}
 use Rattle.qpack_base.specs.HeaderFields.{field_of}
-use Rattle.qpack_spec.specs.Field.{field_size, total_size}
+use Rattle.qpack_spec.specs.Field.{Field, FieldLine, field_size, total_size}
 use Rattle.qpack_spec.specs.Table.{fields_in}
 use Rattle.qpack_table.specs.Positions.{Positions}
 use Rattle.qpack_table.specs.Tables.{entries_of}
@@ -30,11 +30,16 @@ enter-requires-clause-pushed g c =
       c.push_back_reserved.ensures.items,
       subst (λ (d : ℕ). g.I.EntryIndex.is_index_of c.drop_oldest-freed.new.index d
           c.drop_oldest-freed.new.entries.items) (sym same) c.drop_oldest-freed.ensures.index,
-      c.requires.key,
+      subst (λ (f : Field). g.I.EntryIndex.is_key_of c.own_key-key.result f) (ap (λ (l : FieldLine). l.field)
+          c.as_line.ensures) c.own_key-key.ensures.key,
     )
 
+pub enter-requires-clause-own : goal.enter-requires-clause-own
+enter-requires-clause-own g c =
+    c.drop_oldest-freed.ensures.own _ (c.in_ok-reserve.ensures.own _ c.own_key-key.ensures.own)
+
 pub enter-requires-clause-room : goal.enter-requires-clause-room
-enter-requires-clause-room g c = c.drop_oldest-freed.ensures.room c.args.key c.in_ok-reserve.ensures.room
+enter-requires-clause-room g c = c.drop_oldest-freed.ensures.room _ c.in_ok-reserve.ensures.room
 
 pub returns-clause-entered : goal.returns-clause-entered
 returns-clause-entered g c =

@@ -10,25 +10,27 @@ use Rattle.qpack_table.proofs.dynamic.index.Index.enter.Goals as goal
 
 pub enter-requires-clause-field : goal.enter-requires-clause-field
 enter-requires-clause-field c =
-    line_read Whole c.args.dropped c.args.entries.now.items c.args.index _ (line_of c.as_line-line.result)
-    c.requires.live c.index.ensures c.as_line-line.ensures
+    line_read (Whole c.args.self.now.seed) c.args.dropped c.args.entries.now.items c.args.index _
+    (line_of c.as_line-line.result) c.requires.live c.index.ensures c.as_line-line.ensures
 
 pub enter-requires-clause-hashed : goal.enter-requires-clause-hashed
 enter-requires-clause-hashed c =
     c.requires.hashes.1
-    ∙ ap (λ (f : Field). field_hash f) (sym (line_read Whole c.args.dropped c.args.entries.now.items c.args.index _
-    (line_of c.as_line-line.result) c.requires.live c.index.ensures c.as_line-line.ensures))
+    ∙ ap (λ (f : Field). field_hash c.args.self.now.seed f)
+    (sym (line_read (Whole c.args.self.now.seed) c.args.dropped c.args.entries.now.items
+    c.args.index _ (line_of c.as_line-line.result) c.requires.live c.index.ensures c.as_line-line.ensures))
 
 pub enter-requires-2-clause-field : goal.enter-requires-2-clause-field
 enter-requires-2-clause-field c =
-    line_read Name c.args.dropped c.args.entries.now.items c.args.index _ (line_of c.as_line-line.result)
-    c.requires.live c.index.ensures c.as_line-line.ensures
+    line_read (Name c.args.self.now.seed) c.args.dropped c.args.entries.now.items c.args.index _
+    (line_of c.as_line-line.result) c.requires.live c.index.ensures c.as_line-line.ensures
 
 pub enter-requires-2-clause-hashed : goal.enter-requires-2-clause-hashed
 enter-requires-2-clause-hashed c =
     c.requires.hashes.0
-    ∙ ap (λ (f : Field). name_hash f.name) (sym (line_read Whole c.args.dropped c.args.entries.now.items c.args.index _
-    (line_of c.as_line-line.result) c.requires.live c.index.ensures c.as_line-line.ensures))
+    ∙ ap (λ (f : Field). name_hash c.args.self.now.seed f.name)
+    (sym (line_read (Whole c.args.self.now.seed) c.args.dropped c.args.entries.now.items
+    c.args.index _ (line_of c.as_line-line.result) c.requires.live c.index.ensures c.as_line-line.ensures))
 
 pub returns-clause-index : goal.returns-clause-index
 returns-clause-index c =
@@ -39,9 +41,10 @@ returns-clause-index c =
     record {
       fields = c.enter.ensures.rows;
       names = c.enter-2.ensures.rows;
-      hashes = subst (λ (n : ℕ). AreAllHashesOf c.args.dropped (live_fields c.args.entries.now.items) n
+      hashes = subst (λ (n : ℕ). AreAllHashesOf c.args.self.now.seed c.args.dropped
+          (live_fields c.args.entries.now.items) n
           c.push_back_reserved.new.self.items) count
-          (hashes_entered _ _ _ c.args.index _ _ c.args.hashes c.requires.index.hashes next c.requires.hashes
+          (hashes_entered _ _ _ _ c.args.index _ _ c.args.hashes c.requires.index.hashes next c.requires.hashes
           c.push_back_reserved.ensures.items);
       some = λ some. omega (
         arith,

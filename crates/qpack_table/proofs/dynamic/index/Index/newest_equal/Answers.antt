@@ -10,6 +10,6 @@ use Rattle.qpack_table.proofs.dynamic.index.Index.newest_equal.Goals as goal
 pub returns-then-is_empty-clause-found : goal.returns-then-is_empty-clause-found
 returns-then-is_empty-clause-found c =
     let len : 0 ≡ length c.args.entries.now.items = search rules in
-    newest_field c.args.dropped c.args.entries.now.items (line_of c.args.field.now).field None
-    (newest_of_none Whole c.args.dropped (live_fields c.args.entries.now.items) (line_of c.args.field.now).field
-    (λ some. omega (arith, len, some, fields_long c.args.entries.now.items)))
+    newest_field c.args.self.now.seed c.args.dropped c.args.entries.now.items (line_of c.args.field.now).field None
+    (newest_of_none (Whole c.args.self.now.seed) c.args.dropped (live_fields c.args.entries.now.items)
+    (line_of c.args.field.now).field (λ some. omega (arith, len, some, fields_long c.args.entries.now.items)))

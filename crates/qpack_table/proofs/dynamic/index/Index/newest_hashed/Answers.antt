@@ -4,5 +4,5 @@ use Rattle.qpack_table.proofs.dynamic.index.Index.newest_hashed.Goals as goal
 
 pub returns-clause-found : goal.returns-clause-found
 returns-clause-found c =
-    newest_field c.args.dropped c.args.entries.now.items (line_of c.args.field.now).field c.newest.result
-    c.newest.ensures.found
+    newest_field c.args.self.now.seed c.args.dropped c.args.entries.now.items (line_of c.args.field.now).field
+    c.newest.result c.newest.ensures.found

@@ -9,7 +9,7 @@ use Rattle.qpack_table.proofs.dynamic.index.Index.newest_of_name.Goals as goal
 pub returns-then-is_empty-clause-found : goal.returns-then-is_empty-clause-found
 returns-then-is_empty-clause-found c =
     let len : 0 ≡ length c.args.entries.now.items = search rules in
-    newest_name c.args.dropped c.args.entries.now.items c.args.name.now None
-    (newest_of_none Name c.args.dropped (live_fields c.args.entries.now.items)
+    newest_name c.args.self.now.seed c.args.dropped c.args.entries.now.items c.args.name.now None
+    (newest_of_none (Name c.args.self.now.seed) c.args.dropped (live_fields c.args.entries.now.items)
     (record { name = c.args.name.now; value = [] })
     (λ some. omega (arith, len, some, fields_long c.args.entries.now.items)))

@@ -11,14 +11,15 @@ pub returns-in-Name-clause-order : goal.returns-in-Name-clause-order
 returns-in-Name-clause-order c =
     subst (λ (p : Part). Equal ≡ field_cmp (part_of p (field_of c.args.entry.now.field))
     (part_of p (line_of c.args.sought.now.line).field)) (sym c.in-Name.is)
-    (decided_by_tie (field_of c.args.entry.now.field) (line_of c.args.sought.now.line).field _ _ _
+    (decided_by_tie c.in-Name.field-0 (field_of c.args.entry.now.field) (line_of c.args.sought.now.line).field _ _ _
     c.as_slice.ensures.value refl c.compare_bytes.ensures c.in-Equal.is)
 
 pub returns-in-Whole-clause-order : goal.returns-in-Whole-clause-order
 returns-in-Whole-clause-order c =
     subst (λ (p : Part). c.compare_bytes-in-Whole.result ≡ field_cmp (part_of p (field_of c.args.entry.now.field))
     (part_of p (line_of c.args.sought.now.line).field)) (sym c.in-Whole.is)
-    (decided_by_value (field_of c.args.entry.now.field) (line_of c.args.sought.now.line).field _ _ _ _ _ _
+    (decided_by_value c.in-Whole.field-0 (field_of c.args.entry.now.field)
+    (line_of c.args.sought.now.line).field _ _ _ _ _ _
     c.as_slice.ensures.value refl c.as_slice-in-Whole.ensures.value refl c.compare_bytes.ensures c.in-Equal.is
     c.compare_bytes-in-Whole.ensures)
 

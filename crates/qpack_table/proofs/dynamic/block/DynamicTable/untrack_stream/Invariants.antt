@@ -1,7 +1,7 @@
 use Rattle.std.proofs.Common.{◌≡◌, length}
 use Rattle.qpack_spec.specs.Instruction.{Cancellation}
 use Rattle.qpack_spec.specs.Table.{apply_decoder_instruction}
-use Rattle.qpack_table.proofs.dynamic.tracking.DynamicTable.untrack_stream.Given as goal
+use Rattle.qpack_table.proofs.dynamic.block.DynamicTable.untrack_stream.Given as goal
 
 abbrev pub invariant-loop : goal.invariant-loop
 invariant-loop l = apply_decoder_instruction l.self (Cancellation l.stream_id)

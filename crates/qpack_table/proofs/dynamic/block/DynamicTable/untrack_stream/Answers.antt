@@ -1,6 +1,6 @@
 use Rattle.std.proofs.Common.{sym, ◌∙◌, arith}
 use Rattle.qpack_table.proofs.Released.{taken_so, refused_so, cancelled_more, cancelled_all}
-use Rattle.qpack_table.proofs.dynamic.tracking.DynamicTable.untrack_stream.Goals as goal
+use Rattle.qpack_table.proofs.dynamic.block.DynamicTable.untrack_stream.Goals as goal
 
 pub loop-smaller : goal.loop-smaller
 loop-smaller c =

@@ -5,7 +5,7 @@ use Rattle.qpack_table.specs.Tables.{NoneTwice}
 use Rattle.qpack_table.proofs.Kept.{kept_released, counted_released}
 use Rattle.qpack_table.proofs.Tracking.{taken_parted, every_left_of, left_shorter}
 use Rattle.qpack_table.proofs.Released.{unknown_stream, acknowledged}
-use Rattle.qpack_table.proofs.dynamic.tracking.DynamicTable.untrack_block.Goals as goal
+use Rattle.qpack_table.proofs.dynamic.block.DynamicTable.untrack_block.Goals as goal
 
 pub returns-in_default : goal.returns-in_default
 returns-in_default c = (
