@@ -22,6 +22,7 @@ void h3_qpack_encoder_settings_default_versioned(uint32_t version, h3_qpack_enco
   settings->max_blocked = 0;
   settings->capacity = 4096;
   settings->most_unacknowledged = 100;
+  settings->seed = 0;
 }
 
 int h3_qpack_encoder_new_versioned(h3_qpack_encoder *encoder, uint32_t version,
@@ -33,7 +34,7 @@ int h3_qpack_encoder_new_versioned(h3_qpack_encoder *encoder, uint32_t version,
       !fits_size(settings->capacity) || !fits_size(settings->most_unacknowledged))
     return H3_QPACK_ERR_INVALID;
   return h3q_encoder_new((size_t)settings->max_capacity, (size_t)settings->max_blocked, (size_t)settings->capacity,
-                         (size_t)settings->most_unacknowledged, &encoder->at);
+                         (size_t)settings->most_unacknowledged, settings->seed, &encoder->at);
 }
 
 void h3_qpack_decoder_settings_default_versioned(uint32_t version, h3_qpack_decoder_settings *settings) {

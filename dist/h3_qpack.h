@@ -162,6 +162,9 @@ typedef struct h3_qpack_encoder_settings {
   uint64_t capacity;            /* the table capacity, in bytes; |max_capacity| if that is less (section 3.2.3) */
   uint64_t most_unacknowledged; /* while this many sections that reference the table are unacknowledged (section 4.4.1),
                                    sections reference only the static table */
+  uint64_t seed;                /* what the hashes of the table's fields are computed with. Set a random number if others
+                                   choose fields, so that they can't choose ones that take long to insert. No byte that
+                                   is written depends on it. */
 } h3_qpack_encoder_settings;
 
 typedef struct h3_qpack_decoder_settings {
@@ -174,7 +177,7 @@ typedef struct h3_qpack_decoder_settings {
 /* ---- The encoder */
 
 /* Stores the defaults in |settings|: |max_capacity| 0 and |max_blocked| 0, which are those of a peer that sends no such
- * settings, |capacity| 4,096 and |most_unacknowledged| 100. Does nothing if |settings| is NULL.
+ * settings, |capacity| 4,096, |most_unacknowledged| 100 and |seed| 0. Does nothing if |settings| is NULL.
  *
  * Bindings call h3_qpack_encoder_settings_default_versioned, with the H3_QPACK_VERSION that their struct is of. It does
  * nothing for a version that _new refuses. */
@@ -454,7 +457,7 @@ H3_QPACK_INLINE h3_qpack_decoded_alone h3_qpack_decode_stateless(const uint8_t *
 
 uint32_t h3q_version(void);
 int32_t h3q_encoder_new(size_t max_capacity, size_t max_blocked, size_t capacity, size_t most_unacknowledged,
-                        void **at);
+                        uint64_t seed, void **at);
 void h3q_encoder_free(h3_qpack_encoder encoder);
 h3_qpack_encoded h3q_encoder_encode(h3_qpack_encoder *encoder, uint64_t stream_id, const h3_qpack_nv *nva, size_t nvlen,
                                     uint8_t *section, size_t sectionlen);
