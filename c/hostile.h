@@ -52,16 +52,10 @@ static inline void drop(bytes *b) {
   *b = (bytes){NULL, 0, 0};
 }
 
-/* An integer behind flags, with a prefix of so many bits (RFC 7541, section 5.1). */
+/* An integer after flags, with a prefix of |bits| bits. */
 static inline void put_int(bytes *b, uint8_t flags, int bits, uint64_t value) {
-  uint64_t most = ((uint64_t)1 << bits) - 1;
-  if (value < most) {
-    put_often(b, (uint8_t)(flags | value), 1);
-    return;
-  }
-  put_often(b, (uint8_t)(flags | most), 1);
-  for (value -= most; value > 127; value >>= 7) put_often(b, (uint8_t)(value | 128), 1);
-  put_often(b, (uint8_t)value, 1);
+  uint8_t at[11];
+  put(b, at, write_int(at, flags, bits, value));
 }
 
 /* A character, and its code (RFC 7541, appendix B). */

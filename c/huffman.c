@@ -1,6 +1,6 @@
-/* huffman CORPUS ROUNDS: what the Huffman code costs a decoder, of this library and of nghttp3, in ns a string and byte.
- * Each name and each value of the corpus is the value of a line, and a list is a section. Every section is decoded with
- * its strings in code, and with them as they are. The cost is the difference, between the least of the rounds. */
+/* huffman CORPUS ROUNDS: what the Huffman code costs a decoder, of this library and of nghttp3, in ns a string and a
+ * byte. Each name and each value of the corpus is the value of a line, and a list is a section. Every section is decoded
+ * with its strings in code, and with them as they are. The cost is the difference, between the least of the rounds. */
 #include "libraries.h"
 
 static const library *const libraries[] = {&this_library, &nghttp3};
@@ -36,29 +36,17 @@ static size_t encode_value(uint8_t *section, size_t room, const uint8_t *value, 
   return all.len;
 }
 
-/* Appends a length of seven bits, without the mark of a string in code (RFC 9204, section 4.1.1). */
-static void append_length(wire *w, size_t len) {
-  uint8_t byte = (uint8_t)(len < 127 ? len : 127);
-  append(w, &byte, 1);
-  if (len < 127) return;
-  for (len -= 127; len >= 128; len >>= 7) {
-    byte = (uint8_t)(128 | (len & 127));
-    append(w, &byte, 1);
-  }
-  byte = (uint8_t)len;
-  append(w, &byte, 1);
-}
-
 /* Adds a string to both sections, unless it is empty. */
 static void add_string(pair *p, const uint8_t *bytes, size_t len) {
   static uint8_t alone[1 << 16];
+  uint8_t length[11];
   if (!len) return;
   size_t front = encode_value(alone, sizeof alone, bytes, 0) - 1; /* the prefix and the name, without the length 0 */
   size_t all = encode_value(alone, sizeof alone, bytes, len);
   CHECK(alone[front] & 0x80); /* in code */
   append(p->coded, alone + 2, all - 2);
   append(p->plain, alone + 2, front - 2);
-  append_length(p->plain, len);
+  append(p->plain, length, write_int(length, 0, 7, len)); /* without the mark of a string in code */
   append(p->plain, bytes, len);
   add_field(&p->fields, "x", 1, bytes, len, 0);
   nstrings++;

@@ -112,6 +112,21 @@ static inline void add_random_lists(size_t many) {
   }
 }
 
+/* Writes an integer after flags, with a prefix of |bits| bits (RFC 7541, section 5.1). Returns its length, at most
+ * 11. */
+static inline size_t write_int(uint8_t *at, uint8_t flags, int bits, uint64_t value) {
+  uint64_t most = ((uint64_t)1 << bits) - 1;
+  size_t len = 0;
+  if (value < most) {
+    at[len++] = (uint8_t)(flags | value);
+    return len;
+  }
+  at[len++] = (uint8_t)(flags | most);
+  for (value -= most; value > 127; value >>= 7) at[len++] = (uint8_t)(value | 128);
+  at[len++] = (uint8_t)value;
+  return len;
+}
+
 static inline void free_lists(void) {
   for (size_t i = 0; i < nlists; i++) {
     for (size_t k = 0; k < lists[i].len; k++) {
