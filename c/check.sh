@@ -91,7 +91,7 @@ try_bindings() {
 
 room=$(mktemp -d)
 trap 'rm -rf "$room"' EXIT
-corpus=../crates/qpack_recorded/data/corpus.qif
+corpus=../crates/qpack_tests/data/corpus.qif
 for list in list_tools list_nghttp3 list_ngtcp2; do install_packages $("$list") || true; done
 choose_tests
 choose_library

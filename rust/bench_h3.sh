@@ -58,4 +58,4 @@ fn main() {
 END
 cd "$room"
 CARGO_TARGET_DIR=$room/target cargo build -q --offline --release
-target/release/bench_h3 "$here/../crates/qpack_recorded/data/corpus.qif" "$2"
+target/release/bench_h3 "$here/../crates/qpack_tests/data/corpus.qif" "$2"

@@ -24,8 +24,7 @@ from pathlib import Path
 from typing import Iterator, List, Optional, Tuple, Union
 
 TOP = Path(__file__).resolve().parent.parent
-RECORDED = TOP / "crates" / "qpack_recorded" / "data"
-FORETOLD = TOP / "crates" / "qpk_foretold" / "data"
+DATA = TOP / "crates" / "qpack_tests" / "data"
 MEGABYTE = 1 << 20
 MOST_MEMORY = 1024
 MOST_SECONDS = 20
@@ -72,14 +71,14 @@ class Case:
 
 def read_lists() -> List[bytes]:
     """Returns the field lists of the corpus."""
-    parts = (RECORDED / "corpus.qif").read_bytes().split(b"\n\n")
+    parts = (DATA / "corpus.qif").read_bytes().split(b"\n\n")
     return [it.strip(b"\n") + b"\n" for it in parts if it.strip()]
 
 
 def read_scripts() -> List[Tuple[Tuple[str, ...], bytes]]:
     """Returns the words and the input of each case that was foretold."""
     scripts = []
-    for part in (FORETOLD / "foretold.txt").read_text().split("\n\n"):
+    for part in (DATA / "foretold.txt").read_text().split("\n\n"):
         lines = part.strip("\n").split("\n")
         if lines[0].startswith("= "):
             text = "".join(f"{it}\n" for it in lines[1 : lines.index("--")])
@@ -116,7 +115,7 @@ def section_cases(numbers: random.Random) -> Iterator[Case]:
     for text in read_lists():
         yield Case("encode", ("encode",), text)
         yield Case("broken encode", ("encode",), break_text(text, numbers))
-    for line in (RECORDED / "stateless_h3.tsv").read_text().splitlines():
+    for line in (DATA / "stateless_h3.tsv").read_text().splitlines():
         _, size, digits = line.split("\t")
         section = digits.encode()
         yield Case("decode", ("decode", size), section)
@@ -159,7 +158,7 @@ def limits(capacity: str, blocked: str) -> Tuple[str, ...]:
 
 def connection_cases(numbers: random.Random) -> Iterator[Case]:
     """Connections of nghttp3, in words, judged, and as they are inspected; and their bytes, explained."""
-    for file in sorted(RECORDED.glob("nghttp3_*.txt")):
+    for file in sorted(DATA.glob("nghttp3_*.txt")):
         text = file.read_bytes()
         capacity, blocked = file.stem.split("_")[1:3]
         for options in ((), ("--json",), ("--table",), ("--json", "--table")):

@@ -49,6 +49,7 @@ impl Kinds for TwoEnds {
     }
 }
 
-fn main(rt: HostRuntime) -> Result<()> {
-    hold_files::<TwoEnds>(&rt, &FILES)
+/// Runs the tests. Fails at the first one that does not hold.
+pub fn run(rt: &HostRuntime) -> Result<()> {
+    hold_files::<TwoEnds>(rt, &FILES)
 }

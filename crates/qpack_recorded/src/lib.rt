@@ -133,9 +133,10 @@ fn hold_all(rt: &HostRuntime, lists: &[Vec<HeaderField>]) -> Result<()> {
     exchanged::hold(rt, lists)
 }
 
-fn main(rt: HostRuntime) -> Result<()> {
-    let text = fs::read_to_string(&rt, "corpus.qif")?;
+/// Runs the tests. Fails at the first one that does not hold.
+pub fn run(rt: &HostRuntime) -> Result<()> {
+    let text = fs::read_to_string(rt, "corpus.qif")?;
     let lists = read_lists(rt.alloc(), text.as_str())?;
-    hold_all(&rt, &lists)?;
-    short_lists::hold(&rt)
+    hold_all(rt, &lists)?;
+    short_lists::hold(rt)
 }

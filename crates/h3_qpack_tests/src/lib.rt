@@ -52,6 +52,7 @@ impl Kinds for Names {
     }
 }
 
-fn main(rt: HostRuntime) -> Result<()> {
-    hold_files::<Names>(&rt, &FILES)
+/// Runs the tests. Fails at the first one that does not hold.
+pub fn run(rt: &HostRuntime) -> Result<()> {
+    hold_files::<Names>(rt, &FILES)
 }

@@ -54,6 +54,7 @@ impl Kinds for Ends {
     }
 }
 
-fn main(rt: HostRuntime) -> Result<()> {
-    hold_files::<Ends>(&rt, &FILES)
+/// Runs the tests. Fails at the first one that does not hold.
+pub fn run(rt: &HostRuntime) -> Result<()> {
+    hold_files::<Ends>(rt, &FILES)
 }

@@ -39,6 +39,7 @@ impl Kinds for Calls {
     }
 }
 
-fn main(rt: HostRuntime) -> Result<()> {
-    hold_files::<Calls>(&rt, &FILES)
+/// Runs the tests. Fails at the first one that does not hold.
+pub fn run(rt: &HostRuntime) -> Result<()> {
+    hold_files::<Calls>(rt, &FILES)
 }

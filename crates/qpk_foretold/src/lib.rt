@@ -66,12 +66,13 @@ fn read_file(rt: &HostRuntime, file: &str) -> Result<String> {
     Ok(again(|| fs::read_to_string(rt, file))?)
 }
 
-fn main(rt: HostRuntime) -> Result<()> {
+/// Runs the tests. Fails at the first one that does not hold.
+pub fn run(rt: &HostRuntime) -> Result<()> {
     for file in FILES {
-        hold_file(&rt, file)?;
+        hold_file(rt, file)?;
     }
-    print_errors(&rt)?;
-    let recorded = read_file(&rt, "recorded.txt")?;
-    let lists = read_file(&rt, "corpus.qif")?;
-    hold_recorded(&rt, recorded.as_str(), lists.as_str())
+    print_errors(rt)?;
+    let recorded = read_file(rt, "recorded.txt")?;
+    let lists = read_file(rt, "corpus.qif")?;
+    hold_recorded(rt, recorded.as_str(), lists.as_str())
 }
