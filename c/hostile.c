@@ -3,7 +3,8 @@
  *
  * Instructions are counted by hand. This leaves a file for each row, in their order, of what is between its ends alone:
  *   valgrind --tool=callgrind --zero-before=begin_case --dump-before=end_case ./hostile 1000
- * and callgrind_annotate --inclusive=yes FILE has those of each export, all that it calls included. */
+ * and callgrind_annotate FILE has those of the row as PROGRAM TOTALS; with --inclusive=yes, those of each export too,
+ * all that it calls included. */
 #include "hostile.h"
 
 static uint8_t text[1 << 20];
