@@ -187,12 +187,19 @@ pub(crate) fn push_outcome(answer: &mut String, outcome: &Outcome) -> Result<()>
 /// Appends what a section was read as. One that waits has no fields.
 fn push_reading(answer: &mut String, reading: Reading, fields: &FieldSection) -> Result<()> {
     match reading {
-        Reading::Fields { required } => write!(answer, "decoded {required} {}", required > 0)?,
+        Reading::Fields { required } => {
+            write!(answer, "decoded {required} {}", required > 0)?;
+            push_fields(answer, fields)
+        }
         Reading::Blocked { required } => {
             ensure!(fields.is_empty(), "a section that waits has fields");
-            write!(answer, "missing {required}")?;
+            push_numbered(answer, "missing", required)
         }
     }
+}
+
+/// Appends the fields of a section.
+fn push_fields(answer: &mut String, fields: &FieldSection) -> Result<()> {
     for field in fields.iter() {
         push_field(answer, field)?;
     }

@@ -72,6 +72,64 @@ impl Stream {
         }
     }
 
+    /// Notes the answer of an encode of these fields.
+    fn note_encode(&mut self, handed: String, answer: &str) -> Result<()> {
+        if answer.starts_with("encoded ") {
+            return Ok(self.handed.push(handed)?);
+        }
+        ensure!(self.may_skip(answer), "encodes -> {answer}");
+        Ok(())
+    }
+
+    /// Notes the answer of a decode by a decoder that received this many insertions, and counts it.
+    fn note_decode(&mut self, answer: &str, inserted: usize) -> Result<Counts> {
+        let mut parts = Words { rest: answer };
+        match parts.word() {
+            "decoded" => self.count_decoded(parts),
+            "missing" => self.count_missing(parts.count()?, inserted),
+            _ => {
+                ensure!(self.may_skip(answer), "decodes -> {answer}");
+                Ok(Counts::NONE)
+            }
+        }
+    }
+
+    /// Counts a section that was decoded, with the size, whether it required an insertion, and its fields in an answer.
+    fn count_decoded(&mut self, answer: Words<'_>) -> Result<Counts> {
+        let mut parts = answer;
+        parts.word();
+        let is_dynamic = parts.word() == "true";
+        self.note_decoded(parts.rest)?;
+        Ok(Counts {
+            decoded: 1,
+            dynamic: usize::from(is_dynamic),
+            blocked: 0,
+        })
+    }
+
+    /// Counts a section that waits for more insertions than were received.
+    fn count_missing(&self, required: usize, inserted: usize) -> Result<Counts> {
+        let waits = required > inserted && !self.is_cancelled && self.next().is_some();
+        ensure!(waits, "a section does not wait for {required} insertions");
+        Ok(Counts {
+            decoded: 0,
+            dynamic: 0,
+            blocked: 1,
+        })
+    }
+
+    /// Notes the answer of a cancellation.
+    fn note_cancel(&mut self, answer: &str) -> Result<()> {
+        if answer.starts_with("cancelled") {
+            ensure!(!self.is_cancelled, "a stream was cancelled twice");
+            self.is_cancelled = true;
+            return Ok(());
+        }
+        let may_skip = answer != "skipped 2" && self.may_skip(answer);
+        ensure!(may_skip, "cancels -> {answer}");
+        Ok(())
+    }
+
     /// Notes a section that was decoded to these fields.
     fn note_decoded(&mut self, fields: &str) -> Result<()> {
         let handed = self.next().context("no section was encoded")?;
@@ -197,74 +255,48 @@ impl<S: Ends> Lawful<S> {
                 self.streams.len().saturating_sub(1)
             }
         };
-        let stream = self.streams.get_mut(at).context("no stream")?;
-        stream.handed.reserve(1)?;
+        self.stream_at(at)?.handed.reserve(1)?;
         Ok(at)
+    }
+
+    /// Makes a call on a stream, and returns the stream's place.
+    fn call_on_stream(
+        &mut self,
+        alloc: Global,
+        word: &str,
+        words: &mut Words<'_>,
+        answer: &mut String,
+    ) -> Result<usize> {
+        let at = self.place_of(alloc, words.first_number())?;
+        self.ends.call(alloc, word, words, answer)?;
+        Ok(at)
+    }
+
+    /// Returns the stream at a place.
+    fn stream_at(&mut self, at: usize) -> Result<&mut Stream> {
+        self.streams.get_mut(at).context("no stream")
     }
 
     /// Encodes a section, and notes its fields.
     fn encode(&mut self, alloc: Global, words: &mut Words<'_>, answer: &mut String) -> Result<()> {
-        let at = self.place_of(alloc, words.first_number())?;
         let handed = handed_of(alloc, *words)?;
-        self.ends.call(alloc, "encodes", words, answer)?;
-        let stream = self.streams.get_mut(at).context("no stream")?;
-        if answer.starts_with("encoded ") {
-            stream.handed.push(handed)?;
-            return Ok(());
-        }
-        ensure!(stream.may_skip(answer), "encodes -> {answer}");
-        Ok(())
+        let at = self.call_on_stream(alloc, "encodes", words, answer)?;
+        self.stream_at(at)?.note_encode(handed, answer)
     }
 
     /// Decodes a section, and notes it.
     fn decode(&mut self, alloc: Global, words: &mut Words<'_>, answer: &mut String) -> Result<()> {
-        let at = self.place_of(alloc, words.first_number())?;
-        self.ends.call(alloc, "decodes", words, answer)?;
-        let stream = self.streams.get_mut(at).context("no stream")?;
-        let mut parts = Words { rest: answer };
-        match parts.word() {
-            "decoded" => {
-                parts.word();
-                let is_dynamic = parts.word() == "true";
-                stream.note_decoded(parts.rest)?;
-                self.counts.add(Counts {
-                    decoded: 1,
-                    dynamic: usize::from(is_dynamic),
-                    blocked: 0,
-                });
-            }
-            "missing" => {
-                let waits = parts.count()? > self.ends.inserted();
-                ensure!(
-                    waits && !stream.is_cancelled && stream.next().is_some(),
-                    "decodes -> {answer}"
-                );
-                self.counts.add(Counts {
-                    decoded: 0,
-                    dynamic: 0,
-                    blocked: 1,
-                });
-            }
-            _ => ensure!(stream.may_skip(answer), "decodes -> {answer}"),
-        }
+        let at = self.call_on_stream(alloc, "decodes", words, answer)?;
+        let inserted = self.ends.inserted();
+        let counts = self.stream_at(at)?.note_decode(answer, inserted)?;
+        self.counts.add(counts);
         Ok(())
     }
 
     /// Cancels a stream, and notes that.
     fn cancel(&mut self, alloc: Global, words: &mut Words<'_>, answer: &mut String) -> Result<()> {
-        let at = self.place_of(alloc, words.first_number())?;
-        self.ends.call(alloc, "cancels", words, answer)?;
-        let stream = self.streams.get_mut(at).context("no stream")?;
-        if answer.starts_with("cancelled") {
-            ensure!(!stream.is_cancelled, "a stream was cancelled twice");
-            stream.is_cancelled = true;
-            return Ok(());
-        }
-        ensure!(
-            answer.as_str() != "skipped 2" && stream.may_skip(answer),
-            "cancels -> {answer}"
-        );
-        Ok(())
+        let at = self.call_on_stream(alloc, "cancels", words, answer)?;
+        self.stream_at(at)?.note_cancel(answer)
     }
 }
 

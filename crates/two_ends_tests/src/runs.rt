@@ -3,7 +3,7 @@
 use crate::answers::push_refused;
 use crate::{connection, session};
 use anyhow::{Result, bail};
-use h3_qpack::dynamic::DynamicTable;
+use h3_qpack::dynamic::{DynamicTable, Error};
 use h3_qpack::session::{Event, Outcome, Session, run};
 use qpack_connection::connection as ends;
 use qpack_testing::cases::{Subject, Words};
@@ -55,26 +55,54 @@ impl Runs {
         answer: &mut String,
     ) -> Result<()> {
         match word {
-            "gives" => {
-                self.events.push(String::from_str(alloc, words.rest)?)?;
-                words.rest = "";
-                Ok(())
-            }
+            "gives" => self.give(alloc, words),
             "begins-session" => push_begun(alloc, words, answer),
-            "runs-session" => {
-                let events = self.session_events(alloc)?;
-                push_session_run(alloc, words, &events, answer)
-            }
-            "runs-connection" => {
-                let events = self.connection_events(alloc)?;
-                push_connection_run(alloc, words, events, answer)
-            }
+            "runs-session" => self.run_session(alloc, words, answer),
+            "runs-connection" => self.run_connection(alloc, words, answer),
             "equal-events" => push_equals(answer, &self.session_events(alloc)?),
-            "equal-outcomes" => {
-                let events = self.session_events(alloc)?;
-                push_equal_outcomes(alloc, words, &events, answer)
-            }
+            "equal-outcomes" => self.push_equal_outcomes(alloc, words, answer),
             _ => bail!("runs have no call {word}"),
+        }
+    }
+
+    /// Keeps the call of an event.
+    fn give(&mut self, alloc: Global, words: &mut Words<'_>) -> Result<()> {
+        self.events.push(String::from_str(alloc, words.rest)?)?;
+        words.rest = "";
+        Ok(())
+    }
+
+    /// Appends the outcomes of a session's run, and the capacity then; or why it is refused.
+    fn run_session(&self, alloc: Global, words: &mut Words<'_>, answer: &mut String) -> Result<()> {
+        let (capacity, limit) = (words.count()?, words.count()?);
+        let events = self.session_events(alloc)?;
+        push_session_run(answer, &run(alloc, capacity, limit, &events))
+    }
+
+    /// Appends the outcomes of a connection's run, and the capacity then; or why it is refused.
+    fn run_connection(
+        &self,
+        alloc: Global,
+        words: &mut Words<'_>,
+        answer: &mut String,
+    ) -> Result<()> {
+        let settings = connection::read_settings(words)?;
+        let events = self.connection_events(alloc)?;
+        push_connection_run(answer, &ends::run(alloc, settings, events))
+    }
+
+    /// Appends, for each of the outcomes of a session's run, how many of them equal it.
+    fn push_equal_outcomes(
+        &self,
+        alloc: Global,
+        words: &mut Words<'_>,
+        answer: &mut String,
+    ) -> Result<()> {
+        let (capacity, limit) = (words.count()?, words.count()?);
+        let events = self.session_events(alloc)?;
+        match &run(alloc, capacity, limit, &events) {
+            Ok((_, outcomes)) => push_equals(answer, outcomes),
+            Err(error) => push_refused(answer, error),
         }
     }
 
@@ -108,17 +136,22 @@ impl Runs {
 /// Appends the capacities of the tables of a new session, or why it is refused.
 fn push_begun(alloc: Global, words: &mut Words<'_>, answer: &mut String) -> Result<()> {
     let (capacity, maximum, limit) = (words.count()?, words.count()?, words.count()?);
-    match Session::with_maximum(alloc, capacity, maximum, limit) {
-        Ok(session) => push_capacities(answer, &session),
-        Err(error) => push_refused(answer, &error),
-    }
+    push_capacities(
+        answer,
+        &Session::with_maximum(alloc, capacity, maximum, limit),
+    )
 }
 
-/// Appends the capacities of the tables of a session.
-fn push_capacities(answer: &mut String, session: &Session) -> Result<()> {
-    push_capacity(answer, session.encoder().table())?;
-    answer.push_str(", ")?;
-    push_capacity(answer, session.decoder().table())
+/// Appends the capacities of the tables of a session, or why it is refused.
+fn push_capacities(answer: &mut String, begun: &Result<Session, Error>) -> Result<()> {
+    match begun {
+        Ok(session) => {
+            push_capacity(answer, session.encoder().table())?;
+            answer.push_str(", ")?;
+            push_capacity(answer, session.decoder().table())
+        }
+        Err(error) => push_refused(answer, error),
+    }
 }
 
 /// Appends the capacity of a table, and its maximum.
@@ -128,15 +161,12 @@ fn push_capacity(answer: &mut String, table: &DynamicTable) -> Result<()> {
 
 /// Appends the outcomes of a session's run, and the capacity then; or why it is refused.
 fn push_session_run(
-    alloc: Global,
-    words: &mut Words<'_>,
-    events: &[Event],
     answer: &mut String,
+    ran: &Result<(Session, Vec<Outcome>), Error>,
 ) -> Result<()> {
-    let (capacity, limit) = (words.count()?, words.count()?);
-    match run(alloc, capacity, limit, events) {
-        Ok((session, outcomes)) => push_outcomes(answer, &session, &outcomes),
-        Err(error) => push_refused(answer, &error),
+    match ran {
+        Ok((session, outcomes)) => push_outcomes(answer, session, outcomes),
+        Err(error) => push_refused(answer, error),
     }
 }
 
@@ -151,15 +181,12 @@ fn push_outcomes(answer: &mut String, session: &Session, outcomes: &[Outcome]) -
 
 /// Appends the outcomes of a connection's run, and the capacity then; or why it is refused.
 fn push_connection_run(
-    alloc: Global,
-    words: &mut Words<'_>,
-    events: Vec<ends::Event>,
     answer: &mut String,
+    ran: &Result<(ends::Connection, Vec<ends::Outcome>), ends::RunError>,
 ) -> Result<()> {
-    let settings = connection::read_settings(words)?;
-    match ends::run(alloc, settings, events) {
-        Ok((connection, outcomes)) => push_connection(answer, &connection, &outcomes),
-        Err(error) => push_refused(answer, &error),
+    match ran {
+        Ok((connection, outcomes)) => push_connection(answer, connection, outcomes),
+        Err(error) => push_refused(answer, error),
     }
 }
 
@@ -174,17 +201,6 @@ fn push_connection(
         answer.push_str("; ")?;
     }
     push_capacity(answer, connection.encoder().table())
-}
-
-/// Appends, for each of the outcomes of a session's run, how many of them equal it.
-fn push_equal_outcomes(
-    alloc: Global,
-    words: &mut Words<'_>,
-    events: &[Event],
-    answer: &mut String,
-) -> Result<()> {
-    let (_, outcomes) = run(alloc, words.count()?, words.count()?, events)?;
-    push_equals(answer, &outcomes)
 }
 
 /// Appends, for each of the items, how many of them equal it.
