@@ -1,3 +1,3 @@
 mod Entries
 mod Sizes
-mod Texts
+mod Told

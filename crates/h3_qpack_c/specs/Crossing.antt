@@ -1,11 +1,12 @@
 -- Fields, and bytes, as they cross to C and from it.
 use Rattle.std.specs.Prelude.{◌≡◌, ◌%◌, ◌/◌, ◌-◌, ◌^◌, nat_eq, nat_le, min, ℕ, ℤ, if◌then◌else◌, ◌⊎◌, ◌&&◌, Bool}
-use Rattle.std.specs.Prelude.{List, [], ◌∷◌, ◌++◌, length, map, drop, Option, None, Some}
+use Rattle.std.specs.Prelude.{List, ◌++◌, length, map, drop, Option, None, Some}
 use Rattle.h3_qpack_c.specs.declared.answers.Given.{Given}
 use Rattle.qpack_spec.specs.Field.{FieldLine, fields_of_lines, total_size}
 use Rattle.qpack_codec.specs.declared.encoder.choices.Wish.{Wish}
 use Rattle.qpack_codec.specs.declared.encoder.choices.Wish.TheVariants.{Unmarked, Never, Reuse, Insert}
 use Rattle.h3_qpack_c.specs.declared.answers.Written.{Written}
+use Rattle.qpack_ends.specs.FieldSections.{text_of}
 use Rattle.h3_qpack_c.specs.declared.fields.Field.{Field}
 use Rattle.h3_qpack_c.specs.Statuses.{done, no_memory, no_room, invalid}
 
@@ -60,19 +61,6 @@ Gives (Some f) old new told =
     })
     × (new ≡ copied (f.field.name ++ f.field.value) old)
 
--- a field's name, followed by its value
-abbrev pub text_of_field : FieldLine → List ℕ
-text_of_field f = f.field.name ++ f.field.value
-
--- the names and values of fields, one after the other
-abbrev pub text_of : List FieldLine → List ℕ
-text_of [] = []
-text_of (f ∷ fs) = text_of_field f ++ text_of fs
-
--- how many bytes the names and values of fields have, saturating
-abbrev pub text_len : List FieldLine → ℕ
-text_len fs = min (length (text_of fs)) (2 ^ 64 - 1)
-
 -- the size of a list of fields: the names, the values, and 32 bytes for each field (RFC 9114, section 4.2.2),
 -- saturating
 abbrev pub list_size : List FieldLine → ℕ
@@ -88,11 +76,11 @@ abbrev pub fit : List FieldLine → List Given → List ℕ → Bool
 fit fs told old = nat_le (length fs) (length told) && nat_le (length (text_of fs)) (length old)
 
 -- the fields are copied to the caller's memory if all fit, and else none is; the length of their text in bytes is
--- returned, and saturates
+-- returned
 pub record GivesAll (fields : List FieldLine) (told_before told_after : List Given) (before after : List ℕ)
     (answer : Written) : Type 0 where
   pub status_is : answer.status ≡ (if fit fields told_before before then done else no_room)
-  pub len_is : answer.len ≡ text_len fields
+  pub len_is : answer.len ≡ length (text_of fields)
   pub told_is : told_after
       ≡ (if fit fields told_before before then written_over (map told_of_field fields) told_before else told_before)
   pub text_is : after ≡ (if fit fields told_before before then written_over (text_of fields) before else before)

@@ -14,13 +14,13 @@ use Rattle.qpack_ends.specs.declared.section.Reading.TheVariants.{Fields, Blocke
 use Rattle.qpack_ends.specs.declared.decoder.DecoderSettings.{DecoderSettings}
 use Rattle.qpack_ends.specs.Decoders.{end_of, Begins, Decodes, Cancels, ReceivesBytes}
 use Rattle.qpack_ends.specs.Decoders.{NeedsMemoryToDecode, AsksForBytes, answer_to, cancellation_of}
-use Rattle.qpack_ends.specs.FieldSections.{IsRoomWithin}
+use Rattle.qpack_ends.specs.FieldSections.{IsRoomWithin, text_of}
 use Rattle.qpack_ends.specs.Receiving.{Receives}
 use Rattle.qpack_ends.specs.Unsent.{LacksRoom, KeepsRoom, Drops}
 use Rattle.h3_qpack_c.specs.declared.answers.Decoding.{Decoding}
 use Rattle.h3_qpack_c.specs.declared.answers.Received.{Received}
 use Rattle.h3_qpack_c.specs.declared.decoder.State.{State}
-use Rattle.h3_qpack_c.specs.Crossing.{text_len, written_over}
+use Rattle.h3_qpack_c.specs.Crossing.{written_over}
 use Rattle.h3_qpack_c.specs.Statuses.{done, blocked, of_decoding, of_decoding_call}
 
 -- the settings that an end takes
@@ -56,7 +56,7 @@ told_of_decoding (Ok (Fields required)) fields =
     record {
       status = done;
       fields = length fields;
-      len = text_len fields;
+      len = length (text_of fields);
       required = required;
       number = 0;
       offset = 0;

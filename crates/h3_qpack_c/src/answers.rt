@@ -43,7 +43,7 @@ pub struct Decoding {
     pub status: i32,
     /// How many fields there are.
     pub fields: usize,
-    /// How many bytes their names and values have, at most 2^64 - 1.
+    /// How many bytes their names and values have.
     pub len: usize,
     /// The required insert count of a section that was decoded or that waits.
     pub required: usize,
@@ -71,7 +71,7 @@ pub struct DecodedAlone {
     pub status: i32,
     /// How many fields there are.
     pub fields: usize,
-    /// How many bytes their names and values have, at most 2^64 - 1.
+    /// How many bytes their names and values have.
     pub len: usize,
     /// Where a line was rejected: its number in the section, from 1, else 0.
     pub number: u64,

@@ -12,7 +12,7 @@ ghost use Rattle.h3_qpack_c.specs.Decoding.{taken_of};
 ghost use Rattle.h3_qpack_c.specs.Decoding.{told_of_refusal, told_of_receiving, IsNew, KeepsNew};
 
 use crate::answers::{Decoding, Given, Received, Written};
-use crate::fields::{copy_front, give, give_all, no_field, text_len};
+use crate::fields::{copy_front, give, give_all, no_field};
 use crate::statuses::{
     BLOCKED, DONE, ENCODER_STREAM_ERROR, INVALID, NO_MEMORY, status_of_decoding,
 };
@@ -130,7 +130,7 @@ fn decode(state: &mut State, stream: u64, section: &[u8]) -> Decoding
 {
     match state.end.decode(stream, section, &mut state.fields) {
         Ok(Reading::Fields { required }) => {
-            let (fields, len) = (state.fields.len(), text_len(&state.fields));
+            let (fields, len) = (state.fields.len(), state.fields.text().len());
             decoded(DONE, fields, len, required)
         }
         Ok(Reading::Blocked { required }) => decoded(BLOCKED, 0, 0, required),

@@ -1,9 +1,9 @@
 //! Fields, and bytes, as they cross to C and from it.
 
-ghost use Rattle.std.specs.Prelude.{◌≡◌, ◌≤◌, ◌+◌, ◌-◌, ◌^◌, ◌++◌, length, map, min, take, drop, Some};
+ghost use Rattle.std.specs.Prelude.{◌≡◌, ◌≤◌, length, map, min, take, Some};
 ghost use Rattle.qpack_base.specs.HeaderFields.{line_of};
 ghost use Rattle.h3_qpack_c.specs.Crossing.{written_over, copied, told_of_copy, Gives, no_such_field};
-ghost use Rattle.h3_qpack_c.specs.Crossing.{line_of_lent, text_of, text_of_field, told_of_field, GivesAll};
+ghost use Rattle.h3_qpack_c.specs.Crossing.{line_of_lent, told_of_field, GivesAll};
 ghost use Rattle.h3_qpack_c.specs.Crossing as crossing;
 
 use crate::answers::{Given, Written};
@@ -134,18 +134,20 @@ fn told_of(field: &FieldLine) -> Given
 }
 
 /// Copies the fields of a section to a caller's memory, if there is room for an entry of each, and for their names and
-/// values one after the other. Returns how many bytes the names and values have, at most 2^64 - 1.
+/// values one after the other. Returns how many bytes the names and values have.
 pub(crate) fn give_all(section: &FieldSection, told: &mut [Given], out: &mut [u8]) -> Written
     ensures { GivesAll section.now.fields told.old told.new out.old out.new result }
 {
-    let len = text_len(section);
+    let text = section.text();
+    let len = text.len();
     if section.len() > told.len() || len > out.len() {
         return Written {
             status: NO_ROOM,
             len,
         };
     }
-    put_all(section, told, out);
+    tell_all(section, told);
+    copy_over(text, out);
     Written { status: DONE, len }
 }
 
@@ -160,47 +162,14 @@ pub(crate) fn list_size(fields: &[Field]) -> usize
     size
 }
 
-/// Returns how many bytes the names and values have, at most 2^64 - 1.
-pub(crate) fn text_len(section: &FieldSection) -> usize
-    ensures { result ≡ crossing.text_len section.now.fields }
+/// Puts the result for each field of a section into memory that has room for them.
+fn tell_all(section: &FieldSection, told: &mut [Given])
+    requires { length section.now.fields ≤ length told.old }
+    ensures { told.new ≡ written_over (map told_of_field section.now.fields) told.old }
 {
-    let mut len = 0usize;
-    for index in 0..section.len() {
-        if let Some(field) = section.get(index) {
-            len = len
-                .saturating_add(field.name.len())
-                .saturating_add(field.value.len());
-        }
-    }
-    len
-}
-
-/// Copies the fields of a section to memory that has room for them.
-fn put_all(section: &FieldSection, told: &mut [Given], out: &mut [u8])
-    requires places { length section.now.fields ≤ length told.old }
-    requires text { length (text_of section.now.fields) ≤ length out.old }
-    ensures told { told.new ≡ written_over (map told_of_field section.now.fields) told.old }
-    ensures text { out.new ≡ written_over (text_of section.now.fields) out.old }
-{
-    let mut at = 0;
     for index in 0..section.len() {
         if let Some(field) = section.get(index) {
             told[index] = told_of(&field);
-            at = put(&field, at, out);
         }
     }
-}
-
-/// Copies the name and the value of a field to memory, from a place on, and returns where they end.
-fn put(field: &FieldLine, at: usize, out: &mut [u8]) -> usize
-    requires { at + length (text_of_field (line_of field.now)) ≤ length out.old }
-    ensures end { result ≡ at + length (text_of_field (line_of field.now)) }
-    ensures written { out.new ≡ take at out.old ++ text_of_field (line_of field.now) ++ drop result out.old }
-{
-    let (name, value) = (field.name.len(), field.value.len());
-    let (_, rest) = out.split_at_mut(at);
-    let (front, rest) = rest.split_at_mut(name);
-    front.copy_from_slice(field.name);
-    copy_over(field.value, rest);
-    at + name + value
 }

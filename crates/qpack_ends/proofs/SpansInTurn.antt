@@ -1,11 +1,13 @@
 -- Spans that are in turn, and so tile a text.
-use Rattle.std.proofs.Common.{◌≡◌, ℕ, ◌≤◌, List, [], ◌∷◌, ◌++◌, ◌∙◌, length, sym, subst, arith, Result}
+use Rattle.std.proofs.Common.{◌≡◌, ℕ, ◌≤◌, List, [], ◌∷◌, ◌++◌, ◌∙◌, length, drop, slice_range, sym, ap, subst, arith, Result}
+use Rattle.std.proofs.Common.{append_assoc, drop_of_length-le}
+use Rattle.std.proofs.lemmas.List.Folds.{drop_split}
 use Rattle.std.specs.List.{AllByRecursion}
 use Rattle.qpack_spec.specs.Field.{FieldLine}
 use Rattle.qpack_spec.specs.StrictReading.{LineFault}
 use Rattle.qpack_base.specs.Cursor.{CursorView}
 use Rattle.qpack_ends.specs.declared.field_section.Span.{Span}
-use Rattle.qpack_ends.specs.FieldSections.{IsWithin, AreInTurn}
+use Rattle.qpack_ends.specs.FieldSections.{IsWithin, AreInTurn, fields_in, text_of}
 use Rattle.qpack_ends.specs.Lines.{Adds}
 
 reaches : (at len : ℕ) (spans : List Span) → AreInTurn at spans len → at ≤ len
@@ -20,6 +22,22 @@ all_within at len (s ∷ spans) (start, name, value, more) = (
   record { name = name; value = value; within = reaches s.end len spans more },
   all_within s.end len spans more,
 )
+
+text_from : (at : ℕ) (text : List ℕ) (spans : List Span) → AreInTurn at spans (length text)
+    → drop at text ≡ text_of (fields_in text spans)
+text_from at text [] k = drop_of_length-le text (omega (arith, k))
+text_from at text (s ∷ spans) (start, name, value, more) =
+    ap (λ (n : ℕ). drop n text) (sym start) ∙ drop_split text s.start s.middle name
+    ∙ ap (λ (t : List ℕ). slice_range text s.start s.middle ++ t)
+    (drop_split text s.middle s.end value
+    ∙ ap (λ (t : List ℕ). slice_range text s.middle s.end ++ t) (text_from s.end text spans more))
+    ∙ sym (append_assoc (slice_range text s.start s.middle) (slice_range text s.middle s.end)
+    (text_of (fields_in text spans)))
+
+-- their names and values, one after the other, are the whole text
+pub text_of_spans : (text : List ℕ) (spans : List Span) → AreInTurn 0 spans (length text)
+    → text ≡ text_of (fields_in text spans)
+text_of_spans text spans k = text_from 0 text spans k
 
 one_more : (at mid len : ℕ) (spans : List Span) (s : Span) → AreInTurn at spans mid → s.start ≡ mid → s.start ≤ s.middle
     → s.middle ≤ s.end → s.end ≡ len → AreInTurn at (spans ++ s ∷ []) len

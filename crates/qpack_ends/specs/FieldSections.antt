@@ -1,5 +1,5 @@
 -- The fields of a section, each a name and a value cut out of one text.
-use Rattle.std.specs.Prelude.{◌≡◌, ◌<◌, ◌≤◌, ◌/◌, ◌⊎◌, ℕ, max, List, [], ◌∷◌, Option, None, Some, map, slice_range}
+use Rattle.std.specs.Prelude.{◌≡◌, ◌<◌, ◌≤◌, ◌/◌, ◌⊎◌, ℕ, max, List, [], ◌∷◌, ◌++◌, Option, None, Some, map, slice_range}
 use Rattle.qpack_spec.specs.Field.{FieldLine}
 use Rattle.qpack_base.specs.HeaderFields.{line_of}
 use Rattle.qpack_base.specs.declared.field.FieldLine.{FieldLine as LentLine}
@@ -16,6 +16,15 @@ field_at text s =
 -- the fields of spans of the text
 abbrev pub fields_in : List ℕ → List Span → List FieldLine
 fields_in text spans = map (field_at text) spans
+
+-- a field's name, followed by its value
+abbrev pub text_of_field : FieldLine → List ℕ
+text_of_field f = f.field.name ++ f.field.value
+
+-- the names and values of fields, one after the other
+abbrev pub text_of : List FieldLine → List ℕ
+text_of [] = []
+text_of (f ∷ fs) = text_of_field f ++ text_of fs
 
 -- the span is within a text of this many bytes
 pub record IsWithin (len : ℕ) (s : Span) : Type 0 where

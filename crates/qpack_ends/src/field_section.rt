@@ -7,7 +7,7 @@ ghost use Rattle.qpack_spec.specs.Bytes.{Begins};
 ghost use Rattle.qpack_spec.specs.StrictReading.{strict_lines_at};
 ghost use Rattle.qpack_wire.specs.Memory.{AsksLine};
 ghost use Rattle.qpack_base.specs.HeaderFields.{line_of};
-ghost use Rattle.qpack_ends.specs.FieldSections.{IsWithin, GrowsTo, GrowsWithin, LacksRoomWithin};
+ghost use Rattle.qpack_ends.specs.FieldSections.{IsWithin, GrowsTo, GrowsWithin, LacksRoomWithin, text_of};
 ghost use Rattle.qpack_ends.specs.FieldSections.{field_at as field_of_span};
 ghost use Rattle.qpack_ends.specs.Lines.{under};
 ghost use Rattle.qpack_ends.specs.Sections.{ReadsLines};
@@ -112,6 +112,14 @@ impl FieldSection {
             text: &self.text,
             spans: &self.spans,
         }
+    }
+
+    /// Returns the names and values of all fields, one after the other.
+    #[tactic(auto, using(crate::proofs::SpansInTurn::text_of_spans))]
+    pub fn text(&self) -> &[u8]
+        ensures { result.now ≡ text_of self.now.fields }
+    {
+        &self.text
     }
 
     /// Makes room for this many fields, and for this many bytes of their names and values, as far as memory permits.
