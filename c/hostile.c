@@ -14,7 +14,7 @@ static uint8_t text[1 << 20];
 
 /* The least that an entry takes, and its index at an encoder. */
 #define ENTRY ((size_t)100)
-#define INDEX ((size_t)40)
+#define INDEX ((size_t)10)
 
 /* ---- Tables of many entries */
 
@@ -113,7 +113,7 @@ static int finds(h3_qpack_encoder *e, size_t place, size_t index) {
 }
 
 /* With the seed 0, each insertion puts a slot in front of its row, and the eviction for it takes one near the front: so
- * either moves nearly all other slots of the row, sixteen bytes each. */
+ * either moves nearly all other slots of the row, eight bytes each. */
 static void move_slots(const char *label, uint64_t encoder_seed) {
   size_t calls = size < 200 ? size / 2 : 100;
   h3_qpack_encoder e;

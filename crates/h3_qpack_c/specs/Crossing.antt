@@ -6,7 +6,7 @@ use Rattle.qpack_spec.specs.Field.{FieldLine, fields_of_lines, total_size}
 use Rattle.qpack_codec.specs.declared.encoder.choices.Wish.{Wish}
 use Rattle.qpack_codec.specs.declared.encoder.choices.Wish.TheVariants.{Unmarked, Never, Reuse, Insert}
 use Rattle.h3_qpack_c.specs.declared.answers.Written.{Written}
-use Rattle.qpack_ends.specs.FieldSections.{text_of}
+use Rattle.qpack_ends.specs.FieldSections.{text_of, text_of_field}
 use Rattle.h3_qpack_c.specs.declared.fields.Field.{Field}
 use Rattle.h3_qpack_c.specs.Statuses.{done, no_memory, no_room, invalid}
 
@@ -48,28 +48,23 @@ flags_of f = if f.never_indexed then 1 else 0
 abbrev pub no_such_field : Given
 no_such_field = record { status = invalid; flags = 0; name = 0; value = 0 }
 
+-- the result for a field that is copied
+abbrev pub told_of_field : FieldLine → Given
+told_of_field f =
+    record { status = done; flags = flags_of f; name = length f.field.name; value = length f.field.value }
+
 -- the field's name and value are copied to the caller's memory, one after the other, if both fit, and their lengths are
 -- returned; or there is no such field
 abbrev pub Gives : Option FieldLine → List ℕ → List ℕ → Given → Type 0
 Gives None old new told = (told ≡ no_such_field) × (new ≡ old)
 Gives (Some f) old new told =
-    (told ≡ record {
-      status = status_of_copy (f.field.name ++ f.field.value) old;
-      flags = flags_of f;
-      name = length f.field.name;
-      value = length f.field.value;
-    })
-    × (new ≡ copied (f.field.name ++ f.field.value) old)
+    (told ≡ record (told_of_field f) { status = status_of_copy (text_of_field f) old })
+    × (new ≡ copied (text_of_field f) old)
 
 -- the size of a list of fields: the names, the values, and 32 bytes for each field (RFC 9114, section 4.2.2),
 -- saturating
 abbrev pub list_size : List FieldLine → ℕ
 list_size fs = min (total_size (fields_of_lines fs)) (2 ^ 64 - 1)
-
--- the result for a field that is copied
-abbrev pub told_of_field : FieldLine → Given
-told_of_field f =
-    record { status = done; flags = flags_of f; name = length f.field.name; value = length f.field.value }
 
 -- whether there is room for an entry of each field, and for their text
 abbrev pub fit : List FieldLine → List Given → List ℕ → Bool

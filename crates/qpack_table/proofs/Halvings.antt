@@ -28,12 +28,3 @@ counts_all n left old new h = (h.least, λ all g. let m = h.most all g in omega 
 
 pub counts_fewer : (m n old new : ℕ) → m ≤ n → Counts m old new → Counts n old new
 counts_fewer m n old new h c = (c.0, λ digits g. c.1 digits (omega (arith, h, g)))
-
--- a row of at most two is searched slot by slot
-pub few_counts : (n old new : ℕ) → n ≤ 2 → old ≤ new → new ≤ old + n → Counts n old new
-few_counts n old new few least most = (least, λ digits h. omega (arith, most, at_most digits h))
-  where
-    at_most : (digits : ℕ) → n < 2 ^ digits → n ≤ digits
-    at_most zero h = omega (arith, h)
-    at_most (suc zero) h = omega (arith, h)
-    at_most (suc (suc d)) h = omega (arith, few)

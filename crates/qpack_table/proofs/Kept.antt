@@ -1,13 +1,14 @@
 -- What a table keeps, when entries go and come.
-use Rattle.std.proofs.Common.{◌≡◌, ℕ, ◌+◌, ◌-◌, ◌^◌, ◌<◌, ◌≤◌, false, List, [], ◌∷◌, ◌++◌, length, drop, refl, sym}
+use Rattle.std.proofs.Common.{◌≡◌, ℕ, ◌+◌, ◌-◌, ◌*◌, ◌^◌, ◌<◌, ◌≤◌, false, List, [], ◌∷◌, ◌++◌, length, drop, refl, sym}
 use Rattle.std.proofs.Common.{ap, subst, ◌∙◌, arith}
 use Rattle.std.proofs.lemmas.List.{length-drop, length-map}
 use Rattle.std.specs.List.{AllByRecursion}
 use Rattle.qpack_base.specs.HeaderFields.{field_of}
-use Rattle.qpack_spec.specs.Field.{field_size, total_size}
+use Rattle.qpack_spec.specs.Field.{Field, field_size, total_size}
 use Rattle.qpack_spec.specs.Table as table
 use Rattle.qpack_spec.specs.Table.{fields_in}
 use Rattle.qpack_spec.specs.Window.{eviction_count}
+use Rattle.qpack_spec.proofs.Sizes.{total_first}
 use Rattle.qpack_table.specs.Positions.{Positions}
 use Rattle.qpack_table.specs.Tables.{entry_of, entries_of, flags_of, references_in, times, AreUsed, AreCounted}
 use Rattle.qpack_table.specs.Tables.{NoneTwice}
@@ -15,6 +16,7 @@ use Rattle.qpack_table.specs.Tables.{IsKept, IsSized, IsIndexOfEntries, CountsRe
 use Rattle.qpack_table.specs.Indexes.{IsIndexOf}
 use Rattle.qpack_table.specs.declared.dynamic.entry.Entry.{Entry}
 use Rattle.qpack_table.specs.declared.dynamic.index.Index.{Index}
+use Rattle.qpack_table.proofs.Lookups.{fields_long}
 use Rattle.qpack_table.proofs.Evictions.{sized_inserted, sized_resized, evicted_within}
 use Rattle.qpack_table.proofs.References.{times_append, references_less, references_put, references_released}
 use Rattle.qpack_table.proofs.Marks.{used_counted}
@@ -63,6 +65,23 @@ kept_put v w es now size left capacity referenced unacknowledged e k kept room e
           unflagged unused dropped total;
       indexed = indexed;
     }
+
+-- each field takes 32 bytes or more (section 3.2.1)
+entries_fit : (fs : List Field) → 32 * length fs ≤ total_size fs
+entries_fit [] = omega arith
+entries_fit (f ∷ fs) = omega (arith, entries_fit fs, total_first f fs)
+
+-- so those of the capacity are few
+pub few_entries : (v : Positions) (es : List Entry) (size capacity : ℕ) → IsSized v es size capacity
+    → length es < 2 ^ 31
+few_entries v es size capacity kept = omega (
+  arith,
+  kept.sum,
+  kept.fits,
+  kept.small,
+  entries_fit (fields_in (entries_of es)),
+  fields_long es,
+)
 
 -- the sizes are those of other entries with the same fields
 pub sized_as : (v : Positions) (es now : List Entry) (size capacity : ℕ) → entries_of now ≡ entries_of es

@@ -14,7 +14,7 @@ pub mod Walks
 pub mod Lookups
 pub mod Changes
 pub mod Halvings
-pub mod Places
+pub mod SlotIndexes
 pub mod RowOrder
 pub mod RowSearches
 pub mod Lists

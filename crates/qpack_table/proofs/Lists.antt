@@ -1,4 +1,4 @@
--- Elements of lists, and pairs of them, behind a change.
+-- Elements of lists, and pairs of them, after a change.
 use Rattle.std.proofs.Common.{◌≡◌, ℕ, zero, suc, ◌+◌, ◌-◌, ◌<◌, ◌≤◌, Bool, true, false, cond, List, [], ◌∷◌}
 use Rattle.std.proofs.Common.{length, get_or, set, sym, ap, subst, ◌∙◌, inl, inr, ◌⊎◌, arith}
 use Rattle.std.specs.Prelude.{Contains}
@@ -28,7 +28,7 @@ set_either xs p y a lt c = elim (cases_eq c.0 p) [
   | inr ne ↦ inr (c.0, omega (arith, c.1, length-set xs p y), sym (get_or-set_other xs p c.0 y a ne) ∙ c.2)
 ]
 
--- an insertion between what is before and what is behind
+-- an insertion between what is before and what is after
 pub all_pairs_insert : {X : Type 0} → (R : X → X → Type 0) (xs : List X) (n : ℕ) (y : X) → n ≤ length xs
     → AllPairs R xs → ((k : ℕ) (d : X) → k < n → R (get_or xs k d) y) → ((k : ℕ) (d : X) → n ≤ k → k < length xs
     → R y (get_or xs k d)) → AllPairs R (insert xs n y)
@@ -40,7 +40,7 @@ all_pairs_insert {X} R xs n y le all below above i j d lt within = pick (cases_l
     inside : j < length xs + 1
     inside = omega (arith, within, length-insert xs n y le)
 
-    -- an element of the new list behind the position
+    -- an element of the new list after the position
     moved : (k : ℕ) → n < k → get_or new k d ≡ get_or xs (k - 1) d
     moved k g = subst (λ (q : ℕ). get_or new q d ≡ get_or xs (k - 1) d) {x =
         k - 1 + 1} (omega (arith, g)) (get_or-insert_above xs n y d (k - 1) (omega (arith, g)) le)

@@ -17,7 +17,7 @@ use Rattle.qpack_spec.proofs.Positions.{newest_found, same_field, same_name}
 use Rattle.qpack_base.proofs.FieldOrder.{equal_is_field}
 use Rattle.qpack_table.specs.Hashes.{position_among}
 use Rattle.qpack_table.specs.Tables.{entries_of, live_fields}
-use Rattle.qpack_table.specs.Rows.{field_at, part_of, part_at, IsLiveIndex, IsRow, FindsSlot}
+use Rattle.qpack_table.specs.Rows.{field_at, index_of, part_of, part_at, IsLiveIndex, IsRow, FindsSlot}
 use Rattle.qpack_table.specs.Indexes.{home, AreRowsOf, HasSlotOf, FindsNewest, IsNewestIn}
 use Rattle.qpack_table.specs.declared.dynamic.entry.Entry.{Entry}
 use Rattle.qpack_table.specs.declared.dynamic.index.row.Part.{Part}
@@ -151,7 +151,7 @@ module _ (part : Part) (dropped : ℕ) (live : List Field) (entered : ℕ) (rows
     h.3,
     λ other at same.
         let s = slot_there other at same in
-        let one : s.0.index ≡ h.0.index =
+        let one : index_of dropped s.0 ≡ index_of dropped h.0 =
         one_slot part dropped live (r.slots.items) is s.0 h.0 s.1 h.1
         (s.4 ∙ same ∙ sym h.3 ∙ ap (λ (i : ℕ). part_at part dropped live i) (sym h.2)) in
         omega (arith, one, h.2, s.2),
@@ -199,7 +199,7 @@ newest_name seed dropped es name (Some a) h =
 
 module _ (part : Part) (dropped : ℕ) (live : List Field) (row : List Slot) (is : IsRow part dropped live row) where
   abbrev position : Slot → ℕ
-  position s = s.index - dropped - 1
+  position s = index_of dropped s - dropped - 1
 
   position_read : (j d : ℕ) (s : Slot) → j < length row → get_or (map position row) j d ≡ position (get_or row j s)
   position_read j d s h = get_or-map position row j s d h
@@ -218,7 +218,7 @@ module _ (part : Part) (dropped : ℕ) (live : List Field) (row : List Slot) (is
           let second = there j s within in
           let places : position (get_or row i s) ≡ position (get_or row j s) =
           sym (position_read i d s (omega (arith, lt, within))) ∙ eqb-true _ _ e ∙ position_read j d s within in
-          let same : (get_or row i s).index ≡ (get_or row j s).index =
+          let same : index_of dropped (get_or row i s) ≡ index_of dropped (get_or row j s) =
           omega (arith, places, (is.slots _ first).0.0, (is.slots _ second).0.0) in
           absurd (omega (arith, lt, one_index part dropped live row is i j s (omega (arith, lt, within)) within same))
 

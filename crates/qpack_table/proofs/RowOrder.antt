@@ -129,14 +129,14 @@ pub not_greater_and_equal : (r : Ordering) → r ≡ Greater → r ≡ Equal →
 not_greater_and_equal r h k = cc
 
 -- what comes before one that comes before, and behind one that comes behind
-pub before_less : (k l m : Key) → key_cmp k l ≡ Less → key_cmp l m ≡ Less → key_cmp k m ≡ Less
-before_less k l m g h = key_cmp_total.trans k l m g h
+pub less_through : (k l m : Key) → key_cmp k l ≡ Less → key_cmp l m ≡ Less → key_cmp k m ≡ Less
+less_through k l m g h = key_cmp_total.trans k l m g h
 
-pub behind_less : (k l : Key) → key_cmp k l ≡ Less → key_cmp l k ≡ Greater
-behind_less k l h = key_cmp_total.antisymm l k ∙ ap ordering_reverse h
+pub flipped_less : (k l : Key) → key_cmp k l ≡ Less → key_cmp l k ≡ Greater
+flipped_less k l h = key_cmp_total.antisymm l k ∙ ap ordering_reverse h
 
-pub less_behind : (k l : Key) → key_cmp k l ≡ Greater → key_cmp l k ≡ Less
-less_behind k l h = key_cmp_total.antisymm l k ∙ ap ordering_reverse h
+pub flipped_greater : (k l : Key) → key_cmp k l ≡ Greater → key_cmp l k ≡ Less
+flipped_greater k l h = key_cmp_total.antisymm l k ∙ ap ordering_reverse h
 
-pub behind_greater : (k l m : Key) → key_cmp k l ≡ Less → key_cmp k m ≡ Greater → key_cmp l m ≡ Greater
-behind_greater k l m g h = behind_less m l (key_cmp_total.trans m k l (less_behind k m h) g)
+pub greater_through : (k l m : Key) → key_cmp k l ≡ Less → key_cmp k m ≡ Greater → key_cmp l m ≡ Greater
+greater_through k l m g h = flipped_less m l (key_cmp_total.trans m k l (flipped_greater k m h) g)

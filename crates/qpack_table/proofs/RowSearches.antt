@@ -8,12 +8,12 @@ use Rattle.std.proofs.lemmas.List.{get_or_default}
 use Rattle.qpack_base.specs.HeaderFields.{field_of}
 use Rattle.qpack_spec.specs.Field.{Field}
 use Rattle.qpack_table.specs.Rows.{Key, key_cmp, key_at, part_of, part_at, field_at, IsSlot, IsRow, IsMatch}
-use Rattle.qpack_table.specs.Rows.{IsGap, hash_of}
+use Rattle.qpack_table.specs.Rows.{IsGap, hash_of, index_of}
 use Rattle.qpack_table.specs.Tables.{live_fields}
 use Rattle.qpack_table.specs.declared.dynamic.entry.Entry.{Entry}
 use Rattle.qpack_table.specs.declared.dynamic.index.row.Part.{Part}
 use Rattle.qpack_table.specs.declared.dynamic.index.row.Slot.{Slot}
-use Rattle.qpack_table.proofs.RowOrder.{before_less, behind_greater, same_part, same_hash, tie_of}
+use Rattle.qpack_table.proofs.RowOrder.{less_through, greater_through, same_part, same_hash, tie_of}
 use Rattle.qpack_table.proofs.RowOrder.{not_less_and_equal, not_greater_and_equal}
 use Rattle.qpack_table.proofs.Lookups.{fields_long, field_read}
 
@@ -25,7 +25,7 @@ slot_at row slots position d same within =
     ∙ get_or_default row position d (get_or slots position d) within
 
 -- what is known between two positions: before the lower one all come before what is sought, and from the higher one
--- on all come behind it
+-- on all come after it
 pub record Searching (part : Part) (dropped : ℕ) (live : List Field) (row : List Slot) (k : Key) (low high : ℕ) :
     Type 0 where
   pub order : low ≤ high
@@ -66,7 +66,7 @@ module _ (part : Part) (dropped : ℕ) (live : List Field) (row : List Slot) (is
 
         pick : (j : ℕ) (d : Slot) → j < middle + 1 → key_cmp (key j d) k ≡ Less
         pick j d g = elim (cases_lt j middle) [
-          | inl lt ↦ before_less (key j d) (key middle d) k (is.rises j middle d lt (omega (arith, to, h.within)))
+          | inl lt ↦ less_through (key j d) (key middle d) k (is.rises j middle d lt (omega (arith, to, h.within)))
               (at d)
           | inr le ↦
               let same : middle ≡ j = omega (arith, le, g) in
@@ -87,7 +87,7 @@ module _ (part : Part) (dropped : ℕ) (live : List Field) (row : List Slot) (is
 
         pick : (j : ℕ) (d : Slot) → middle ≤ j → j < length row → key_cmp (key j d) k ≡ Greater
         pick j d g lt = elim (cases_lt middle j) [
-          | inl less ↦ behind_greater (key middle d) (key j d) k (is.rises middle j d less lt) (at d)
+          | inl less ↦ greater_through (key middle d) (key j d) k (is.rises middle j d less lt) (at d)
           | inr le ↦
               let same : middle ≡ j = omega (arith, le, g) in
               subst (λ (i : ℕ). key_cmp (key i d) k ≡ Greater) same (at d)
@@ -120,15 +120,15 @@ entry_part part dropped es index e live read =
 module _ (part : Part) (dropped : ℕ) (live : List Field) (row : List Slot) (is : IsRow part dropped live row)
     (k : Key) (f : Field) (part_is : k.field ≡ part_of part f) (hashed : k.hash ≡ hash_of part f) where
   -- a slot with what is sought ties with it
-  pub ties : (s : Slot) → Contains row s → part_at part dropped live s.index ≡ k.field
+  pub ties : (s : Slot) → Contains row s → part_at part dropped live (index_of dropped s) ≡ k.field
       → key_cmp (key_at part dropped live s) k ≡ Equal
   ties s c same =
       tie_of (key_at part dropped live s) k
-      ((is.slots s c).1 ∙ same_hash part (field_at dropped live s.index) f (same ∙ part_is) ∙ sym hashed) same
+      ((is.slots s c).1 ∙ same_hash part (field_at dropped live (index_of dropped s)) f (same ∙ part_is) ∙ sym hashed) same
 
   -- where nothing was found, no slot has it
   pub found_none : (position : ℕ) → IsGap part dropped live row k position → (s : Slot) → Contains row s
-      → part_at part dropped live s.index ≡ k.field → ⊥
+      → part_at part dropped live (index_of dropped s) ≡ k.field → ⊥
   found_none position at s c same =
       let tie : key_cmp (key_at part dropped live (get_or row c.0 s)) k ≡ Equal =
       ap (λ (x : Slot). key_cmp (key_at part dropped live x) k) c.2 ∙ ties s c same in
@@ -138,8 +138,9 @@ module _ (part : Part) (dropped : ℕ) (live : List Field) (row : List Slot) (is
       ]
 
 pub found_some : (part : Part) (dropped : ℕ) (live : List Field) (row : List Slot) (k : Key) (position index : ℕ)
-    (slot : Slot) → IsMatch part dropped live row k position → slot ≡ get_or row position slot → index ≡ slot.index
-    → (s : Slot) × Contains row s × (s.index ≡ index) × (part_at part dropped live index ≡ k.field)
+    (slot : Slot) → IsMatch part dropped live row k position → slot ≡ get_or row position slot
+    → index ≡ index_of dropped slot
+    → (s : Slot) × Contains row s × (index_of dropped s ≡ index) × (part_at part dropped live index ≡ k.field)
 found_some part dropped live row k position index slot at read is =
     let tie : key_cmp (key_at part dropped live slot) k ≡ Equal =
     ap (λ (x : Slot). key_cmp (key_at part dropped live x) k) read ∙ at.equal slot in (

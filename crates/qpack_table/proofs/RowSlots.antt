@@ -1,5 +1,5 @@
 -- A row that takes a slot in, or lets one go.
-use Rattle.std.proofs.Common.{◌≡◌, ℕ, ◌+◌, ◌<◌, ◌≤◌, ◌∷◌, List, length, get_or, set, refl, sym}
+use Rattle.std.proofs.Common.{◌≡◌, ℕ, ◌+◌, ◌^◌, ◌<◌, ◌≤◌, ◌∷◌, List, length, get_or, set, refl, sym}
 use Rattle.std.proofs.Common.{ap, subst, ◌∙◌, inl, inr, ◌⊎◌, arith}
 use Rattle.std.specs.Prelude.{Contains}
 use Rattle.std.specs.declared.cmp.Ordering.TheVariants.{Less, Equal}
@@ -13,15 +13,16 @@ use Rattle.std.proofs.lemmas.List.Edits.{length-remove, get_or-remove_below, get
 use Rattle.std.proofs.lemmas.List.Quantifiers.{all_pairs_remove}
 use Rattle.qpack_spec.specs.Field.{Field}
 use Rattle.qpack_table.specs.Rows.{Key, key_cmp, key_at, part_of, part_at, hash_of, field_at, IsSlot, IsRow, IsMatch}
-use Rattle.qpack_table.specs.Rows.{IsGap, Enters, Leaves, HasIndexAt, HasNoIndex}
+use Rattle.qpack_table.specs.Rows.{IsGap, Enters, Leaves, HasIndexAt, HasNoIndex, index_of, slot_of}
 use Rattle.qpack_table.specs.declared.dynamic.index.row.Part.{Part}
 use Rattle.qpack_table.specs.declared.dynamic.index.row.Slot.{Slot}
 use Rattle.qpack_table.proofs.Lists.{contains_more, contains_either, set_either, all_pairs_insert}
-use Rattle.qpack_table.proofs.RowOrder.{same_key, tie_of, same_hash, less_behind, not_less_and_equal}
+use Rattle.qpack_table.proofs.RowOrder.{same_key, tie_of, same_hash, flipped_greater, not_less_and_equal}
 use Rattle.qpack_table.specs.Tables.{live_fields}
 use Rattle.qpack_table.specs.declared.dynamic.entry.Entry.{Entry}
 use Rattle.qpack_table.proofs.Lookups.{fields_long}
 use Rattle.qpack_table.proofs.RowSearches.{ties, found_none}
+use Rattle.qpack_table.proofs.SlotIndexes.{index_made}
 
 -- ---- a slot comes in
 
@@ -55,7 +56,8 @@ module _ (part : Part) (dropped : ℕ) (live : List Field) (row : List Slot) (is
     }
 
     kept_set : (s : Slot) (c : Contains row s) → (c.0 ≡ p) ⊎ (c.0 ≡ p → ⊥)
-        → (part_at part dropped live s.index ≡ part_at part dropped live slot.index) ⊎ Contains (set row p slot) s
+        → (part_at part dropped live (index_of dropped s) ≡ part_at part dropped live (index_of dropped slot))
+        ⊎ Contains (set row p slot) s
     kept_set s c (inl e) =
         let one : key s ≡ key slot =
         ap key (sym c.2 ∙ ap (λ (i : ℕ). get_or row i s) e) ∙ key_there s in
@@ -91,7 +93,7 @@ module _ (part : Part) (dropped : ℕ) (live : List Field) (row : List Slot) (is
       rises = all_pairs_insert (λ a b. key_cmp (key a) (key b) ≡ Less) row p slot at.within is.rises
           (λ j d h. ap (λ (x : Key). key_cmp (key (get_or row j d)) x) same ∙ at.before j d h)
           (λ j d h lt. ap (λ (x : Key). key_cmp x (key (get_or row j d))) same
-          ∙ less_behind (key (get_or row j d)) k (at.after j d h lt));
+          ∙ flipped_greater (key (get_or row j d)) k (at.after j d h lt));
     }
 
     pub enters_inserted : Enters part dropped live row (insert row p slot) slot
@@ -108,14 +110,15 @@ module _ (part : Part) (dropped : ℕ) (live : List Field) (row : List Slot) (is
   where
     -- slots of one part, or of one index, tie
     tied_parts : (s t : Slot) → Contains row s → Contains row t
-        → part_at part dropped live s.index ≡ part_at part dropped live t.index
+        → part_at part dropped live (index_of dropped s) ≡ part_at part dropped live (index_of dropped t)
         → key_cmp (key_at part dropped live s) (key_at part dropped live t) ≡ Equal
     tied_parts s t c e fields =
         tie_of (key_at part dropped live s) (key_at part dropped live t)
-        ((is.slots s c).1 ∙ same_hash part (field_at dropped live s.index) (field_at dropped live t.index) fields
+        ((is.slots s c).1
+        ∙ same_hash part (field_at dropped live (index_of dropped s)) (field_at dropped live (index_of dropped t)) fields
         ∙ sym (is.slots t e).1) fields
 
-    alike : (s t : Slot) → Contains row s → Contains row t → s.index ≡ t.index
+    alike : (s t : Slot) → Contains row s → Contains row t → index_of dropped s ≡ index_of dropped t
         → key_cmp (key_at part dropped live s) (key_at part dropped live t) ≡ Equal
     alike s t c e same = tied_parts s t c e (ap (λ (i : ℕ). part_at part dropped live i) same)
 
@@ -134,14 +137,15 @@ module _ (part : Part) (dropped : ℕ) (live : List Field) (row : List Slot) (is
 
     -- so each index, and each part, stands in one slot
     pub one_index : (i j : ℕ) (d : Slot) → i < length row → j < length row
-        → (get_or row i d).index ≡ (get_or row j d).index → i ≡ j
+        → index_of dropped (get_or row i d) ≡ index_of dropped (get_or row j d) → i ≡ j
     one_index i j d h g same =
         let first : Contains row (get_or row i d) = (i, h, get_or_default row i (get_or row i d) d h) in
         let second : Contains row (get_or row j d) = (j, g, get_or_default row j (get_or row j d) d g) in
         one_place i j d h g (alike _ _ first second same) (alike _ _ second first (sym same))
 
     pub one_slot : (s t : Slot) → Contains row s → Contains row t
-        → part_at part dropped live s.index ≡ part_at part dropped live t.index → s.index ≡ t.index
+        → part_at part dropped live (index_of dropped s) ≡ part_at part dropped live (index_of dropped t)
+        → index_of dropped s ≡ index_of dropped t
     one_slot s t c e same =
         let first : get_or row c.0 s ≡ s = c.2 in
         let second : get_or row e.0 s ≡ t = get_or_default row e.0 s t e.1 ∙ e.2 in
@@ -151,14 +155,14 @@ module _ (part : Part) (dropped : ℕ) (live : List Field) (row : List Slot) (is
         ∙ tied_parts s t c e same)
         ((λ i. key_cmp (key_at part dropped live (second i)) (key_at part dropped live (first i)))
         ∙ tied_parts t s e c (sym same)) in
-        ap (λ (x : Slot). x.index) (sym first ∙ ap (λ (i : ℕ). get_or row i s) place ∙ second)
+        ap (λ (x : Slot). index_of dropped x) (sym first ∙ ap (λ (i : ℕ). get_or row i s) place ∙ second)
 
-    module _ (index p : ℕ) (at : HasIndexAt row index p) (slot : Slot) (read : slot ≡ get_or row p slot) where
+    module _ (index p : ℕ) (at : HasIndexAt dropped row index p) (slot : Slot) (read : slot ≡ get_or row p slot) where
       went : IsPermutation row (slot ∷ remove row p)
       went = IsPermutation-remove row p slot at.within read
 
-      of_index : slot.index ≡ index
-      of_index = ap (λ (x : Slot). x.index) read ∙ at.is slot
+      of_index : index_of dropped slot ≡ index
+      of_index = ap (λ (x : Slot). index_of dropped x) read ∙ at.is slot
 
       only_left : (s : Slot) → Contains (remove row p) s → Contains row s
       only_left s c = Contains-permutation (slot ∷ remove row p) row s
@@ -190,11 +194,11 @@ module _ (part : Part) (dropped : ℕ) (live : List Field) (row : List Slot) (is
             )
           ]
 
-      pub leaves_removed : Leaves row (remove row p) index
+      pub leaves_removed : Leaves dropped row (remove row p) index
       leaves_removed = record {
         kept = λ s c ne. elim (contains_either (remove row p) slot s
             (Contains-permutation row (slot ∷ remove row p) s went c)) [
-              | inl e ↦ absurd (ne (sym (ap (λ (x : Slot). x.index) e) ∙ of_index))
+              | inl e ↦ absurd (ne (sym (ap (λ (x : Slot). index_of dropped x) e) ∙ of_index))
               | inr left ↦ left
             ];
         only = only_left;
@@ -204,8 +208,8 @@ module _ (part : Part) (dropped : ℕ) (live : List Field) (row : List Slot) (is
             (p, at.within, get_or_default row p (get_or row p s) s at.within) in
             let there : Contains row (get_or row w.0 s) =
             (w.0, w.1, get_or_default row w.0 (get_or row w.0 s) s w.1) in
-            let same : (get_or row w.0 s).index ≡ (get_or row p s).index =
-            ap (λ (x : Slot). x.index) w.2 ∙ e ∙ sym (at.is s) in
+            let same : index_of dropped (get_or row w.0 s) ≡ index_of dropped (get_or row p s) =
+            ap (λ (x : Slot). index_of dropped x) w.2 ∙ e ∙ sym (at.is s) in
             w.3 (one_place w.0 p s w.1 at.within (alike _ _ there here same) (alike _ _ here there (sym same)));
       }
 
@@ -213,7 +217,7 @@ module _ (part : Part) (dropped : ℕ) (live : List Field) (row : List Slot) (is
 
     module _ (index : ℕ) (k : Key) (f : Field) (part_is : k.field ≡ part_of part f) (hashed : k.hash ≡ hash_of part f)
         (sought : k.field ≡ part_at part dropped live index) where
-      tied : (j : ℕ) (d : Slot) → j < length row → (get_or row j d).index ≡ index
+      tied : (j : ℕ) (d : Slot) → j < length row → index_of dropped (get_or row j d) ≡ index
           → key_cmp (key_at part dropped live (get_or row j d)) k ≡ Equal
       tied j d h e =
           ties part dropped live row is k f part_is hashed (get_or row j d)
@@ -222,7 +226,7 @@ module _ (part : Part) (dropped : ℕ) (live : List Field) (row : List Slot) (is
 
       -- another index has its part
       pub other_there : (p : ℕ) (slot : Slot) → IsMatch part dropped live row k p → slot ≡ get_or row p slot
-          → (slot.index ≡ index → ⊥) → HasNoIndex row index
+          → (index_of dropped slot ≡ index → ⊥) → HasNoIndex dropped row index
       other_there p slot at read ne = λ j d h e.
           let one : key_at part dropped live (get_or row j d) ≡ key_at part dropped live (get_or row p d) =
           same_key _ k (tied j d h e) ∙ sym (same_key _ k (at.equal d)) in
@@ -233,11 +237,11 @@ module _ (part : Part) (dropped : ℕ) (live : List Field) (row : List Slot) (is
           ≡ Equal =
           tie_of _ _ (sym (ap (λ (x : Key). x.hash) one)) (sym (ap (λ (x : Key). x.field) one)) in
           let place : j ≡ p = one_place j p d h at.within tie back in
-          ne (ap (λ (x : Slot). x.index) (read ∙ get_or_default row p slot d at.within
+          ne (ap (λ (x : Slot). index_of dropped x) (read ∙ get_or_default row p slot d at.within
           ∙ ap (λ (i : ℕ). get_or row i d) (sym place)) ∙ e)
 
       -- no index has it
-      pub none_there : (p : ℕ) → IsGap part dropped live row k p → HasNoIndex row index
+      pub none_there : (p : ℕ) → IsGap part dropped live row k p → HasNoIndex dropped row index
       none_there p at = λ j d h e.
           found_none part dropped live row is k f part_is hashed p at (get_or row j d)
           (j, h, get_or_default row j (get_or row j d) d h)
@@ -245,16 +249,24 @@ module _ (part : Part) (dropped : ℕ) (live : List Field) (row : List Slot) (is
 
 -- ---- as the code enters
 
-pub slot_entered : (part : Part) (dropped : ℕ) (es : List Entry) (index hash : ℕ) (f : Field)
-    → (dropped < index) × (index ≤ dropped + length es) → part_of part f ≡ part_at part dropped (live_fields es) index
-    → hash ≡ hash_of part f
-    → (let slot : Slot = record { hash = hash; index = index } in IsSlot part dropped (live_fields es) slot)
-slot_entered part dropped es index hash f live same hashed = (
-  (live.0, omega (arith, live.1, fields_long es)),
-  hashed ∙ same_hash part f (field_at dropped (live_fields es) index) same,
-)
+-- the slot of a live index
+module _ (part : Part) (dropped : ℕ) (es : List Entry) (index hash : ℕ)
+    (live : (dropped < index) × (index ≤ dropped + length es)) (few : length es < 2 ^ 32) where
+  pub index_entered : index_of dropped (slot_of hash index) ≡ index
+  index_entered = index_made dropped index hash live.0 (omega (arith, live.1, few))
 
-pub key_entered : (part : Part) (dropped : ℕ) (live : List Field) (index hash : ℕ) (f : Field)
-    → f ≡ part_at part dropped live index → (let slot : Slot = record { hash = hash; index = index } in
-    let k : Key = record { hash = hash; field = f } in key_at part dropped live slot ≡ k)
-key_entered part dropped live index hash f same = λ i. record { hash = hash; field = sym same i }
+  pub slot_entered : (f : Field) → part_of part f ≡ part_at part dropped (live_fields es) index
+      → hash ≡ hash_of part f → IsSlot part dropped (live_fields es) (slot_of hash index)
+  slot_entered f same hashed = (
+    (omega (arith, index_entered, live.0), omega (arith, index_entered, live.1, fields_long es)),
+    hashed ∙ same_hash part f (field_at dropped (live_fields es) index) same
+        ∙ ap (λ (a : ℕ). hash_of part (field_at dropped (live_fields es) a)) (sym index_entered),
+  )
+
+  pub key_entered : (f : Field) → f ≡ part_at part dropped (live_fields es) index
+      → (let k : Key = record { hash = hash; field = f } in
+      key_at part dropped (live_fields es) (slot_of hash index) ≡ k)
+  key_entered f same =
+      let there : part_at part dropped (live_fields es) (index_of dropped (slot_of hash index)) ≡ f =
+      ap (λ (a : ℕ). part_at part dropped (live_fields es) a) index_entered ∙ sym same in
+      λ i. record { hash = hash; field = there i }

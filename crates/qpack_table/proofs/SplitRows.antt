@@ -2,7 +2,7 @@
 use Rattle.std.proofs.Common.{◌≡◌, ℕ, ◌+◌, ◌<◌, ◌≤◌, Bool, not, List, [], ◌∷◌}
 use Rattle.std.proofs.Common.{length, get_or, set, sym, ap, subst, ◌∙◌, inl, inr, ◌⊎◌, arith}
 use Rattle.std.specs.Prelude.{Contains}
-use Rattle.std.specs.List.{All, filter}
+use Rattle.std.specs.List.{filter}
 use Rattle.std.specs.declared.cmp.Ordering.TheVariants.{Less}
 use Rattle.std.proofs.lemmas.Bool.{cases_lt, cases_eq, eqb-true, eqb-false, eq-eqb, ne_eqb, not-true}
 use Rattle.std.proofs.lemmas.List.{length-set, length_push, get_or-set_other, get_or-set_same, get_or_append_left}
@@ -10,8 +10,8 @@ use Rattle.std.proofs.lemmas.List.{get_or_push, get_or_default}
 use Rattle.std.proofs.lemmas.List.Kept.{AllPairs-filter}
 use Rattle.qpack_spec.specs.Field.{Field}
 use Rattle.qpack_table.specs.Hashes.{position_among}
-use Rattle.qpack_table.specs.Rows.{key_cmp, key_at, hash_of, field_at, goes_to, IsRow}
-use Rattle.qpack_table.specs.Indexes.{home, HasSlotOf, AreRowsOf, IsSplitOf, split_home, rows_behind}
+use Rattle.qpack_table.specs.Rows.{key_cmp, key_at, hash_of, index_of, field_at, goes_to, IsRow}
+use Rattle.qpack_table.specs.Indexes.{home, HasSlotOf, AreRowsOf, IsSplitOf, split_home, rows_with_split}
 use Rattle.qpack_table.specs.declared.dynamic.index.row.Part.{Part}
 use Rattle.qpack_table.specs.declared.dynamic.index.row.Row.{Row}
 use Rattle.qpack_table.specs.declared.dynamic.index.row.Slot.{Slot}
@@ -40,18 +40,6 @@ not_last k count lt ne = elim (cases_lt k count) [
   | inr le ↦ absurd (ne (omega (arith, lt, le)))
 ]
 
--- they have the indexes of entries
-pub slots_some : (part : Part) (dropped : ℕ) (live : List Field) (entered : ℕ) (rows : List Row)
-    → AreRowsOf part dropped live entered rows → (k : ℕ) (row : Row) → k < length rows → row ≡ get_or rows k row
-    → All (λ s. 0 < s.index) row.slots.items
-slots_some part dropped live entered rows are k row within read = λ i d h.
-    let is = subst (λ (x : Row). IsRow part dropped live (x.slots.items)) (sym read) (are.are_rows k row within) in
-    omega (
-      arith,
-      (is.slots (get_or row.slots.items i d)
-          (i, h, get_or_default row.slots.items i (get_or row.slots.items i d) d h)).0.0,
-    )
-
 -- ---- the rows behind a split
 
 -- as the code makes them
@@ -79,19 +67,19 @@ module _ (rows : List Row) (some : 0 < length rows) (split : Split) where
   home_inside : h < n
   home_inside = position_within n n some
 
-  pub one_more_row : length (rows_behind rows split) ≡ n + 1
+  pub one_more_row : length (rows_with_split rows split) ≡ n + 1
   one_more_row = length_push (set rows h split.stays) split.goes ∙ ap (λ (m : ℕ). m + 1) (length-set rows h split.stays)
 
-  row_split : (d : Row) → get_or (rows_behind rows split) h d ≡ split.stays
+  row_split : (d : Row) → get_or (rows_with_split rows split) h d ≡ split.stays
   row_split d =
       get_or_append_left (set rows h split.stays) (split.goes ∷ []) d h
       (omega (arith, home_inside, length-set rows h split.stays))
       ∙ get_or-set_same rows h split.stays d home_inside
 
-  row_last : (d : Row) → get_or (rows_behind rows split) n d ≡ split.goes
+  row_last : (d : Row) → get_or (rows_with_split rows split) n d ≡ split.goes
   row_last d = get_or_push (set rows h split.stays) split.goes d n (length-set rows h split.stays)
 
-  row_left : (k : ℕ) (d : Row) → k < n → (k ≡ h → ⊥) → get_or (rows_behind rows split) k d ≡ get_or rows k d
+  row_left : (k : ℕ) (d : Row) → k < n → (k ≡ h → ⊥) → get_or (rows_with_split rows split) k d ≡ get_or rows k d
   row_left k d lt ne =
       get_or_append_left (set rows h split.stays) (split.goes ∷ []) d k
       (omega (arith, lt, length-set rows h split.stays))
@@ -117,28 +105,28 @@ module _ (rows : List Row) (some : 0 < length rows) (split : Split) where
   module _ (part : Part) (dropped : ℕ) (live : List Field) (entered : ℕ)
       (are : AreRowsOf part dropped live entered rows) (parts : IsSplitOf rows split) where
     abbrev new : List Row
-    new = rows_behind rows split
+    new = rows_with_split rows split
 
-    row_behind : (k : ℕ) (d : Row) → Which k → IsRow part dropped live ((get_or new k d).slots.items)
-    row_behind k d (Splits e) =
+    row_with_split : (k : ℕ) (d : Row) → Which k → IsRow part dropped live ((get_or new k d).slots.items)
+    row_with_split k d (Splits e) =
         subst (λ (xs : List Slot). IsRow part dropped live xs)
         (sym (ap (λ (x : Row). x.slots.items) (ap (λ (i : ℕ). get_or new i d) e ∙ row_split d) ∙ parts.stays d))
         (row_filtered part dropped live ((get_or rows h d).slots.items) (stays_at n) (are.are_rows h d home_inside))
-    row_behind k d (Last e) =
+    row_with_split k d (Last e) =
         subst (λ (xs : List Slot). IsRow part dropped live xs)
         (sym (ap (λ (x : Row). x.slots.items) (ap (λ (i : ℕ). get_or new i d) e ∙ row_last d) ∙ parts.goes d))
         (row_filtered part dropped live ((get_or rows h d).slots.items) (goes_to n) (are.are_rows h d home_inside))
-    row_behind k d (Left lt ne) =
+    row_with_split k d (Left lt ne) =
         subst (λ (x : Row). IsRow part dropped live (x.slots.items)) (sym (row_left k d lt ne)) (are.are_rows k d lt)
 
     -- the hash of a slot is that of its entry's part
     hash_is : (k : ℕ) (d : Row) (s : Slot) → k < n → Contains ((get_or rows k d).slots.items) s
-        → s.hash ≡ hash_of part (field_at dropped live s.index)
+        → s.hash ≡ hash_of part (field_at dropped live (index_of dropped s))
     hash_is k d s lt c = ((are.are_rows k d lt).slots s c).1
 
     -- where its part stands among one row more
-    moved : (s : Slot) → s.hash ≡ hash_of part (field_at dropped live s.index)
-        → position_among (n + 1) s.hash ≡ home part (n + 1) (field_at dropped live s.index)
+    moved : (s : Slot) → s.hash ≡ hash_of part (field_at dropped live (index_of dropped s))
+        → position_among (n + 1) s.hash ≡ home part (n + 1) (field_at dropped live (index_of dropped s))
     moved s e = ap (λ (x : ℕ). position_among (n + 1) x) e
 
     stood : (k : ℕ) (d : Row) (s : Slot) → k < n → Contains ((get_or rows k d).slots.items) s
@@ -157,9 +145,10 @@ module _ (rows : List Row) (some : 0 < length rows) (split : Split) where
     other_stays k s at ne (inl e) = e ∙ at
     other_stays k s at ne (inr there) = absurd (ne (sym at ∙ there.0))
 
-    home_behind : (k : ℕ) (d : Row) (s : Slot) → Which k → Contains ((get_or new k d).slots.items) s
-        → (s.index ≤ dropped + entered) × (home part (n + 1) (field_at dropped live s.index) ≡ k)
-    home_behind k d s (Splits e) c =
+    home_with_split : (k : ℕ) (d : Row) (s : Slot) → Which k → Contains ((get_or new k d).slots.items) s
+        → (index_of dropped s ≤ dropped + entered)
+        × (home part (n + 1) (field_at dropped live (index_of dropped s)) ≡ k)
+    home_with_split k d s (Splits e) c =
         let kept = in_filter (stays_at n) ((get_or rows h d).slots.items) s
         (subst (λ (xs : List Slot). Contains xs s)
         (ap (λ (x : Row). x.slots.items) (ap (λ (i : ℕ). get_or new i d) e ∙ row_split d) ∙ parts.stays d) c) in
@@ -169,7 +158,7 @@ module _ (rows : List Row) (some : 0 < length rows) (split : Split) where
               ∙ stays_there h s (stood h d s home_inside kept.0) apart (stays_or_goes n some s.hash)
               ∙ sym e,
         )
-    home_behind k d s (Last e) c =
+    home_with_split k d s (Last e) c =
         let kept = in_filter (goes_to n) ((get_or rows h d).slots.items) s
         (subst (λ (xs : List Slot). Contains xs s)
         (ap (λ (x : Row). x.slots.items) (ap (λ (i : ℕ). get_or new i d) e ∙ row_last d) ∙ parts.goes d) c) in (
@@ -178,7 +167,7 @@ module _ (rows : List Row) (some : 0 < length rows) (split : Split) where
               ∙ eqb-true (position_among (n + 1) s.hash) n kept.1
               ∙ sym e,
         )
-    home_behind k d s (Left lt ne) c =
+    home_with_split k d s (Left lt ne) c =
         let was = subst (λ (x : Row). Contains (x.slots.items) s) (row_left k d lt ne) c in (
           (are.at_home k d s lt was).0,
           sym (moved s (hash_is k d s lt was))
@@ -202,7 +191,7 @@ module _ (rows : List Row) (some : 0 < length rows) (split : Split) where
       same : position_among (n + 1) was.0.hash ≡ now
       same = ap (λ (x : ℕ). position_among (n + 1) x)
           (hash_is there d was.0 inside was.1
-          ∙ same_hash part (field_at dropped live was.0.index) (field_at dropped live index) was.4)
+          ∙ same_hash part (field_at dropped live (index_of dropped was.0)) (field_at dropped live index) was.4)
 
       in_row : (k : ℕ) → there ≡ k → Contains ((get_or rows k d).slots.items) was.0
       in_row k e = subst (λ (i : ℕ). Contains ((get_or rows i d).slots.items) was.0) e was.1
@@ -230,8 +219,8 @@ module _ (rows : List Row) (some : 0 < length rows) (split : Split) where
           (contains_filter (goes_to n) ((get_or rows h d).slots.items) was.0
           (eq-eqb (position_among (n + 1) was.0.hash) n (same ∙ went.1)) (in_row h went.0))
 
-      found_behind : HasSlotOf part dropped live ((get_or new now d).slots.items) index
-      found_behind = (
+      found_with_split : HasSlotOf part dropped live ((get_or new now d).slots.items) index
+      found_with_split = (
         was.0,
         found (stays_or_goes n some (hash_of part (field_at dropped live index))),
         was.2,
@@ -242,12 +231,13 @@ module _ (rows : List Row) (some : 0 < length rows) (split : Split) where
     pub rows_split : AreRowsOf part dropped live entered new
     rows_split = record {
       some = λ _. omega (arith, one_more_row);
-      are_rows = λ k d lt. row_behind k d (which k (omega (arith, lt, one_more_row)));
+      are_rows = λ k d lt. row_with_split k d (which k (omega (arith, lt, one_more_row)));
       at_home = λ k d s lt c.
-          subst (λ (m : ℕ). (s.index ≤ dropped + entered) × (home part m (field_at dropped live s.index) ≡ k))
-          (sym one_more_row) (home_behind k d s (which k (omega (arith, lt, one_more_row))) c);
+          subst (λ (m : ℕ). (index_of dropped s ≤ dropped + entered)
+          × (home part m (field_at dropped live (index_of dropped s)) ≡ k))
+          (sym one_more_row) (home_with_split k d s (which k (omega (arith, lt, one_more_row))) c);
       complete = λ index d g most.
           subst (λ (m : ℕ). HasSlotOf part dropped live
           ((get_or new (home part m (field_at dropped live index)) d).slots.items) index)
-          (sym one_more_row) (found_behind index d g most);
+          (sym one_more_row) (found_with_split index d g most);
     }

@@ -1,72 +1,27 @@
 -- The index as a whole.
 use Rattle.std.proofs.Common.{refl, ◌≡◌, ℕ, ◌+◌, ◌-◌, ◌<◌, ◌≤◌, [], ◌∷◌, ◌++◌, List, length, get_or, drop, sym, ap}
-use Rattle.std.proofs.Common.{subst, ◌∙◌, inl, inr, ◌⊎◌, arith}
-use Rattle.std.proofs.lemmas.Bool.{cases_lt}
-use Rattle.std.proofs.lemmas.List.{length-drop, length-append, get_or_append_left}
-use Rattle.std.proofs.Math.Seq.{get_or-append_seam}
+use Rattle.std.proofs.Common.{subst, ◌∙◌, arith}
+use Rattle.std.proofs.lemmas.List.{length-drop}
 use Rattle.qpack_base.specs.HeaderFields.{field_of}
 use Rattle.qpack_spec.specs.Field.{Field, FieldLine, unmarked}
 use Rattle.qpack_table.specs.Positions.{Positions}
-use Rattle.qpack_table.specs.Rows.{field_at, part_of, part_at}
-use Rattle.qpack_table.specs.Indexes.{AreHashesOf, AreAllHashesOf, IsIndexOf}
+use Rattle.qpack_table.specs.Rows.{part_of, part_at}
+use Rattle.qpack_table.specs.Indexes.{IsIndexOf}
 use Rattle.qpack_table.specs.Tables.{live_fields, IsIndexOfEntries}
 use Rattle.qpack_table.specs.declared.dynamic.entry.Entry.{Entry}
 use Rattle.qpack_table.specs.declared.dynamic.index.Index.{Index}
-use Rattle.qpack_table.specs.declared.dynamic.index.hash.Hashes.{Hashes}
 use Rattle.qpack_table.specs.declared.dynamic.index.row.Part.{Part}
 use Rattle.qpack_table.specs.declared.dynamic.index.row.Part.TheVariants.{Name, Whole}
-use Rattle.qpack_table.proofs.RowChanges.{field_pushed}
 use Rattle.qpack_table.proofs.RowSearches.{entry_part}
 use Rattle.qpack_table.proofs.RowsChanges.{rows_pushed}
 use Rattle.qpack_table.proofs.Evictions.{joined_fields}
 use Rattle.qpack_table.proofs.Lookups.{fields_long}
-
--- ---- the hashes of all entries
-
-hashes_pushed : (seed dropped : ℕ) (live : List Field) (f : Field) (hashes : List Hashes)
-    → AreAllHashesOf seed dropped live (length live) hashes
-    → AreAllHashesOf seed dropped (live ++ f ∷ []) (length live) hashes
-hashes_pushed seed dropped live f hashes are = record {
-  counted = are.counted;
-  hashed = λ k d h.
-      subst (λ (x : Field). AreHashesOf seed (get_or hashes k d) x)
-      (sym (field_pushed dropped live f (dropped + k + 1) (omega arith, omega (arith, h)))) (are.hashed k d h);
-}
-
-pub hashes_entered : (seed dropped : ℕ) (live : List Field) (entered index : ℕ) (hashes new : List Hashes) (h : Hashes)
-    → AreAllHashesOf seed dropped live entered hashes → index ≡ dropped + entered + 1
-    → AreHashesOf seed h (field_at dropped live index) → new ≡ hashes ++ h ∷ []
-    → AreAllHashesOf seed dropped live (entered + 1) new
-hashes_entered seed dropped live entered index hashes new h are next is made =
-    subst (λ (l : List Hashes). AreAllHashesOf seed dropped live (entered + 1) l) (sym made) (record {
-      counted = omega (arith, length-append hashes (h ∷ []), are.counted);
-      hashed = λ k d lt. pick k d lt (cases_lt k entered);
-    })
-  where
-    pick : (k : ℕ) (d : Hashes) → k < entered + 1 → (k < entered) ⊎ (entered ≤ k)
-        → AreHashesOf seed (get_or (hashes ++ h ∷ []) k d) (field_at dropped live (dropped + k + 1))
-    pick k d lt (inl less) =
-        subst (λ (x : Hashes). AreHashesOf seed x (field_at dropped live (dropped + k + 1)))
-        (sym (get_or_append_left hashes (h ∷ []) d k (omega (arith, less, are.counted)))) (are.hashed k d less)
-    pick k d lt (inr le) =
-        let last : length hashes ≡ k = omega (arith, le, lt, are.counted) in
-        let there : index ≡ dropped + k + 1 = omega (arith, le, lt, next) in
-        subst (λ (x : Hashes). AreHashesOf seed x (field_at dropped live (dropped + k + 1)))
-        (sym (get_or-append_seam hashes h [] d) ∙ ap (λ (i : ℕ). get_or (hashes ++ h ∷ []) i d) last)
-        (subst (λ (a : ℕ). AreHashesOf seed h (field_at dropped live a)) there is)
-
--- hashes that stay
-pub hashes_same : (seed dropped : ℕ) (live : List Field) (entered : ℕ) (hashes now : List Hashes) → now ≡ hashes
-    → AreAllHashesOf seed dropped live entered hashes → AreAllHashesOf seed dropped live entered now
-hashes_same seed dropped live entered hashes now e are =
-    subst (λ (l : List Hashes). AreAllHashesOf seed dropped live entered l) (sym e) are
 
 index_pushed : (dropped : ℕ) (live : List Field) (f : Field) (index : Index)
     → IsIndexOf dropped live (length live) index → IsIndexOf dropped (live ++ f ∷ []) (length live) index
 index_pushed dropped live f index is = record {
   fields = rows_pushed (Whole index.seed) dropped live f index.fields.rows.items is.fields;
   names = rows_pushed (Name index.seed) dropped live f index.names.rows.items is.names;
-  hashes = hashes_pushed index.seed dropped live f index.hashes.items is.hashes;
   some = is.some;
   few = is.few;
 }

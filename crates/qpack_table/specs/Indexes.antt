@@ -1,14 +1,14 @@
 -- The index of the dynamic table's live entries: rows of absolute indexes, cut by a hash of a part of their fields.
-use Rattle.std.specs.Prelude.{◌≡◌, ◌≢◌, ℕ, zero, suc, ◌+◌, ◌<◌, ◌≤◌, Bool, not, List, [], ◌∷◌, ◌++◌, length}
-use Rattle.std.specs.Prelude.{vec_capacity, Option, MatchOption, slice_index_or, slice_set, Contains, max, Result, OnOk}
+use Rattle.std.specs.Prelude.{◌≡◌, ◌≢◌, ℕ, zero, suc, ◌+◌, ◌/◌, ◌<◌, ◌≤◌, Bool, not, List, [], ◌∷◌, ◌++◌, length}
+use Rattle.std.specs.Prelude.{vec_capacity, Option, MatchOption, slice_index_or, slice_set, Contains, max}
 use Rattle.std.specs.List.{filter}
-use Rattle.std.specs.VecDeque.{deque_len, deque_capacity}
 use Rattle.qpack_spec.specs.Field.{Field}
 use Rattle.qpack_spec.specs.Table as table
 use Rattle.qpack_spec.specs.Table.{Table, newest_index}
 use Rattle.qpack_table.specs.Growth.{grown}
 use Rattle.qpack_table.specs.Hashes.{field_hash, name_hash, position_among}
-use Rattle.qpack_table.specs.Rows.{field_at, part_at, hash_of, IsLiveIndex, IsRow, HasRoom, goes_to}
+use Rattle.qpack_table.specs.Rows.{field_at, part_at, hash_of, index_of, IsLiveIndex, IsRow, HasRoom, goes_to}
+use Rattle.qpack_table.specs.Rows.{slots_a_row}
 use Rattle.qpack_table.specs.declared.dynamic.index.Index.{Index}
 use Rattle.qpack_table.specs.declared.dynamic.index.hash.Hashes.{Hashes}
 use Rattle.qpack_table.specs.declared.dynamic.index.hash.SeededHashes.{SeededHashes}
@@ -26,8 +26,8 @@ home part count f = position_among count (hash_of part f)
 -- a row has the slot of an index, or of a newer one with the same part
 abbrev pub HasSlotOf : Part → ℕ → List Field → List Slot → ℕ → Type 0
 HasSlotOf part dropped live row index =
-    (s : Slot) × Contains row s × (index ≤ s.index) × (s.index ≤ dropped + length live)
-    × (part_at part dropped live s.index ≡ part_at part dropped live index)
+    (s : Slot) × Contains row s × (index ≤ index_of dropped s) × (index_of dropped s ≤ dropped + length live)
+    × (part_at part dropped live (index_of dropped s) ≡ part_at part dropped live index)
 
 -- of the oldest live entries, `entered` of them, the newest of each part is in the rows, each in the row of its part,
 -- and nothing else is
@@ -37,7 +37,8 @@ pub record AreRowsOf (part : Part) (dropped : ℕ) (live : List Field) (entered 
       → IsRow part dropped live ((slice_index_or rows k d).slots.items)
   pub at_home : (k : ℕ) (d : Row) (s : Slot) → k < length rows
       → Contains ((slice_index_or rows k d).slots.items) s
-      → (s.index ≤ dropped + entered) × (home part (length rows) (field_at dropped live s.index) ≡ k)
+      → (index_of dropped s ≤ dropped + entered)
+      × (home part (length rows) (field_at dropped live (index_of dropped s)) ≡ k)
   pub complete : (index : ℕ) (d : Row) → dropped < index → index ≤ dropped + entered
       → HasSlotOf part dropped live
       ((slice_index_or rows (home part (length rows) (field_at dropped live index)) d).slots.items) index
@@ -64,8 +65,8 @@ pub record IsSplitOf (rows : List Row) (split : Split) : Type 0 where
       ≡ filter (goes_to (length rows)) ((slice_index_or rows (split_home rows) d).slots.items)
 
 -- the rows with both in place
-abbrev pub rows_behind : List Row → Split → List Row
-rows_behind rows split = slice_set rows (split_home rows) split.stays ++ split.goes ∷ []
+abbrev pub rows_with_split : List Row → Split → List Row
+rows_with_split rows split = slice_set rows (split_home rows) split.stays ++ split.goes ∷ []
 
 -- how many slots the row of a hash has
 abbrev pub slots_at : List Row → ℕ → Row → ℕ
@@ -73,7 +74,7 @@ slots_at rows hash d = length ((slice_index_or rows (position_among (length rows
 
 -- the row of a hash is crowded, and there are fewer rows than `most`
 abbrev pub NeedsRow : (most : ℕ) → List Row → (hash : ℕ) → Type 0
-NeedsRow most rows hash = (length rows < most) × ((d : Row) → 2 ≤ slots_at rows hash d)
+NeedsRow most rows hash = (length rows < most) × ((d : Row) → slots_a_row ≤ slots_at rows hash d)
 
 -- the row of a hash has room for one more
 pub record HasRoomFor (rows : List Row) (hash : ℕ) : Type 0 where
@@ -95,17 +96,10 @@ AreHashesOf seed hashes f = (hashes.name ≡ name_hash seed f.name) × (hashes.f
 abbrev pub AreSeededHashesOf : SeededHashes → Field → Type 0
 AreSeededHashesOf known f = AreHashesOf known.seed known.hashes f
 
--- the hashes of the oldest live entries, `entered` of them
-pub record AreAllHashesOf (seed dropped : ℕ) (live : List Field) (entered : ℕ) (hashes : List Hashes) : Type 0 where
-  pub counted : length hashes ≡ entered
-  pub hashed : (k : ℕ) (d : Hashes) → k < entered
-      → AreHashesOf seed (slice_index_or hashes k d) (field_at dropped live (dropped + k + 1))
-
 -- the oldest live entries, `entered` of them, are in the index; there are no more rows of names than of fields
 pub record IsIndexOf (dropped : ℕ) (live : List Field) (entered : ℕ) (index : Index) : Type 0 where
   pub fields : AreRowsOf (Whole index.seed) dropped live entered index.fields.rows.items
   pub names : AreRowsOf (Name index.seed) dropped live entered index.names.rows.items
-  pub hashes : AreAllHashesOf index.seed dropped live entered index.hashes.items
   pub some : 0 < length index.fields.rows.items → 0 < length index.names.rows.items
   pub few : length index.names.rows.items ≤ length index.fields.rows.items
 
@@ -122,47 +116,39 @@ KeepsIndexed old new = (dropped entered : ℕ) (live : List Field) → IsIndexOf
 abbrev pub HasNoRows : Index → Type 0
 HasNoRows index = (vec_capacity index.fields.rows ≡ 0) × (vec_capacity index.names.rows ≡ 0)
 
--- how many rows there are where one more is made: at first 32
+-- how many rows there are where one more is made: at first 8
 abbrev pub one_row_more : ℕ → ℕ
-one_row_more zero = 32
+one_row_more zero = 8
 one_row_more (suc n) = suc (suc n)
 
--- an index that makes room for one more entry keeps its rows, unless they would be fewer than the entries
+-- an index that makes room for one more entry keeps its rows, unless there are eight entries or more for each
 abbrev pub GrowsRows : (entries old new : ℕ) → Type 0
-GrowsRows entries old new = (entries < old → new ≡ old) × (old ≤ entries → new ≡ one_row_more old)
+GrowsRows entries old new =
+    (entries / slots_a_row < old → new ≡ old) × (old ≤ entries / slots_a_row → new ≡ one_row_more old)
 
 -- the row of names of such hashes is crowded, and there are fewer of names than of fields
 abbrev pub NeedsRowOfNames : Hashes → Index → Type 0
 NeedsRowOfNames hashes index = NeedsRow (length index.fields.rows.items) index.names.rows.items hashes.name
 
--- where room is made for an entry with such hashes, one row of names more is made if it is needed; at first 16
+-- where room is made for an entry with such hashes, one row of names more is made if it is needed; at first 4
 pub record GrowsNames (hashes : Hashes) (old new : Index) : Type 0 where
-  pub first : length old.fields.rows.items ≡ 0 → length new.names.rows.items ≡ 16
+  pub first : length old.fields.rows.items ≡ 0 → length new.names.rows.items ≡ 4
   pub still : 0 < length old.fields.rows.items → (NeedsRowOfNames hashes old → ⊥)
       → length new.names.rows.items ≡ length old.names.rows.items
   pub made : NeedsRowOfNames hashes old → length new.names.rows.items ≡ length old.names.rows.items + 1
 
--- rows that have room for at most half as many more, or for one
+-- rows that have room for at most a quarter as many more, or for one
 abbrev pub HasFewSpare : Rows → Type 0
 HasFewSpare rows = vec_capacity rows.rows ≤ grown 1 (length rows.rows.items)
 
 -- they get no more room than that, unless they have it
-abbrev pub GrowsByHalf : Rows → Rows → Type 0
-GrowsByHalf old new = vec_capacity new.rows ≤ max (vec_capacity old.rows) (grown 1 (length old.rows.items))
-
--- where room is made for one entry more, the room for hashes stays, or grows by half if it is full, by 22 at least
-pub record MakesRoomForHashes {E : Type 0} (result : Result (Unit {0}) E) (old new : Index) : Type 0 where
-  pub still : length old.hashes.items < deque_capacity old.hashes
-      → deque_capacity new.hashes ≡ deque_capacity old.hashes
-  pub made : OnOk result (deque_capacity old.hashes ≤ length old.hashes.items
-      → deque_capacity new.hashes ≡ grown 22 (length old.hashes.items))
-  pub capacity : deque_capacity new.hashes ≤ max (deque_capacity old.hashes) (grown 22 (length old.hashes.items))
+abbrev pub GrowsByQuarter : Rows → Rows → Type 0
+GrowsByQuarter old new = vec_capacity new.rows ≤ max (vec_capacity old.rows) (grown 1 (length old.rows.items))
 
 -- there is room for one more entry with such hashes
 pub record HasRoomForEntry (hashes : Hashes) (index : Index) : Type 0 where
   pub field : HasRoomFor index.fields.rows.items hashes.field
   pub name : HasRoomFor index.names.rows.items hashes.name
-  pub kept : deque_len index.hashes < deque_capacity index.hashes
 
 -- what the definitions answer for each table with these entries
 abbrev pub IsNewestIn : ℕ → List table.Entry → (Field → Bool) → Option ℕ → Type 0

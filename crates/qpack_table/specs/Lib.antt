@@ -6,8 +6,6 @@ pub mod Commits
 pub mod OpenBlocks
 pub mod BlockedBlocks
 pub mod Tables
-pub mod SlotLists
-pub mod Slots
 pub mod Rows
 pub mod Hashes
 pub mod Growth

@@ -1,7 +1,7 @@
 -- A row of the dynamic table's index: slots with the absolute indexes of entries, in the order of a part of their
 -- fields.
-use Rattle.std.specs.Prelude.{◌≡◌, ◌≢◌, ℕ, zero, suc, ◌+◌, ◌-◌, ◌<◌, ◌≤◌, ◌^◌, List, [], length, slice_index_or}
-use Rattle.std.specs.Prelude.{Option, MatchOption, Result, Ok, Err, Contains, ◌⊎◌, Bool, ◌==◌}
+use Rattle.std.specs.Prelude.{◌≡◌, ◌≢◌, ℕ, ◌+◌, ◌-◌, ◌%◌, ◌<◌, ◌≤◌, ◌^◌, List, [], length, slice_index_or}
+use Rattle.std.specs.Prelude.{Option, MatchOption, Result, Ok, Err, Contains, ◌⊎◌, Bool, ◌==◌, vec_capacity}
 use Rattle.std.specs.List.{AllPairs}
 use Rattle.std.specs.declared.cmp.Ordering.{Ordering}
 use Rattle.std.specs.declared.cmp.Ordering.TheVariants.{Less, Equal, Greater}
@@ -9,7 +9,6 @@ use Rattle.std.specs.Ordering.{nat_cmp, ordering_then}
 use Rattle.qpack_base.specs.HeaderFields.{field_cmp, line_of}
 use Rattle.qpack_spec.specs.Field.{Field}
 use Rattle.qpack_table.specs.Hashes.{field_hash, name_hash, position_among}
-use Rattle.qpack_table.specs.SlotLists.{HasRoomIn}
 use Rattle.qpack_table.specs.declared.dynamic.index.row.Part.{Part}
 use Rattle.qpack_table.specs.declared.dynamic.index.row.Part.TheVariants.{Name, Whole}
 use Rattle.qpack_table.specs.declared.dynamic.index.row.Row.{Row}
@@ -19,6 +18,19 @@ use Rattle.qpack_table.specs.declared.dynamic.index.row.Sought.{Sought}
 -- an absolute index is that of a live entry (RFC 9204, section 3.2.4, which begins at 0)
 abbrev pub IsLiveIndex : ℕ → List Field → ℕ → Type 0
 IsLiveIndex dropped live index = (dropped < index) × (index ≤ dropped + length live)
+
+-- the absolute index of a slot's entry, of which the slot has the low 32 bits: the first with these after the dropped
+-- ones
+unfoldable pub index_of : ℕ → Slot → ℕ
+index_of dropped s = dropped + (s.low + (2 ^ 32 - 1) - dropped % 2 ^ 32) % 2 ^ 32 + 1
+
+-- the slot of an absolute index
+abbrev pub slot_of : (hash index : ℕ) → Slot
+slot_of hash index = record { hash = hash; low = index % 2 ^ 32 }
+
+-- how many slots a row has on average, where one more row is made
+abbrev pub slots_a_row : ℕ
+slots_a_row = 8
 
 -- the field of a live entry's absolute index
 abbrev pub field_at : ℕ → List Field → ℕ → Field
@@ -48,11 +60,11 @@ unfoldable pub key_cmp : Key → Key → Ordering
 key_cmp k l = ordering_then (nat_cmp k.hash l.hash) (field_cmp k.field l.field)
 
 abbrev pub key_at : Part → ℕ → List Field → Slot → Key
-key_at part dropped live s = record { hash = s.hash; field = part_at part dropped live s.index }
+key_at part dropped live s = record { hash = s.hash; field = part_at part dropped live (index_of dropped s) }
 
 -- a row has room for one more slot
 abbrev pub HasRoom : Row → Type 0
-HasRoom row = HasRoomIn row.slots
+HasRoom row = length row.slots.items < vec_capacity row.slots
 
 -- what is sought
 abbrev pub field_of_sought : Sought → Field
@@ -67,7 +79,8 @@ IsHashed s = s.hash ≡ hash_of s.part (line_of s.line).field
 
 -- a slot of a live index, with its part's hash
 abbrev pub IsSlot : Part → ℕ → List Field → Slot → Type 0
-IsSlot part dropped live s = IsLiveIndex dropped live s.index × (s.hash ≡ hash_of part (field_at dropped live s.index))
+IsSlot part dropped live s =
+    IsLiveIndex dropped live (index_of dropped s) × (s.hash ≡ hash_of part (field_at dropped live (index_of dropped s)))
 
 -- slots that rise, so no two have the same part
 pub record IsRow (part : Part) (dropped : ℕ) (live : List Field) (row : List Slot) : Type 0 where
@@ -93,15 +106,6 @@ pub record IsGap (part : Part) (dropped : ℕ) (live : List Field) (row : List S
     pub after : (j : ℕ) (d : Slot) → position ≤ j → j < length row
         → key_cmp (key_at part dropped live (slice_index_or row j d)) k ≡ Greater
 
--- where a hash that neither of two places has would stand, if their slots rise
-abbrev pub IsGapByHash : Slot → Slot → ℕ → ℕ → Type 0
-IsGapByHash first second hash zero = (first.index ≡ 0) ⊎ (hash < first.hash)
-IsGapByHash first second hash (suc zero) = (first.index ≢ 0) × (first.hash < hash)
-    × ((second.index ≡ 0) ⊎ (hash < second.hash))
-IsGapByHash first second hash (suc (suc zero)) = (first.index ≢ 0) × (first.hash < hash) × (second.index ≢ 0)
-    × (second.hash < hash)
-IsGapByHash first second hash (suc (suc (suc _))) = ⊥
-
 -- what a search found: where it is, or where it would stand
 abbrev pub IsPlace : Part → ℕ → List Field → List Slot → Key → Result ℕ ℕ → Type 0
 IsPlace part dropped live row k (Ok position) = IsMatch part dropped live row k position
@@ -110,29 +114,31 @@ IsPlace part dropped live row k (Err position) = IsGap part dropped live row k p
 -- the index of the row's slot whose entry has the part that is sought, or none if there is no such slot
 abbrev pub FindsSlot : Part → ℕ → List Field → List Slot → Field → Option ℕ → Type 0
 FindsSlot part dropped live row f found =
-    MatchOption found ((s : Slot) → Contains row s → part_at part dropped live s.index ≢ f)
-    (λ index. (s : Slot) × Contains row s × (s.index ≡ index) × (part_at part dropped live index ≡ f))
+    MatchOption found ((s : Slot) → Contains row s → part_at part dropped live (index_of dropped s) ≢ f)
+    (λ index. (s : Slot) × Contains row s × (index_of dropped s ≡ index) × (part_at part dropped live index ≡ f))
 
 -- what a row has once a slot came in: that one, and those of other parts
 pub record Enters (part : Part) (dropped : ℕ) (live : List Field) (old new : List Slot) (slot : Slot) : Type 0 where
   pub entered : Contains new slot
   pub kept : (s : Slot) → Contains old s
-      → (part_at part dropped live s.index ≡ part_at part dropped live slot.index) ⊎ Contains new s
+      → (part_at part dropped live (index_of dropped s) ≡ part_at part dropped live (index_of dropped slot))
+      ⊎ Contains new s
   pub only : (s : Slot) → Contains new s → (slot ≡ s) ⊎ Contains old s
 
 -- what it has once an index went out: those of other indexes
-pub record Leaves (old new : List Slot) (index : ℕ) : Type 0 where
-  pub kept : (s : Slot) → Contains old s → s.index ≢ index → Contains new s
+pub record Leaves (dropped : ℕ) (old new : List Slot) (index : ℕ) : Type 0 where
+  pub kept : (s : Slot) → Contains old s → index_of dropped s ≢ index → Contains new s
   pub only : (s : Slot) → Contains new s → Contains old s
-  pub gone : (s : Slot) → Contains new s → s.index ≢ index
+  pub gone : (s : Slot) → Contains new s → index_of dropped s ≢ index
 
 -- the slot at a position is that of an index
-pub record HasIndexAt (row : List Slot) (index position : ℕ) : Type 0 where
+pub record HasIndexAt (dropped : ℕ) (row : List Slot) (index position : ℕ) : Type 0 where
   pub within : position < length row
-  pub is : (d : Slot) → (slice_index_or row position d).index ≡ index
+  pub is : (d : Slot) → index_of dropped (slice_index_or row position d) ≡ index
 
-abbrev pub HasNoIndex : List Slot → ℕ → Type 0
-HasNoIndex row index = (j : ℕ) (d : Slot) → j < length row → (slice_index_or row j d).index ≢ index
+abbrev pub HasNoIndex : ℕ → List Slot → ℕ → Type 0
+HasNoIndex dropped row index =
+    (j : ℕ) (d : Slot) → j < length row → index_of dropped (slice_index_or row j d) ≢ index
 
 -- a search among `n` raised the count by at most the binary digits of `n`, which are the fewest whose power of two is
 -- above it; 0 has none

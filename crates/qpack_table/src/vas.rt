@@ -140,8 +140,8 @@ impl VirtualAddressSpace {
         ensures live { IsOk result ↔ IsLive self.now (post_base_index base index) }
         ensures refused { IfErr result (λ e. e ≡ NoPostBase index) }
     {
-        let behind_base = self.inserted.saturating_sub(base);
-        if index >= behind_base {
+        let after_base = self.inserted.saturating_sub(base);
+        if index >= after_base {
             return Err(Error::PostbaseIndex(index));
         }
         self.position(base + index + 1)
@@ -179,7 +179,8 @@ impl VirtualAddressSpace {
     /// Returns how many entries were dropped.
     pub(crate) fn total_dropped(&self) -> usize
         ensures exact { result ≡ self.now.dropped }
-        ensures most { result ≤ 2 ^ 62 }
+        ensures most { result ≤ self.now.total }
+        ensures total { self.now.total ≤ 2 ^ 62 }
     {
         self.dropped
     }

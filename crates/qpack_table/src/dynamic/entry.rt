@@ -140,6 +140,7 @@ pub(super) fn replace_oldest<I: EntryIndex>(
     requires there { evicted ≤ length entries.old.items }
     requires counted { vas.old.total ≡ vas.old.dropped + length entries.old.items }
     requires few { vas.old.total < 2 ^ 62 }
+    requires live { length entries.old.items < 2 ^ 31 }
     requires index { I.is_index_of index.old vas.old.dropped entries.old.items }
     requires sum { mem_size.old ≡ total_size (fields_in (entries_of entries.old.items)) }
     requires small { mem_size.old < 2 ^ 63 }

@@ -66,7 +66,8 @@ pub trait EntryIndex: Drop {
 
     /// Adds the newest entry, which was pushed after those that are in. There is room.
     fn enter(&mut self, entries: &VecDeque<Entry>, dropped: usize, key: Self::Key)
-        requires few { dropped + length entries.now.items ≤ 2 ^ 62 }
+        requires few { length entries.now.items < 2 ^ 32 }
+        requires within { dropped + length entries.now.items ≤ 2 ^ 62 }
         requires pushed { (front : List Entry) × (newest : Entry) × (entries.now.items ≡ front ++ newest ∷ [])
             × is_index_of self.old dropped front × is_key_of key (field_of newest.field) }
         requires own { is_own key self.old }
@@ -77,7 +78,6 @@ pub trait EntryIndex: Drop {
     /// Removes the oldest entry, which is about to be popped. It takes no memory, and the room that was made stays.
     fn leave(&mut self, entries: &VecDeque<Entry>, dropped: usize)
         requires some { 0 < length entries.now.items }
-        requires few { dropped + length entries.now.items < 2 ^ 64 }
         requires index { is_index_of self.old dropped entries.now.items }
         ensures index { is_index_of self.new (dropped + 1) (drop 1 entries.now.items) }
         ensures own { (key : Self.Key) → is_own key self.old → is_own key self.new }

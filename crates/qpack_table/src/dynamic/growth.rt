@@ -1,6 +1,5 @@
-//! How much room a table makes for entries, and its index for hashes and rows of fields, where they have none. Each of
-//! the three grows by half, from a first size of its own. So no two of them grow for the same entry, except for the
-//! first.
+//! How much room a table makes for entries, and its index for rows and their slots, where they have none. Each grows by
+//! a quarter.
 
 ghost use Rattle.std.specs.Prelude.{◌≡◌, ◌+◌, ◌/◌, ◌<◌, ◌≤◌, max, length, OnOk, OnErr, IsOk};
 ghost use Rattle.std.specs.VecDeque.{deque_capacity};
@@ -12,21 +11,24 @@ use std::collections::VecDeque;
 /// For how many entries a growth makes room at least, and the first one does.
 pub(super) const ENTRIES: usize = 18;
 
-/// For how many hashes of entries a growth makes room at least, and the first one does.
-pub(super) const HASHES: usize = 22;
-
 /// How many rows of fields the index makes at first.
-pub(super) const ROWS: usize = 32;
+pub(super) const ROWS: usize = 8;
 
 /// How many rows of names it makes at first.
-pub(super) const ROWS_OF_NAMES: usize = 16;
+pub(super) const ROWS_OF_NAMES: usize = 4;
 
-/// Returns for how many more elements a vector makes room: for half as many as it has, or for the least if that is
-/// more.
+/// How many slots a row has on average, where the index makes another row.
+pub(super) const SLOTS_A_ROW: usize = 8;
+
+/// For how many slots a row makes room at least, and the first time.
+pub(super) const SLOTS: usize = 4;
+
+/// Returns for how many more elements a vector makes room: for a quarter as many as it has, or for the least if that
+/// is more.
 pub(super) fn growth(len: usize, least: usize) -> usize
-    ensures { result ≡ max least (len / 2) }
+    ensures { result ≡ max least (len / 4) }
 {
-    (len / 2).max(least)
+    (len / 4).max(least)
 }
 
 /// Makes room for one element more. If it is free already, nothing changes and no memory is taken.

@@ -1,25 +1,24 @@
 //! The index of the live entries, by which the newest entry with a field, or with a name, is found. It keeps only
 //! hashes and absolute indexes: pass each call the entries, and how many were dropped before them.
 
-ghost use Rattle.std.specs.Prelude.{◌≡◌, ◌+◌, ◌-◌, ◌^◌, ◌<◌, ◌≤◌, ℕ, [], OnOk, OnErr, length, drop, min};
+ghost use Rattle.std.specs.Prelude.{◌≡◌, ◌+◌, ◌-◌, ◌/◌, ◌^◌, ◌<◌, ◌≤◌, ℕ, [], OnOk, OnErr, length, drop, min};
 ghost use Rattle.std.specs.Prelude.{vec_capacity};
 ghost use Rattle.qpack_base.specs.HeaderFields.{line_of};
 ghost use Rattle.qpack_spec.specs.Field.{is_field, has_name};
-ghost use Rattle.qpack_table.specs.Rows.{field_at, Counts};
+ghost use Rattle.qpack_table.specs.Rows.{field_at, Counts, slots_a_row};
 ghost use Rattle.qpack_table.specs.Tables.{entries_of, live_fields};
 ghost use Rattle.qpack_table.specs.declared.dynamic.index.hash.Hashes.{Hashes};
 ghost use Rattle.qpack_table.specs.Hashes.{name_hash};
 ghost use Rattle.qpack_table.specs.Indexes.{AreHashesOf, IsIndexOf, HasRoomForEntry, IsNewestIn};
 ghost use Rattle.qpack_table.specs.Indexes.{IsIndex, KeepsIndexed, HasNoRows, NeedsRowOfNames};
-ghost use Rattle.qpack_table.specs.Indexes.{GrowsRows, GrowsNames, one_row_more, HasFewSpare, MakesRoomForHashes};
+ghost use Rattle.qpack_table.specs.Indexes.{GrowsRows, GrowsNames, one_row_more, HasFewSpare};
 
 mod hash;
 mod row;
 mod rows;
-mod slots;
 
 use crate::dynamic::entry::Entry;
-use crate::dynamic::growth::{HASHES, ROWS, ROWS_OF_NAMES, make_room};
+use crate::dynamic::growth::{ROWS, ROWS_OF_NAMES, SLOTS_A_ROW};
 use crate::dynamic::index::hash::hash_name;
 pub(super) use crate::dynamic::index::hash::{Hashes, SeededHashes};
 use crate::dynamic::index::row::{Part, Sought};
@@ -58,14 +57,12 @@ impl Steps {
     }
 }
 
-/// The newest live entry of each different field, and of each different name. There are at least as many rows of
-/// fields as entries, and about as many of names as there are names.
+/// The newest live entry of each different field, and of each different name. A row of either has eight of them on
+/// average, or fewer.
 #[derive(Debug, Drop)]
 pub struct Index {
     fields: Rows,
     names: Rows,
-    /// The hashes of each live entry, the oldest first.
-    hashes: VecDeque<Hashes>,
     /// What the hashes are computed under.
     seed: u64,
     alloc: Global,
@@ -81,7 +78,6 @@ impl Index {
         Index {
             fields: Rows::new(alloc),
             names: Rows::new(alloc),
-            hashes: VecDeque::new(alloc),
             seed,
             alloc,
         }
@@ -111,6 +107,7 @@ impl Index {
         field: &FieldLine<'_>,
         steps: &mut Steps,
     ) -> Option<usize>
+        requires few { dropped + length entries.now.items < 2 ^ 64 }
         requires index { IsIndexOf dropped (live_fields entries.now.items) (length entries.now.items) self.now }
         ensures found { IsNewestIn dropped (entries_of entries.now.items) (is_field (line_of field.now).field) result }
         ensures steps { Counts (length entries.now.items) steps.old.count steps.new.count }
@@ -132,6 +129,7 @@ impl Index {
         hashes: Hashes,
         steps: &mut Steps,
     ) -> Option<usize>
+        requires few { dropped + length entries.now.items < 2 ^ 64 }
         requires index { IsIndexOf dropped (live_fields entries.now.items) (length entries.now.items) self.now }
         requires hashes { AreHashesOf self.now.seed hashes (line_of field.now).field }
         ensures found { IsNewestIn dropped (entries_of entries.now.items) (is_field (line_of field.now).field) result }
@@ -153,6 +151,7 @@ impl Index {
         name: &[u8],
         steps: &mut Steps,
     ) -> Option<usize>
+        requires few { dropped + length entries.now.items < 2 ^ 64 }
         requires index { IsIndexOf dropped (live_fields entries.now.items) (length entries.now.items) self.now }
         ensures found { IsNewestIn dropped (entries_of entries.now.items) (has_name name.now) result }
         ensures steps { Counts (length entries.now.items) steps.old.count steps.new.count }
@@ -173,6 +172,7 @@ impl Index {
         hash: u32,
         steps: &mut Steps,
     ) -> Option<usize>
+        requires few { dropped + length entries.now.items < 2 ^ 64 }
         requires index { IsIndexOf dropped (live_fields entries.now.items) (length entries.now.items) self.now }
         requires hash { hash ≡ name_hash self.now.seed name.now }
         ensures found { IsNewestIn dropped (entries_of entries.now.items) (has_name name.now) result }
@@ -186,8 +186,8 @@ impl Index {
         self.names.newest(entries, dropped, &sought, steps)
     }
 
-    /// Makes room for one more entry, with these hashes. If there would be fewer rows of fields than entries, it makes
-    /// one more, or the first ones. On error the same entries are in, in as many rows of fields.
+    /// Makes room for one more entry, with these hashes. If there are eight entries or more for each row of fields, it
+    /// makes one more row, or the first ones. On error the same entries are in, in as many rows of fields.
     #[inline(always)]
     pub(super) fn reserve(
         &mut self,
@@ -203,21 +203,20 @@ impl Index {
         ensures rows_of_names { OnOk result (GrowsNames hashes self.old self.new) }
         ensures err { OnErr result (length self.new.fields.rows.items ≡ length self.old.fields.rows.items) }
         ensures room { OnOk result (HasRoomForEntry hashes self.new) }
-        ensures full { OnErr result (length entries.now.items < length self.old.fields.rows.items
+        ensures full { OnErr result (length entries.now.items / slots_a_row < length self.old.fields.rows.items
             → HasRoomForEntry hashes self.old → NeedsRowOfNames hashes self.old) }
         ensures fields { HasFewSpare self.old.fields → HasFewSpare self.new.fields }
         ensures names { HasFewSpare self.old.names → HasFewSpare self.new.names }
-        ensures hashes { MakesRoomForHashes result self.old self.new }
         ensures seed { self.new.seed ≡ self.old.seed }
     {
-        if entries.len() < self.fields.count() {
+        if entries.len() / SLOTS_A_ROW < self.fields.count() {
             return self.make_room(hashes);
         }
         self.grow(hashes)
     }
 
-    /// Makes room for one more entry in its rows and among the hashes. If the row of its name is crowded, it makes one
-    /// more row of names. Otherwise it fails only if there is no room.
+    /// Makes room for one more entry in its rows. If the row of its name is crowded, it makes one more row of names.
+    /// Otherwise it fails only if there is no room.
     fn make_room(&mut self, hashes: Hashes) -> Result<(), AllocError>
         requires some { 0 < length self.old.fields.rows.items }
         requires index { IsIndex self.old }
@@ -228,13 +227,11 @@ impl Index {
         ensures full { OnErr result (HasRoomForEntry hashes self.old → NeedsRowOfNames hashes self.old) }
         ensures fields { HasFewSpare self.old.fields → HasFewSpare self.new.fields }
         ensures names { HasFewSpare self.old.names → HasFewSpare self.new.names }
-        ensures hashes { MakesRoomForHashes result self.old self.new }
         ensures seed { self.new.seed ≡ self.old.seed }
     {
-        make_room(&mut self.hashes, HASHES)?;
         self.names
             .reserve_within(self.alloc, self.fields.count(), hashes.name)?;
-        self.fields.reserve(self.alloc, hashes.field)
+        self.fields.reserve(hashes.field)
     }
 
     /// Makes one more row of fields, and one of names if the row of this name is crowded, or the first ones; and room
@@ -250,14 +247,12 @@ impl Index {
         ensures room { OnOk result (HasRoomForEntry hashes self.new) }
         ensures fields { HasFewSpare self.old.fields → HasFewSpare self.new.fields }
         ensures names { HasFewSpare self.old.names → HasFewSpare self.new.names }
-        ensures hashes { MakesRoomForHashes result self.old self.new }
         ensures seed { self.new.seed ≡ self.old.seed }
     {
         if self.fields.count() == 0 {
             return self.make_first_rows(hashes);
         }
         let fields = self.fields.split(self.alloc, hashes.field)?;
-        make_room(&mut self.hashes, HASHES)?;
         self.names
             .reserve_within(self.alloc, self.fields.count(), hashes.name)?;
         self.fields.put_split(fields);
@@ -268,22 +263,20 @@ impl Index {
     fn make_first_rows(&mut self, hashes: Hashes) -> Result<(), AllocError>
         requires none { length self.old.fields.rows.items ≡ 0 }
         ensures index { KeepsIndexed self.old self.new }
-        ensures rows { OnOk result (length self.new.fields.rows.items ≡ 32) }
-        ensures rows_of_names { OnOk result (length self.new.names.rows.items ≡ 16) }
+        ensures rows { OnOk result (length self.new.fields.rows.items ≡ 8) }
+        ensures rows_of_names { OnOk result (length self.new.names.rows.items ≡ 4) }
         ensures made { OnOk result
-            ((vec_capacity self.new.fields.rows ≡ 32) × (vec_capacity self.new.names.rows ≡ 16)) }
+            ((vec_capacity self.new.fields.rows ≡ 8) × (vec_capacity self.new.names.rows ≡ 4)) }
         ensures err { OnErr result (length self.new.fields.rows.items ≡ 0) }
         ensures room { OnOk result (HasRoomForEntry hashes self.new) }
         ensures fields { HasFewSpare self.old.fields → HasFewSpare self.new.fields }
         ensures names { HasFewSpare self.old.names → HasFewSpare self.new.names }
-        ensures hashes { MakesRoomForHashes result self.old self.new }
         ensures seed { self.new.seed ≡ self.old.seed }
     {
         let mut fields = Rows::with_count(self.alloc, ROWS)?;
         let mut names = Rows::with_count(self.alloc, ROWS_OF_NAMES)?;
-        fields.reserve(self.alloc, hashes.field)?;
-        names.reserve(self.alloc, hashes.name)?;
-        make_room(&mut self.hashes, HASHES)?;
+        fields.reserve(hashes.field)?;
+        names.reserve(hashes.name)?;
         self.fields = fields;
         self.names = names;
         Ok(())
@@ -298,6 +291,7 @@ impl Index {
         index: usize,
         hashes: Hashes,
     )
+        requires few { length entries.now.items < 2 ^ 32 }
         requires live { (dropped < index) × (index ≤ dropped + length entries.now.items) }
         requires index { IsIndexOf dropped (live_fields entries.now.items) (index - dropped - 1) self.old }
         requires hashes { AreHashesOf self.old.seed hashes (field_at dropped (live_fields entries.now.items) index) }
@@ -319,21 +313,19 @@ impl Index {
         };
         self.fields.enter(entries, dropped, index, &field);
         self.names.enter(entries, dropped, index, &name);
-        self.hashes.push_back_reserved(hashes);
     }
 
     /// Removes the oldest entry, which is about to be popped. It takes no memory, and the room that was made stays.
     pub(super) fn leave(&mut self, entries: &VecDeque<Entry>, dropped: usize)
         requires some { 0 < length entries.now.items }
-        requires few { dropped + length entries.now.items < 2 ^ 64 }
         requires index { IsIndexOf dropped (live_fields entries.now.items) (length entries.now.items) self.old }
         ensures index { IsIndexOf (dropped + 1) (drop 1 (live_fields entries.now.items))
             (length entries.now.items - 1) self.new }
         ensures room { (hashes : Hashes) → HasRoomForEntry hashes self.old → HasRoomForEntry hashes self.new }
         ensures seed { self.new.seed ≡ self.old.seed }
     {
-        let hashes = self.hashes[0];
         let line = entries[0].field.as_line();
+        let hashes = Hashes::of(self.seed, &line);
         let field = Sought {
             part: Part::Whole(self.seed),
             line,
@@ -346,6 +338,5 @@ impl Index {
         };
         self.fields.leave(entries, dropped, &field);
         self.names.leave(entries, dropped, &name);
-        self.hashes.pop_front();
     }
 }

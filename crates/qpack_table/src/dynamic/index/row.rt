@@ -1,23 +1,21 @@
 //! A row of the index: slots that rise by the hash of a part of their entries' fields, then by that part. A search
 //! halves them.
 
-ghost use Rattle.std.specs.Prelude.{◌≡◌, ◌≢◌, ◌==◌, ◌+◌, ◌-◌, ◌^◌, ◌<◌, ◌≤◌, [], ◌∷◌, ◌++◌, min, length, IfSome};
-ghost use Rattle.std.specs.Prelude.{IfNone, IfOk, OnOk, OnErr, not, nat_le};
+ghost use Rattle.std.specs.Prelude.{◌≡◌, ◌+◌, ◌-◌, ◌^◌, ◌<◌, ◌≤◌, [], ◌∷◌, ◌++◌, min, length, IfSome};
+ghost use Rattle.std.specs.Prelude.{IfNone, IfOk, OnOk, OnErr, not, nat_le, vec_capacity};
 ghost use Rattle.std.specs.List.{All, filter};
 ghost use Rattle.std.specs.Cmp.Lexicographic.{slice_cmp};
 ghost use Rattle.std.specs.Ordering.{nat_cmp};
 ghost use Rattle.qpack_base.specs.HeaderFields.{field_of, field_cmp};
 ghost use Rattle.qpack_table.specs.Rows.{part_of, part_at, key_cmp, key_at, key_of, field_of_sought, IsHashed, IsSlot};
 ghost use Rattle.qpack_table.specs.Rows.{HasRoom, IsRow, IsPlace, FindsSlot, Enters, Leaves, HasIndexAt, HasNoIndex};
-ghost use Rattle.qpack_table.specs.Rows.{Counts, IsGapByHash, goes_to};
-ghost use Rattle.qpack_table.specs.SlotLists.{slots_here, ArePlaces};
+ghost use Rattle.qpack_table.specs.Rows.{Counts, goes_to, index_of, slot_of, slots_a_row};
 ghost use Rattle.qpack_table.specs.Tables.{live_fields};
-ghost use Rattle.qpack_table.specs.declared.dynamic.index.row.Slot.{Slot};
 
 use crate::dynamic::entry::Entry;
+use crate::dynamic::growth::{SLOTS, SLOTS_A_ROW, growth};
 use crate::dynamic::index::Steps;
 use crate::dynamic::index::hash::position_of;
-use crate::dynamic::index::slots::Slots;
 use qpack_base::bytes::same;
 use qpack_base::field::FieldLine;
 use std::alloc::{AllocError, Global};
@@ -25,7 +23,10 @@ use std::cmp::Ordering;
 use std::collections::VecDeque;
 
 /// A row of at most this many slots is searched for an index without a look at an entry.
-const MOST_SCANNED: usize = 8;
+const MOST_SCANNED: usize = 16;
+
+/// One more than the greatest number that 32 bits hold.
+const WRAP: usize = 1 << 32;
 
 /// Which part of its field an entry is found by, with the seed of the part's hash.
 #[derive(Debug, Clone, Copy)]
@@ -42,23 +43,21 @@ pub(super) struct Sought<'a> {
     pub(super) hash: u32,
 }
 
-/// The absolute index of an entry, counted from 1, and the hash of its part; or none, where the index is 0.
-#[derive(Debug, Clone, Copy, Default)]
+/// The hash of an entry's part, and the low 32 bits of the entry's absolute index. Fewer than 2^32 entries are live, so
+/// these tell which it is.
+#[derive(Debug, Clone, Copy)]
 pub(super) struct Slot {
     pub(super) hash: u32,
-    index: usize,
+    low: u32,
 }
 
 impl Slot {
-    /// No slot.
-    pub(super) const NONE: Slot = Slot { hash: 0, index: 0 };
-
-    /// Returns whether it is none.
+    /// Returns the position of its entry among the live ones, counted from 0 at the oldest.
     #[inline(always)]
-    pub(super) fn is_none(&self) -> bool
-        ensures { result ≡ (self.now.index == 0) }
+    fn position(&self, dropped: usize) -> usize
+        ensures { index_of dropped self.now ≡ dropped + result + 1 }
     {
-        self.index == 0
+        (self.low as usize + (WRAP - 1) - dropped % WRAP) % WRAP
     }
 }
 
@@ -104,151 +103,23 @@ fn compare(
     ensures grows { steps.old.count ≤ steps.new.count }
 {
     match slot.hash.cmp(&sought.hash) {
-        Ordering::Equal => compare_entry(sought, &entries[slot.index - dropped - 1], steps),
+        Ordering::Equal => compare_entry(sought, &entries[slot.position(dropped)], steps),
         apart => apart,
     }
 }
 
-/// Returns where the slot with what is sought is in two places, or where it would be. In most rows no slot has the hash
-/// that is sought: that is found out first, of both at once.
-#[inline(always)]
-fn search_here(
-    places: &[Slot; 2],
-    entries: &VecDeque<Entry>,
-    dropped: usize,
-    sought: &Sought<'_>,
-    steps: &mut Steps,
-) -> Result<usize, usize>
-    requires places { ArePlaces places.now }
-    requires row { IsRow sought.now.part dropped (live_fields entries.now.items) (slots_here places.now) }
-    ensures place { IsPlace sought.now.part dropped (live_fields entries.now.items) (slots_here places.now)
-        (key_of sought.now) result }
-    ensures steps { Counts (length (slots_here places.now)) steps.old.count steps.new.count }
+/// Returns the position of the oldest entry's slot. It looks at one slot after the other.
+fn scan(slots: &[Slot], dropped: usize) -> Option<usize>
+    ensures some { IfSome result (λ position. HasIndexAt dropped slots.now (dropped + 1) position) }
+    ensures none { IfNone result (HasNoIndex dropped slots.now (dropped + 1)) }
 {
-    let [first, second] = *places;
-    if first.hash != sought.hash && second.hash != sought.hash {
-        return Err(gap_here(first, second, sought.hash));
-    }
-    if first.is_none() {
-        return Err(0);
-    }
-    match compare(sought, first, entries, dropped, steps) {
-        Ordering::Less => {}
-        Ordering::Equal => return Ok(0),
-        Ordering::Greater => return Err(0),
-    }
-    if second.is_none() {
-        return Err(1);
-    }
-    match compare(sought, second, entries, dropped, steps) {
-        Ordering::Less => Err(2),
-        Ordering::Equal => Ok(1),
-        Ordering::Greater => Err(1),
-    }
-}
-
-/// Returns where a slot of a hash would be in two places that rise, of which neither has it.
-#[inline(always)]
-fn gap_here(first: Slot, second: Slot, hash: u32) -> usize
-    requires first { first.hash ≢ hash }
-    requires second { second.hash ≢ hash }
-    ensures { IsGapByHash first second hash result }
-{
-    if first.is_none() || first.hash > hash {
-        return 0;
-    }
-    if second.is_none() || second.hash > hash {
-        return 1;
-    }
-    2
-}
-
-/// Returns where the slot with what is sought is among slots in order, or where it would be. Each comparison leaves at
-/// most half of the slots.
-fn search_by_halves(
-    slots: &[Slot],
-    entries: &VecDeque<Entry>,
-    dropped: usize,
-    sought: &Sought<'_>,
-    steps: &mut Steps,
-) -> Result<usize, usize>
-    requires { IsRow sought.now.part dropped (live_fields entries.now.items) slots.now }
-    ensures place { IsPlace sought.now.part dropped (live_fields entries.now.items) slots.now (key_of sought.now)
-        result }
-    ensures steps { Counts (length slots.now) steps.old.count steps.new.count }
-{
-    let mut low = 0;
-    let mut high = slots.len();
-    while low < high {
-        let middle = low + (high - low) / 2;
-        match compare(sought, slots[middle], entries, dropped, steps) {
-            Ordering::Less => low = middle + 1,
-            Ordering::Equal => return Ok(middle),
-            Ordering::Greater => high = middle,
-        }
-    }
-    Err(low)
-}
-
-/// Returns the position of an index in two places.
-#[inline(always)]
-fn position_here(places: &[Slot; 2], index: usize) -> Option<usize>
-    requires places { ArePlaces places.now }
-    requires some { 0 < index }
-    ensures some { IfSome result (λ position. HasIndexAt (slots_here places.now) index position) }
-    ensures none { IfNone result (HasNoIndex (slots_here places.now) index) }
-{
-    let [first, second] = places;
-    if first.index == index {
-        return Some(0);
-    }
-    if second.index == index {
-        return Some(1);
-    }
-    None
-}
-
-/// Returns the position of an index among slots in order.
-fn position_outside(
-    slots: &[Slot],
-    entries: &VecDeque<Entry>,
-    dropped: usize,
-    index: usize,
-    sought: &Sought<'_>,
-) -> Option<usize>
-    requires row { IsRow sought.now.part dropped (live_fields entries.now.items) slots.now }
-    requires field { field_of_sought sought.now
-        ≡ part_at sought.now.part dropped (live_fields entries.now.items) index }
-    requires hashed { IsHashed sought.now }
-    ensures some { IfSome result (λ position. HasIndexAt slots.now index position) }
-    ensures none { IfNone result (HasNoIndex slots.now index) }
-{
-    if slots.len() <= MOST_SCANNED {
-        return scan(slots, index);
-    }
-    let mut steps = Steps::new();
-    let Ok(position) = search_by_halves(slots, entries, dropped, sought, &mut steps) else {
-        return None;
-    };
-    if slots[position].index == index {
-        Some(position)
-    } else {
-        None
-    }
-}
-
-/// Returns the position of an index among slots. It looks at one after the other.
-fn scan(slots: &[Slot], index: usize) -> Option<usize>
-    ensures some { IfSome result (λ position. HasIndexAt slots.now index position) }
-    ensures none { IfNone result (HasNoIndex slots.now index) }
-{
-    slots.iter().position(|slot| slot.index == index)
+    slots.iter().position(|slot| slot.position(dropped) == 0)
 }
 
 /// Slots of live entries, rising by the hash and the part; no two have the same part.
 #[derive(Debug, Drop)]
 pub(super) struct Row {
-    slots: Slots,
+    slots: Vec<Slot>,
 }
 
 /// The slots of a row in two.
@@ -261,66 +132,80 @@ pub(super) struct Split {
 }
 
 impl Row {
-    /// Returns an empty row.
-    pub(super) fn new() -> Row
+    /// Returns an empty row. It takes no memory.
+    pub(super) fn new(alloc: Global) -> Row
         ensures { result.slots.items ≡ [] }
     {
         Row {
-            slots: Slots::new(),
+            slots: Vec::new(alloc),
         }
     }
 
     /// Makes room for one more slot. It fails only if there is none.
-    pub(super) fn reserve(&mut self, alloc: Global) -> Result<(), AllocError>
+    #[inline(always)]
+    pub(super) fn reserve(&mut self) -> Result<(), AllocError>
         ensures slots { self.new.slots.items ≡ self.old.slots.items }
         ensures ok { OnOk result (HasRoom self.new) }
-        ensures full { OnErr result (self.old.slots.capacity ≤ length self.old.slots.items) }
+        ensures full { OnErr result (HasRoom self.old → ⊥) }
         ensures room { HasRoom self.old → HasRoom self.new }
     {
-        self.slots.reserve(alloc)
+        if self.slots.len() < self.slots.capacity() {
+            return Ok(());
+        }
+        self.grow()
     }
 
-    /// Returns whether it has as many slots as fit in the row itself, or more.
-    pub(super) fn is_crowded(&self) -> bool
-        ensures { result ≡ nat_le 2 (length self.now.slots.items) }
+    /// Makes room where there is none. This is a call of its own, so that a row with room saves no registers.
+    #[inline(never)]
+    fn grow(&mut self) -> Result<(), AllocError>
+        requires full { vec_capacity self.old.slots ≤ length self.old.slots.items }
+        ensures slots { self.new.slots.items ≡ self.old.slots.items }
+        ensures ok { OnOk result (HasRoom self.new) }
     {
-        self.slots.as_slice().len() >= 2
+        self.slots.reserve_exact(growth(self.slots.len(), SLOTS))
+    }
+
+    /// Returns whether it has as many slots as a row has on average, or more.
+    pub(super) fn is_crowded(&self) -> bool
+        ensures { result ≡ nat_le slots_a_row (length self.now.slots.items) }
+    {
+        self.slots.len() >= SLOTS_A_ROW
     }
 
     /// Splits its slots, if there is one row more than `count`: into those that stay, and those whose hashes belong to
     /// the new row. Both are in order, since the slots are.
     pub(super) fn split(&self, alloc: Global, count: usize) -> Result<Split, AllocError>
-        requires slots { All (λ s. 0 < s.index) self.now.slots.items }
         requires few { count < 2 ^ 63 }
         ensures stays { IfOk result (λ split. split.stays.slots.items
             ≡ filter (λ s. not (goes_to count s)) self.now.slots.items) }
         ensures goes { IfOk result (λ split. split.goes.slots.items ≡ filter (goes_to count) self.now.slots.items) }
     {
         let mut split = Split {
-            stays: Row::new(),
-            goes: Row::new(),
+            stays: Row::new(alloc),
+            goes: Row::new(alloc),
         };
-        for slot in self.slots.as_slice() {
+        for slot in &self.slots {
             if position_of(slot.hash, count + 1) == count {
-                split.goes.push(alloc, *slot)?;
+                split.goes.push(*slot)?;
             } else {
-                split.stays.push(alloc, *slot)?;
+                split.stays.push(*slot)?;
             }
         }
         Ok(split)
     }
 
     /// Adds a slot after the others. On error the row is as before.
-    fn push(&mut self, alloc: Global, slot: Slot) -> Result<(), AllocError>
-        requires slot { 0 < slot.index }
+    fn push(&mut self, slot: Slot) -> Result<(), AllocError>
         ensures ok { OnOk result (self.new.slots.items ≡ self.old.slots.items ++ slot ∷ []) }
         ensures err { OnErr result (self.new.slots.items ≡ self.old.slots.items) }
     {
-        self.slots.push(alloc, slot)
+        self.reserve()?;
+        self.slots.push_reserved(slot);
+        Ok(())
     }
 
-    /// Returns where the slot with what is sought is, or where it would be.
-    #[inline(always)]
+    /// Returns where the slot with what is sought is, or where it would be. Each comparison leaves at most half of the
+    /// slots.
     fn search(
         &self,
         entries: &VecDeque<Entry>,
@@ -333,10 +218,17 @@ impl Row {
             (key_of sought.now) result }
         ensures steps { Counts (length self.now.slots.items) steps.old.count steps.new.count }
     {
-        match self.slots.here() {
-            Some(places) => search_here(places, entries, dropped, sought, steps),
-            None => search_by_halves(self.slots.as_slice(), entries, dropped, sought, steps),
+        let mut low = 0;
+        let mut high = self.slots.len();
+        while low < high {
+            let middle = low + (high - low) / 2;
+            match compare(sought, self.slots[middle], entries, dropped, steps) {
+                Ordering::Less => low = middle + 1,
+                Ordering::Equal => return Ok(middle),
+                Ordering::Greater => high = middle,
+            }
         }
+        Err(low)
     }
 
     /// Returns the index whose entry has what is sought.
@@ -348,6 +240,7 @@ impl Row {
         sought: &Sought<'_>,
         steps: &mut Steps,
     ) -> Option<usize>
+        requires few { dropped + length entries.now.items < 2 ^ 64 }
         requires row { IsRow sought.now.part dropped (live_fields entries.now.items) self.now.slots.items }
         requires hashed { IsHashed sought.now }
         ensures found { FindsSlot sought.now.part dropped (live_fields entries.now.items) self.now.slots.items
@@ -355,7 +248,7 @@ impl Row {
         ensures steps { Counts (length self.now.slots.items) steps.old.count steps.new.count }
     {
         match self.search(entries, dropped, sought, steps) {
-            Ok(position) => Some(self.slots.as_slice()[position].index),
+            Ok(position) => Some(dropped + self.slots[position].position(dropped) + 1),
             Err(_) => None,
         }
     }
@@ -368,6 +261,7 @@ impl Row {
         index: usize,
         sought: &Sought<'_>,
     )
+        requires few { length entries.now.items < 2 ^ 32 }
         requires row { IsRow sought.now.part dropped (live_fields entries.now.items) self.old.slots.items }
         requires live { (dropped < index) × (index ≤ dropped + length entries.now.items) }
         requires field { field_of_sought sought.now
@@ -375,62 +269,60 @@ impl Row {
         requires hashed { IsHashed sought.now }
         requires room { HasRoom self.old }
         ensures row { IsRow sought.now.part dropped (live_fields entries.now.items) self.new.slots.items }
-        ensures slots { let slot : Slot = record { hash = sought.now.hash; index = index } in
-            Enters sought.now.part dropped (live_fields entries.now.items) self.old.slots.items self.new.slots.items
-            slot }
+        ensures slots { Enters sought.now.part dropped (live_fields entries.now.items) self.old.slots.items
+            self.new.slots.items (slot_of sought.now.hash index) }
     {
         let slot = Slot {
             hash: sought.hash,
-            index,
+            low: (index % WRAP) as u32,
         };
         let mut steps = Steps::new();
         match self.search(entries, dropped, sought, &mut steps) {
-            Ok(position) => self.slots.set(position, slot),
-            Err(position) => self.slots.insert(position, slot),
+            Ok(position) => self.slots[position] = slot,
+            Err(position) => if let Err(_full) = self.slots.insert(position, slot) {},
         }
     }
 
-    /// Removes an index, if it is there.
-    pub(super) fn leave(
-        &mut self,
-        entries: &VecDeque<Entry>,
-        dropped: usize,
-        index: usize,
-        sought: &Sought<'_>,
-    )
+    /// Removes the slot of the oldest entry, if it is there.
+    pub(super) fn leave(&mut self, entries: &VecDeque<Entry>, dropped: usize, sought: &Sought<'_>)
         requires row { IsRow sought.now.part dropped (live_fields entries.now.items) self.old.slots.items }
         requires field { field_of_sought sought.now
-            ≡ part_at sought.now.part dropped (live_fields entries.now.items) index }
+            ≡ part_at sought.now.part dropped (live_fields entries.now.items) (dropped + 1) }
         requires hashed { IsHashed sought.now }
-        requires some { 0 < index }
         ensures row { IsRow sought.now.part dropped (live_fields entries.now.items) self.new.slots.items }
-        ensures slots { Leaves self.old.slots.items self.new.slots.items index }
+        ensures slots { Leaves dropped self.old.slots.items self.new.slots.items (dropped + 1) }
         ensures room { HasRoom self.old → HasRoom self.new }
     {
-        if let Some(position) = self.position_of(entries, dropped, index, sought) {
+        if let Some(position) = self.position_of_oldest(entries, dropped, sought) {
             self.slots.remove(position);
         }
     }
 
-    /// Returns the position of an index.
-    fn position_of(
+    /// Returns the position of the oldest entry's slot.
+    fn position_of_oldest(
         &self,
         entries: &VecDeque<Entry>,
         dropped: usize,
-        index: usize,
         sought: &Sought<'_>,
     ) -> Option<usize>
         requires row { IsRow sought.now.part dropped (live_fields entries.now.items) self.now.slots.items }
         requires field { field_of_sought sought.now
-            ≡ part_at sought.now.part dropped (live_fields entries.now.items) index }
+            ≡ part_at sought.now.part dropped (live_fields entries.now.items) (dropped + 1) }
         requires hashed { IsHashed sought.now }
-        requires some { 0 < index }
-        ensures some { IfSome result (λ position. HasIndexAt self.now.slots.items index position) }
-        ensures none { IfNone result (HasNoIndex self.now.slots.items index) }
+        ensures some { IfSome result (λ position. HasIndexAt dropped self.now.slots.items (dropped + 1) position) }
+        ensures none { IfNone result (HasNoIndex dropped self.now.slots.items (dropped + 1)) }
     {
-        match self.slots.here() {
-            Some(places) => position_here(places, index),
-            None => position_outside(self.slots.as_slice(), entries, dropped, index, sought),
+        if self.slots.len() <= MOST_SCANNED {
+            return scan(&self.slots, dropped);
+        }
+        let mut steps = Steps::new();
+        let Ok(position) = self.search(entries, dropped, sought, &mut steps) else {
+            return None;
+        };
+        if self.slots[position].position(dropped) == 0 {
+            Some(position)
+        } else {
+            None
         }
     }
 }

@@ -9,7 +9,7 @@ ghost use Rattle.qpack_table.specs.Growth.{grown};
 ghost use Rattle.qpack_table.specs.Rows.{part_at, field_of_sought, IsHashed, Counts};
 ghost use Rattle.qpack_table.specs.Tables.{live_fields};
 ghost use Rattle.qpack_table.specs.Indexes.{AreRowsOf, AreRows, KeepsEntries, HasRoomFor, FindsNewest, IsSplitOf};
-ghost use Rattle.qpack_table.specs.Indexes.{NeedsRow, GrowsByHalf, rows_behind};
+ghost use Rattle.qpack_table.specs.Indexes.{NeedsRow, GrowsByQuarter, rows_with_split};
 
 use crate::dynamic::entry::Entry;
 use crate::dynamic::growth::growth;
@@ -44,7 +44,7 @@ impl Rows {
     {
         let mut rows = Vec::with_capacity(alloc, count)?;
         for _ in 0..count {
-            rows.push_reserved(Row::new());
+            rows.push_reserved(Row::new(alloc));
         }
         Ok(Rows { rows })
     }
@@ -57,17 +57,17 @@ impl Rows {
         ensures rows { KeepsEntries self.old.rows.items self.new.rows.items }
         ensures count { length self.new.rows.items ≡ length self.old.rows.items }
         ensures split { IfOk result (λ split. IsSplitOf self.new.rows.items split) }
-        ensures room { IfOk result (λ split. HasRoomFor (rows_behind self.new.rows.items split) hash) }
+        ensures room { IfOk result (λ split. HasRoomFor (rows_with_split self.new.rows.items split) hash) }
         ensures vacant { OnOk result (length self.new.rows.items < vec_capacity self.new.rows) }
         ensures still { length self.old.rows.items < vec_capacity self.old.rows
             → vec_capacity self.new.rows ≡ vec_capacity self.old.rows }
         ensures kept { (other : ℕ) → HasRoomFor self.old.rows.items other → HasRoomFor self.new.rows.items other }
-        ensures capacity { GrowsByHalf self.old self.new }
+        ensures capacity { GrowsByQuarter self.old self.new }
     {
         self.reserve_row()?;
         let count = self.rows.len();
         let mut split = self.rows[split_among(count)].split(alloc, count)?;
-        self.reserve_behind(alloc, &mut split, hash)?;
+        self.reserve_with_split(&mut split, hash)?;
         Ok(split)
     }
 
@@ -92,7 +92,7 @@ impl Rows {
         ensures err { OnErr result (length self.new.rows.items ≡ length self.old.rows.items) }
         ensures room { OnOk result (HasRoomFor self.new.rows.items hash) }
         ensures full { OnErr result (HasRoomFor self.old.rows.items hash → NeedsRow most self.old.rows.items hash) }
-        ensures capacity { GrowsByHalf self.old self.new }
+        ensures capacity { GrowsByQuarter self.old self.new }
     {
         let home = position_of(hash, self.rows.len());
         if self.rows.len() < most && self.rows[home].is_crowded() {
@@ -100,10 +100,10 @@ impl Rows {
             self.put_split(split);
             return Ok(());
         }
-        self.rows[home].reserve(alloc)
+        self.rows[home].reserve()
     }
 
-    /// Makes room for one more row. If there is none, it makes room for half as many as there are, or for one.
+    /// Makes room for one more row. If there is none, it makes room for a quarter as many as there are, or for one.
     fn reserve_row(&mut self) -> Result<(), AllocError>
         ensures rows { self.new.rows.items ≡ self.old.rows.items }
         ensures vacant { OnOk result (length self.new.rows.items < vec_capacity self.new.rows) }
@@ -111,7 +111,7 @@ impl Rows {
             → vec_capacity self.new.rows ≡ vec_capacity self.old.rows }
         ensures grown { OnOk result (vec_capacity self.old.rows ≤ length self.old.rows.items
             → vec_capacity self.new.rows ≡ grown 1 (length self.old.rows.items)) }
-        ensures capacity { GrowsByHalf self.old self.new }
+        ensures capacity { GrowsByQuarter self.old self.new }
     {
         let count = self.rows.len();
         if count == self.rows.capacity() {
@@ -121,30 +121,25 @@ impl Rows {
     }
 
     /// Makes room for one more index in the row that a hash will have once the split is put in place.
-    fn reserve_behind(
-        &mut self,
-        alloc: Global,
-        split: &mut Split,
-        hash: u32,
-    ) -> Result<(), AllocError>
+    fn reserve_with_split(&mut self, split: &mut Split, hash: u32) -> Result<(), AllocError>
         requires some { 0 < length self.old.rows.items }
         requires split { IsSplitOf self.old.rows.items split.old }
         ensures rows { KeepsEntries self.old.rows.items self.new.rows.items }
         ensures count { length self.new.rows.items ≡ length self.old.rows.items }
         ensures split { IsSplitOf self.new.rows.items split.new }
-        ensures room { OnOk result (HasRoomFor (rows_behind self.new.rows.items split.new) hash) }
+        ensures room { OnOk result (HasRoomFor (rows_with_split self.new.rows.items split.new) hash) }
         ensures kept { (other : ℕ) → HasRoomFor self.old.rows.items other → HasRoomFor self.new.rows.items other }
         ensures capacity { vec_capacity self.new.rows ≡ vec_capacity self.old.rows }
     {
         let count = self.rows.len();
         let home = position_of(hash, count + 1);
         if home == count {
-            return split.goes.reserve(alloc);
+            return split.goes.reserve();
         }
         if home == split_among(count) {
-            return split.stays.reserve(alloc);
+            return split.stays.reserve();
         }
-        self.rows[home].reserve(alloc)
+        self.rows[home].reserve()
     }
 
     /// Puts a split in place: what stays where the whole row was, and what goes after the last row.
@@ -154,7 +149,7 @@ impl Rows {
         requires vacant { length self.old.rows.items < vec_capacity self.old.rows }
         ensures rows { KeepsEntries self.old.rows.items self.new.rows.items }
         ensures count { length self.new.rows.items ≡ length self.old.rows.items + 1 }
-        ensures placed { self.new.rows.items ≡ rows_behind self.old.rows.items split }
+        ensures placed { self.new.rows.items ≡ rows_with_split self.old.rows.items split }
         ensures capacity { vec_capacity self.new.rows ≡ vec_capacity self.old.rows }
     {
         let home = split_among(self.rows.len());
@@ -178,6 +173,7 @@ impl Rows {
         sought: &Sought<'_>,
         steps: &mut Steps,
     ) -> Option<usize>
+        requires few { dropped + length entries.now.items < 2 ^ 64 }
         requires rows { AreRowsOf sought.now.part dropped (live_fields entries.now.items) (length entries.now.items)
             self.now.rows.items }
         requires hashed { IsHashed sought.now }
@@ -194,7 +190,7 @@ impl Rows {
 
     /// Makes room for one more index in the row of a hash. It fails only if there is none.
     #[inline(always)]
-    pub(super) fn reserve(&mut self, alloc: Global, hash: u32) -> Result<(), AllocError>
+    pub(super) fn reserve(&mut self, hash: u32) -> Result<(), AllocError>
         requires { 0 < length self.old.rows.items }
         ensures rows { KeepsEntries self.old.rows.items self.new.rows.items }
         ensures count { length self.new.rows.items ≡ length self.old.rows.items }
@@ -203,7 +199,7 @@ impl Rows {
         ensures capacity { vec_capacity self.new.rows ≡ vec_capacity self.old.rows }
     {
         let home = position_of(hash, self.rows.len());
-        self.rows[home].reserve(alloc)
+        self.rows[home].reserve()
     }
 
     /// Adds the next newer entry after those that are in. There is room.
@@ -214,6 +210,7 @@ impl Rows {
         index: usize,
         sought: &Sought<'_>,
     )
+        requires few { length entries.now.items < 2 ^ 32 }
         requires live { (dropped < index) × (index ≤ dropped + length entries.now.items) }
         requires rows { AreRowsOf sought.now.part dropped (live_fields entries.now.items) (index - dropped - 1)
             self.old.rows.items }
@@ -232,7 +229,6 @@ impl Rows {
     /// Removes the oldest entry, which is about to be popped: its slot, if no newer entry has the same part.
     pub(super) fn leave(&mut self, entries: &VecDeque<Entry>, dropped: usize, sought: &Sought<'_>)
         requires some { 0 < length entries.now.items }
-        requires few { dropped + length entries.now.items < 2 ^ 64 }
         requires rows { AreRowsOf sought.now.part dropped (live_fields entries.now.items) (length entries.now.items)
             self.old.rows.items }
         requires field { field_of_sought sought.now
@@ -244,6 +240,6 @@ impl Rows {
         ensures room { (other : ℕ) → HasRoomFor self.old.rows.items other → HasRoomFor self.new.rows.items other }
     {
         let home = position_of(sought.hash, self.rows.len());
-        self.rows[home].leave(entries, dropped, dropped + 1, sought);
+        self.rows[home].leave(entries, dropped, sought);
     }
 }

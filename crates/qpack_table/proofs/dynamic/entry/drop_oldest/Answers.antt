@@ -45,14 +45,6 @@ overflow_sub-dropped g c = (dropped_there c.loop.vas.total c.loop.vas.dropped c.
     c.len.result refl c.loop.invariant.items c.loop.invariant.few c.loop.invariant.dropped
     (c.loop.invariant.total ∙ c.requires.counted) c.total_inserted.ensures.total (search rules)).fits
 
-pub leave-requires-clause-few : goal.leave-requires-clause-few
-leave-requires-clause-few g c =
-    let at = dropped_there c.loop.vas.total c.loop.vas.dropped c.args.vas.now.dropped
-    (length c.loop.entries.items) c.loop.counter c.args.entries.now.items c.loop.entries.items
-    c.total_inserted.result c.len.result refl c.loop.invariant.items c.loop.invariant.few c.loop.invariant.dropped
-    (c.loop.invariant.total ∙ c.requires.counted) c.total_inserted.ensures.total (search rules) in
-    omega (arith, at.is, at.whole, c.total_inserted.ensures.most, c.total_inserted.ensures.total)
-
 pub leave-requires-clause-index : goal.leave-requires-clause-index
 leave-requires-clause-index g c =
     let at = dropped_there c.loop.vas.total c.loop.vas.dropped c.args.vas.now.dropped

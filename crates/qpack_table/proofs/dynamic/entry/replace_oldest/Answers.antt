@@ -1,5 +1,5 @@
 use Rattle.std.proofs.Common.{◌≡◌, ℕ, ◌+◌, ◌∷◌, [], ◌++◌, List, drop, length, ap, sym, subst, ◌∙◌, arith}
-use Rattle.std.proofs.lemmas.List.{length-append}
+use Rattle.std.proofs.lemmas.List.{length-append, length-drop}
 use Rattle.qpack_base.specs.HeaderFields.{field_of}
 use Rattle.qpack_spec.specs.Field.{Field, FieldLine, field_size, total_size}
 use Rattle.qpack_spec.specs.Table.{fields_in}
@@ -12,6 +12,14 @@ use Rattle.qpack_table.proofs.dynamic.entry.replace_oldest.Goals as goal
 
 pub enter-requires-clause-few : goal.enter-requires-clause-few
 enter-requires-clause-few g c =
+    let long = ap (λ (l : List Entry). length l) c.push_back_reserved.ensures.items in
+    let one = length-append c.drop_oldest-freed.new.entries.items (c.args.entry ∷ []) in
+    let left = ap (λ (l : List Entry). length l) (c.drop_oldest-freed.ensures.left
+    ∙ ap (λ (l : List Entry). drop c.args.evicted l) c.in_ok-make_room.ensures.items) in
+    omega (arith, long, one, left, length-drop c.args.evicted c.args.entries.now.items, c.requires.live)
+
+pub enter-requires-clause-within : goal.enter-requires-clause-within
+enter-requires-clause-within g c =
     let at = newest_there _ _ _ _ _ _ _ _ c.requires.counted (c.drop_oldest-freed.ensures.left
     ∙ ap (λ (l : List Entry). drop c.args.evicted l) c.in_ok-make_room.ensures.items) c.requires.there
     c.drop_oldest-freed.ensures.dropped c.add.ensures.index c.add.ensures.added

@@ -1,11 +1,9 @@
-use Rattle.std.proofs.Common.{◌≡◌, ℕ, ◌+◌, ◌-◌, sym, ap, subst, ◌∙◌, arith}
+use Rattle.std.proofs.Common.{sym, ap, ◌∙◌, arith}
 use Rattle.qpack_base.specs.HeaderFields.{line_of}
 use Rattle.qpack_spec.specs.Field.{Field}
 use Rattle.qpack_table.specs.Hashes.{field_hash, name_hash}
-use Rattle.qpack_table.specs.Indexes.{AreAllHashesOf}
-use Rattle.qpack_table.specs.Tables.{live_fields}
 use Rattle.qpack_table.specs.declared.dynamic.index.row.Part.TheVariants.{Name, Whole}
-use Rattle.qpack_table.proofs.WholeIndexes.{line_read, hashes_entered}
+use Rattle.qpack_table.proofs.WholeIndexes.{line_read}
 use Rattle.qpack_table.proofs.dynamic.index.Index.enter.Goals as goal
 
 pub enter-requires-clause-field : goal.enter-requires-clause-field
@@ -34,18 +32,9 @@ enter-requires-2-clause-hashed c =
 
 pub returns-clause-index : goal.returns-clause-index
 returns-clause-index c =
-    let next : c.args.index ≡ c.args.dropped + (c.args.index - c.args.dropped - 1) + 1 =
-    omega (arith, c.requires.live.0) in
-    let count : c.args.index - c.args.dropped - 1 + 1 ≡ c.args.index - c.args.dropped =
-    omega (arith, c.requires.live.0) in
     record {
       fields = c.enter.ensures.rows;
       names = c.enter-2.ensures.rows;
-      hashes = subst (λ (n : ℕ). AreAllHashesOf c.args.self.now.seed c.args.dropped
-          (live_fields c.args.entries.now.items) n
-          c.push_back_reserved.new.self.items) count
-          (hashes_entered _ _ _ _ c.args.index _ _ c.args.hashes c.requires.index.hashes next c.requires.hashes
-          c.push_back_reserved.ensures.items);
       some = λ some. omega (
         arith,
         c.enter-2.ensures.count,

@@ -6,7 +6,7 @@ use Rattle.qpack_table.specs.Tables.{entry_of, entries_of}
 use Rattle.qpack_table.specs.declared.dynamic.entry.Entry.{Entry}
 use Rattle.qpack_table.proofs.Changes.{entered}
 use Rattle.qpack_table.proofs.Evictions.{joined_entries, evicted_within, room_as}
-use Rattle.qpack_table.proofs.Kept.{kept_put}
+use Rattle.qpack_table.proofs.Kept.{kept_put, few_entries}
 use Rattle.qpack_table.proofs.dynamic.table.DynamicTable.insert_hashed.Goals as goal
 
 pub replace_oldest-requires-clause-there : goal.replace_oldest-requires-clause-there
@@ -14,6 +14,9 @@ replace_oldest-requires-clause-there g c =
     let room = room_as _ _ _ _ c.self.view_is c.requires.fits c.requires.evicted in
     evicted_within c.self.inside.entries.items (field_of c.args.field) c.self.inside.capacities.capacity c.args.evicted
     room.fits room.evicted
+
+pub replace_oldest-requires-clause-live : goal.replace_oldest-requires-clause-live
+replace_oldest-requires-clause-live g c = few_entries _ _ _ _ c.self.invariant.sized
 
 pub invariant_of-self-2 : goal.invariant_of-self-2
 invariant_of-self-2 g c =

@@ -3,12 +3,12 @@ use Rattle.qpack_table.specs.Rows.{key_of}
 use Rattle.qpack_table.specs.Tables.{live_fields}
 use Rattle.qpack_table.proofs.Halvings.{CountsHalved}
 use Rattle.qpack_table.proofs.RowSearches.{Searching}
-use Rattle.qpack_table.proofs.dynamic.index.row.search_by_halves.Given as goal
+use Rattle.qpack_table.proofs.dynamic.index.row.Row.search.Given as goal
 
 abbrev pub invariant-loop-low : goal.invariant-loop-low
 invariant-loop-low l = record {
-  parted : Searching l.sought.part l.dropped (live_fields l.entries.items) l.slots (key_of l.sought) l.low l.high;
-  counted : CountsHalved (length l.slots) (l.high - l.low) l.initial.steps.count l.steps.count;
+  parted : Searching l.sought.part l.dropped (live_fields l.entries.items) l.self.slots.items (key_of l.sought) l.low l.high;
+  counted : CountsHalved (length l.self.slots.items) (l.high - l.low) l.initial.steps.count l.steps.count;
 }
 
 abbrev pub decreases-loop-low : goal.decreases-loop-low

@@ -2,7 +2,7 @@ use Rattle.std.proofs.Common.{◌≡◌, ◌<◌, ℕ, length, subst, rules}
 use Rattle.qpack_table.proofs.HashedRows.{room_left}
 use Rattle.qpack_table.proofs.RowsChanges.{rows_changed, rows_kept}
 use Rattle.qpack_table.proofs.SplitRows.{not_last}
-use Rattle.qpack_table.proofs.dynamic.index.rows.Rows.reserve_behind.Goals as goal
+use Rattle.qpack_table.proofs.dynamic.index.rows.Rows.reserve_with_split.Goals as goal
 
 pub returns-clause-rows : goal.returns-clause-rows
 returns-clause-rows c = λ part dropped entered live are.
