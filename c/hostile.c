@@ -12,8 +12,8 @@ static uint8_t text[1 << 20];
 /* What is taken beside what grows: the ends themselves, and rooms that are made at once. */
 #define BASE ((size_t)1 << 16)
 
-/* The least that an entry takes, and its index at an encoder. */
-#define ENTRY ((size_t)100)
+/* The least that an entry takes, with two strings of sixteen bytes, and its index at an encoder. */
+#define ENTRY ((size_t)112)
 #define INDEX ((size_t)10)
 
 /* ---- Tables of many entries */
