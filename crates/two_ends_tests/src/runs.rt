@@ -16,6 +16,9 @@ pub(crate) struct Runs {
     events: Vec<String>,
 }
 
+/// A session and the outcomes of its run, or why it is refused.
+type SessionRun = Result<(Session, Vec<Outcome>), Error>;
+
 /// What the answer of a run has if an event, or the run, was refused memory.
 const REFUSED: &str = "refused Memory";
 
@@ -72,11 +75,16 @@ impl Runs {
         Ok(())
     }
 
-    /// Appends the outcomes of a session's run, and the capacity then; or why it is refused.
-    fn run_session(&self, alloc: Global, words: &mut Words<'_>, answer: &mut String) -> Result<()> {
+    /// Runs a session over the events.
+    fn session_run(&self, alloc: Global, words: &mut Words<'_>) -> Result<SessionRun> {
         let (capacity, limit) = (words.count()?, words.count()?);
         let events = self.session_events(alloc)?;
-        push_session_run(answer, &run(alloc, capacity, limit, &events))
+        Ok(run(alloc, capacity, limit, &events))
+    }
+
+    /// Appends the outcomes of a session's run, and the capacity then; or why it is refused.
+    fn run_session(&self, alloc: Global, words: &mut Words<'_>, answer: &mut String) -> Result<()> {
+        push_session_run(answer, &self.session_run(alloc, words)?)
     }
 
     /// Appends the outcomes of a connection's run, and the capacity then; or why it is refused.
@@ -91,19 +99,14 @@ impl Runs {
         push_connection_run(answer, &ends::run(alloc, settings, events))
     }
 
-    /// Appends, for each of the outcomes of a session's run, how many of them equal it.
+    /// Appends, for each of the outcomes of a session's run, how many of them equal it; or why it is refused.
     fn push_equal_outcomes(
         &self,
         alloc: Global,
         words: &mut Words<'_>,
         answer: &mut String,
     ) -> Result<()> {
-        let (capacity, limit) = (words.count()?, words.count()?);
-        let events = self.session_events(alloc)?;
-        match &run(alloc, capacity, limit, &events) {
-            Ok((_, outcomes)) => push_equals(answer, outcomes),
-            Err(error) => push_refused(answer, error),
-        }
+        push_equals_of_run(answer, &self.session_run(alloc, words)?)
     }
 
     /// The events, for a session.
@@ -160,10 +163,7 @@ fn push_capacity(answer: &mut String, table: &DynamicTable) -> Result<()> {
 }
 
 /// Appends the outcomes of a session's run, and the capacity then; or why it is refused.
-fn push_session_run(
-    answer: &mut String,
-    ran: &Result<(Session, Vec<Outcome>), Error>,
-) -> Result<()> {
+fn push_session_run(answer: &mut String, ran: &SessionRun) -> Result<()> {
     match ran {
         Ok((session, outcomes)) => push_outcomes(answer, session, outcomes),
         Err(error) => push_refused(answer, error),
@@ -201,6 +201,14 @@ fn push_connection(
         answer.push_str("; ")?;
     }
     push_capacity(answer, connection.encoder().table())
+}
+
+/// Appends, for each of the outcomes of a session's run, how many of them equal it; or why it is refused.
+fn push_equals_of_run(answer: &mut String, ran: &SessionRun) -> Result<()> {
+    match ran {
+        Ok((_, outcomes)) => push_equals(answer, outcomes),
+        Err(error) => push_refused(answer, error),
+    }
 }
 
 /// Appends, for each of the items, how many of them equal it.
