@@ -1,6 +1,6 @@
 #!/usr/bin/env bash
 # Builds the Debian packages by dist/package, installs them, and builds and runs a program over what they installed. It
-# installs them by dpkg in a system of its own, which debootstrap makes; that needs root, and a mirror as apt has it. Where
+# installs them by dpkg in a system of its own, which mmdebstrap makes; that needs root, and a mirror as apt has it. Where
 # that can't be had, it unpacks them in a folder. It needs dpkg-buildpackage, debhelper, a C compiler and pkg-config, and
 # uses lintian where it is there. Without what it needs nothing is tested, and a line says so. The last line is
 # 'N passed, M failed'.
@@ -21,12 +21,12 @@ list_missing() {
 # Makes a small Debian system in $root, of the release and by the mirror of this one, in ten minutes at most.
 make_system() {
     local source
-    [ "$(id -u)" = 0 ] && [ -z "$(list_missing debootstrap)" ] || return
+    [ "$(id -u)" = 0 ] && [ -z "$(list_missing mmdebstrap)" ] || return
     # shellcheck disable=SC2016 # the dollars are of apt-get
     source=$(apt-get indextargets --format '$(CODENAME) $(REPO_URI)' 'Created-By: Packages' 'Component: main' | head -n 1)
     # shellcheck disable=SC2086 # words
     [ -n "$source" ] &&
-        timeout 600 debootstrap --variant=minbase ${source% *} "$root" ${source#* } >"$room/bootstrapped" 2>&1
+        timeout 600 mmdebstrap --variant=essential ${source% *} "$root" ${source#* } >"$room/bootstrapped" 2>&1
 }
 
 # Installs or unpacks the packages.
@@ -105,7 +105,7 @@ if make_system; then
 else
     system=no
     rm -rf --one-file-system "$root" && mkdir "$root"
-    echo "$script: the packages are unpacked in a folder, as debootstrap made no system"
+    echo "$script: the packages are unpacked in a folder, as mmdebstrap made no system"
     try "unpack the packages" unpack
 fi
 try "a program over the shared library" try_program

@@ -1,4 +1,4 @@
-//! The bench of vectors: worked rows of QPACK (RFC 9204) over public calls.
+//! The bench of vectors: worked rows of QPACK (RFC 9204), and tests of the dynamic table, over public calls alone.
 #![tactic(auto)]
 
 #[cfg(test)]
@@ -13,5 +13,7 @@ mod lines;
 mod static_fields;
 #[cfg(test)]
 mod strings;
+#[cfg(test)]
+mod table;
 #[cfg(test)]
 mod tables;

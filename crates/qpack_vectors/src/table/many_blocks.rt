@@ -1,8 +1,8 @@
 //! Thousands of blocks of many streams, which are acknowledged, cancelled and received in any order; each result is
 //! compared with lists that are scanned (RFC 9204, sections 2.1 and 4.4).
 
-use crate::model::with_room;
-use crate::tables::{find, put, table};
+use crate::table::calls::{find, put, table};
+use crate::table::model::with_room;
 use qpack_table::dynamic::{DynamicTable, Error};
 use qpack_testing::{Numbers, field, same};
 use std::alloc::{AllocError, Global};

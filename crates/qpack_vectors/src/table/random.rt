@@ -1,7 +1,7 @@
 //! Random calls of the handle, each result compared with that of a plain second body.
 
-use crate::model::{Model, NAMES, Pair, VALUES};
-use crate::tables::{answer_to_put, find, insert, table};
+use crate::table::calls::{answer_to_put, find, insert, table};
+use crate::table::model::{Model, NAMES, Pair, VALUES};
 use qpack_base::field::HeaderField;
 use qpack_table::dynamic::{DynamicTable, DynamicTableEncoder};
 use qpack_testing::{Numbers, field, same};

@@ -1,6 +1,6 @@
 //! The newest equal live entry, and how many entries are looked at for it.
 
-use crate::tables::{answer_to_put, put, table};
+use crate::table::calls::{answer_to_put, put, table};
 use qpack_base::field::HeaderField;
 use qpack_table::dynamic::{DynamicTable, Error, Steps};
 use qpack_testing::{Numbers, field, same};
