@@ -26,7 +26,7 @@ pub size_least : (f : Field) → 32 ≤ field_size f
 size_least f = omega arith
 
 -- each entry takes 32
-entries_fit : (fs : List Field) → 32 * length fs ≤ total_size fs
+pub entries_fit : (fs : List Field) → 32 * length fs ≤ total_size fs
 entries_fit [] = omega arith
 entries_fit (f ∷ fs) = omega (arith, entries_fit fs, total_first f fs)
 

@@ -1,14 +1,14 @@
 -- What a table keeps, when entries go and come.
-use Rattle.std.proofs.Common.{◌≡◌, ℕ, ◌+◌, ◌-◌, ◌*◌, ◌^◌, ◌<◌, ◌≤◌, false, List, [], ◌∷◌, ◌++◌, length, drop, refl, sym}
+use Rattle.std.proofs.Common.{◌≡◌, ℕ, ◌+◌, ◌-◌, ◌^◌, ◌<◌, ◌≤◌, false, List, [], ◌∷◌, ◌++◌, length, drop, refl, sym}
 use Rattle.std.proofs.Common.{ap, subst, ◌∙◌, arith}
 use Rattle.std.proofs.lemmas.List.{length-drop, length-map}
 use Rattle.std.specs.List.{AllByRecursion}
 use Rattle.qpack_base.specs.HeaderFields.{field_of}
-use Rattle.qpack_spec.specs.Field.{Field, field_size, total_size}
+use Rattle.qpack_spec.specs.Field.{field_size, total_size}
 use Rattle.qpack_spec.specs.Table as table
 use Rattle.qpack_spec.specs.Table.{fields_in}
 use Rattle.qpack_spec.specs.Window.{eviction_count}
-use Rattle.qpack_spec.proofs.Sizes.{total_first}
+use Rattle.qpack_spec.proofs.Windows.{entries_fit}
 use Rattle.qpack_table.specs.Positions.{Positions}
 use Rattle.qpack_table.specs.Tables.{entry_of, entries_of, flags_of, references_in, times, AreUsed, AreCounted}
 use Rattle.qpack_table.specs.Tables.{NoneTwice}
@@ -66,12 +66,7 @@ kept_put v w es now size left capacity referenced unacknowledged e k kept room e
       indexed = indexed;
     }
 
--- each field takes 32 bytes or more (section 3.2.1)
-entries_fit : (fs : List Field) → 32 * length fs ≤ total_size fs
-entries_fit [] = omega arith
-entries_fit (f ∷ fs) = omega (arith, entries_fit fs, total_first f fs)
-
--- so those of the capacity are few
+-- each takes 32 bytes or more (section 3.2.1), so those of the capacity are few
 pub few_entries : (v : Positions) (es : List Entry) (size capacity : ℕ) → IsSized v es size capacity
     → length es < 2 ^ 31
 few_entries v es size capacity kept = omega (

@@ -1,13 +1,14 @@
 -- A row of the dynamic table's index: slots with the absolute indexes of entries, in the order of a part of their
 -- fields.
 use Rattle.std.specs.Prelude.{◌≡◌, ◌≢◌, ℕ, ◌+◌, ◌-◌, ◌%◌, ◌<◌, ◌≤◌, ◌^◌, List, [], length, slice_index_or}
-use Rattle.std.specs.Prelude.{Option, MatchOption, Result, Ok, Err, Contains, ◌⊎◌, Bool, ◌==◌, vec_capacity}
+use Rattle.std.specs.Prelude.{Option, MatchOption, Result, Ok, Err, Contains, ◌⊎◌, Bool, ◌==◌, max, vec_capacity}
 use Rattle.std.specs.List.{AllPairs}
 use Rattle.std.specs.declared.cmp.Ordering.{Ordering}
 use Rattle.std.specs.declared.cmp.Ordering.TheVariants.{Less, Equal, Greater}
 use Rattle.std.specs.Ordering.{nat_cmp, ordering_then}
 use Rattle.qpack_base.specs.HeaderFields.{field_cmp, line_of}
 use Rattle.qpack_spec.specs.Field.{Field}
+use Rattle.qpack_table.specs.Growth.{grown}
 use Rattle.qpack_table.specs.Hashes.{field_hash, name_hash, position_among}
 use Rattle.qpack_table.specs.declared.dynamic.index.row.Part.{Part}
 use Rattle.qpack_table.specs.declared.dynamic.index.row.Part.TheVariants.{Name, Whole}
@@ -65,6 +66,18 @@ key_at part dropped live s = record { hash = s.hash; field = part_at part droppe
 -- a row has room for one more slot
 abbrev pub HasRoom : Row → Type 0
 HasRoom row = length row.slots.items < vec_capacity row.slots
+
+-- the room of a row that grows
+abbrev pub grown_slots : Row → ℕ
+grown_slots row = grown 4 (length row.slots.items)
+
+-- a row takes no more room than it had, or than one that grows
+abbrev pub GrowsSlots : (old new : Row) → Type 0
+GrowsSlots old new = vec_capacity new.slots ≤ max (vec_capacity old.slots) (grown_slots old)
+
+-- a row has no more room than one that grew just now
+abbrev pub HasFewSpareSlots : Row → Type 0
+HasFewSpareSlots row = vec_capacity row.slots ≤ grown_slots row
 
 -- what is sought
 abbrev pub field_of_sought : Sought → Field

@@ -9,7 +9,8 @@ ghost use Rattle.std.specs.Ordering.{nat_cmp};
 ghost use Rattle.qpack_base.specs.HeaderFields.{field_of, field_cmp};
 ghost use Rattle.qpack_table.specs.Rows.{part_of, part_at, key_cmp, key_at, key_of, field_of_sought, IsHashed, IsSlot};
 ghost use Rattle.qpack_table.specs.Rows.{HasRoom, IsRow, IsPlace, FindsSlot, Enters, Leaves, HasIndexAt, HasNoIndex};
-ghost use Rattle.qpack_table.specs.Rows.{Counts, goes_to, index_of, slot_of, slots_a_row};
+ghost use Rattle.qpack_table.specs.Rows.{Counts, GrowsSlots, HasFewSpareSlots, goes_to, grown_slots, index_of, slot_of};
+ghost use Rattle.qpack_table.specs.Rows.{slots_a_row};
 ghost use Rattle.qpack_table.specs.Tables.{live_fields};
 
 use crate::dynamic::entry::Entry;
@@ -134,7 +135,8 @@ pub(super) struct Split {
 impl Row {
     /// Returns an empty row. It takes no memory.
     pub(super) fn new(alloc: Global) -> Row
-        ensures { result.slots.items ≡ [] }
+        ensures empty { result.slots.items ≡ [] }
+        ensures room { vec_capacity result.slots ≡ 0 }
     {
         Row {
             slots: Vec::new(alloc),
@@ -147,7 +149,8 @@ impl Row {
         ensures slots { self.new.slots.items ≡ self.old.slots.items }
         ensures ok { OnOk result (HasRoom self.new) }
         ensures full { OnErr result (HasRoom self.old → ⊥) }
-        ensures room { HasRoom self.old → HasRoom self.new }
+        ensures still { HasRoom self.old → vec_capacity self.new.slots ≡ vec_capacity self.old.slots }
+        ensures capacity { GrowsSlots self.old self.new }
     {
         if self.slots.len() < self.slots.capacity() {
             return Ok(());
@@ -160,7 +163,8 @@ impl Row {
     fn grow(&mut self) -> Result<(), AllocError>
         requires full { vec_capacity self.old.slots ≤ length self.old.slots.items }
         ensures slots { self.new.slots.items ≡ self.old.slots.items }
-        ensures ok { OnOk result (HasRoom self.new) }
+        ensures grown { OnOk result (vec_capacity self.new.slots ≡ grown_slots self.old) }
+        ensures err { OnErr result (vec_capacity self.new.slots ≡ vec_capacity self.old.slots) }
     {
         self.slots.reserve_exact(growth(self.slots.len(), SLOTS))
     }
@@ -179,6 +183,7 @@ impl Row {
         ensures stays { IfOk result (λ split. split.stays.slots.items
             ≡ filter (λ s. not (goes_to count s)) self.now.slots.items) }
         ensures goes { IfOk result (λ split. split.goes.slots.items ≡ filter (goes_to count) self.now.slots.items) }
+        ensures capacity { IfOk result (λ split. HasFewSpareSlots split.stays × HasFewSpareSlots split.goes) }
     {
         let mut split = Split {
             stays: Row::new(alloc),
@@ -198,6 +203,7 @@ impl Row {
     fn push(&mut self, slot: Slot) -> Result<(), AllocError>
         ensures ok { OnOk result (self.new.slots.items ≡ self.old.slots.items ++ slot ∷ []) }
         ensures err { OnErr result (self.new.slots.items ≡ self.old.slots.items) }
+        ensures capacity { GrowsSlots self.old self.new }
     {
         self.reserve()?;
         self.slots.push_reserved(slot);

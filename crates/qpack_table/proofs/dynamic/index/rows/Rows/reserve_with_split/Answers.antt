@@ -1,4 +1,5 @@
-use Rattle.std.proofs.Common.{◌≡◌, ◌<◌, ℕ, length, subst, rules}
+use Rattle.std.proofs.Common.{◌≡◌, ◌<◌, ℕ, List, length, ap, arith, subst, rules}
+use Rattle.qpack_table.specs.declared.dynamic.index.row.Slot.{Slot}
 use Rattle.qpack_table.proofs.HashedRows.{room_left}
 use Rattle.qpack_table.proofs.RowsChanges.{rows_changed, rows_kept}
 use Rattle.qpack_table.proofs.SplitRows.{not_last}
@@ -19,4 +20,6 @@ returns-clause-kept c = λ other has.
     let within : c.position_of-home.result < length c.args.self.now.rows.items =
     subst (λ (n : ℕ). c.position_of-home.result < n) len
     (not_last c.position_of-home.result c.len-count.result c.position_of-home.ensures.within c.if-home-count.false) in
-    room_left _ _ _ _ other within c.index_mut.ensures.value c.reserve-2.ensures.room has
+    let slots = ap (λ (s : List Slot). length s) c.reserve-2.ensures.slots in
+    room_left _ _ _ _ other within c.index_mut.ensures.value
+    (λ room. omega (arith, room, slots, c.reserve-2.ensures.still room)) has

@@ -9,5 +9,5 @@ loop-preserved c = record {
   count = search rules;
   room = search rules;
   empty = subst (λ (rows : List Row). All (λ r. r.slots.items ≡ []) rows) (sym c.push_reserved.ensures.items)
-      (All-push (λ (r : Row). r.slots.items ≡ []) c.loop.rows.items c.new.result c.loop.invariant.empty c.new.ensures);
+      (All-push (λ (r : Row). r.slots.items ≡ []) c.loop.rows.items c.new.result c.loop.invariant.empty c.new.ensures.empty);
 }
