@@ -211,8 +211,8 @@ pub fn make_room<A: Allocator>(
 /// The least room that a growth makes, in elements, if it may.
 const LEAST_GROWTH: usize = 4;
 
-/// Makes room for `additional` more elements, of at most `most`. A growth doubles the capacity, but makes no room past
-/// `most` more elements. If the room is free already, nothing changes and no memory is taken.
+/// Makes room for `additional` more elements, of at most `most`. A growth enlarges the capacity by half, but makes no
+/// room past `most` more elements. If the room is free already, nothing changes and no memory is taken.
 pub fn make_room_within<T, A: Allocator>(
     buf: &mut Vec<T, A>,
     additional: usize,
@@ -231,8 +231,8 @@ pub fn make_room_within<T, A: Allocator>(
     if additional <= free {
         return Ok(());
     }
-    let doubled = buf.capacity().saturating_add(free);
-    buf.reserve_exact(doubled.max(LEAST_GROWTH).min(most).max(additional))?;
+    let grown = (buf.capacity() / 2).saturating_add(free);
+    buf.reserve_exact(grown.max(LEAST_GROWTH).min(most).max(additional))?;
     Ok(())
 }
 

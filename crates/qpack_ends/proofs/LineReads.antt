@@ -122,17 +122,17 @@ length_with old new f text =
     omega (arith, ap length text, length-append (old ++ f.name) f.value, length-append old f.name)
 
 -- the span of a field that stands behind the text
-pub span_of : (old new : List ℕ) (start middle end first : ℕ) (f : Field) (never : Bool)
-    → new ≡ old ++ f.name ++ f.value → start ≡ length old → middle ≡ length old + length f.name
-    → end ≡ length old + length f.name + length f.value → never ≡ is_never_indexed first
-    → (let s : Span = record { start = start; middle = middle; end = end; never_indexed = never } in
-    IsWithin (length new) s × (field_at new s ≡ read_of first f))
-span_of old new start middle end first f never text b m n bit =
+pub span_of : (old new : List ℕ) (middle end first : ℕ) (f : Field) (never : Bool) → new ≡ old ++ f.name ++ f.value
+    → middle ≡ length old + length f.name → end ≡ length old + length f.name + length f.value
+    → never ≡ is_never_indexed first
+    → (let s : Span = record { middle = middle; end = end; never_indexed = never } in
+    IsWithin (length new) (length old) s × (field_at new (length old) s ≡ read_of first f))
+span_of old new middle end first f never text m n bit =
     let long = length_with old new f text in
-    let name : slice_range new start middle ≡ f.name = rw (b, m, text) (name_cut old f.name f.value) in
+    let name : slice_range new (length old) middle ≡ f.name = rw (m, text) (name_cut old f.name f.value) in
     let value : slice_range new middle end ≡ f.value = rw (m, text) (value_cut old f.name f.value end n) in (
       record {
-        name = omega (arith, b, m);
+        name = omega (arith, m);
         value = omega (arith, n, m);
         within = omega (arith, n, long);
       },

@@ -2,7 +2,6 @@
 use Rattle.std.proofs.Common.{◌≡◌, ℕ, zero, suc, ◌+◌, ◌-◌, ◌<◌, ◌≤◌, List, [], ◌∷◌, ◌++◌, length, Result, Ok, Err}
 use Rattle.std.proofs.Common.{refl, sym, ap, subst, ◌∙◌, arith, append_assoc, append-nil, drop}
 use Rattle.std.specs.Prelude.{slice_range, slice_get, None, Some}
-use Rattle.std.specs.List.{AllByRecursion}
 use Rattle.std.proofs.lemmas.List.{take-append-le, drop-append-le, length-drop}
 use Rattle.qpack_spec.specs.Bytes.{◌>>=◌}
 use Rattle.qpack_spec.specs.Field.{field_size, FieldLine}
@@ -13,9 +12,10 @@ use Rattle.qpack_ends.specs.declared.field_section.Span.{Span}
 use Rattle.qpack_ends.specs.declared.section.LineError.{LineError}
 use Rattle.qpack_ends.specs.declared.section.LineError.TheVariants as line
 use Rattle.qpack_ends.specs.declared.section.lines.Lines.{Lines}
-use Rattle.qpack_ends.specs.FieldSections.{IsWithin, field_at, fields_in}
+use Rattle.qpack_ends.specs.FieldSections.{IsWithin, AreInTurn, field_at, fields_in}
 use Rattle.qpack_ends.specs.Lines.{FailsLine, under, Adds}
 use Rattle.qpack_ends.specs.Sections.{FailsSection, error_at}
+use Rattle.qpack_ends.proofs.SpansInTurn.{first_within}
 
 -- ---- fields of a text that grows
 
@@ -26,34 +26,41 @@ cut_again text more i j le within =
     let long : length (drop i text) ≡ length text - i = length-drop i text in
     rw at (take-append-le (j - i) (drop i text) more (omega (arith, le, within, long)))
 
-field_again : (text more : List ℕ) (s : Span) → IsWithin (length text) s → field_at (text ++ more) s ≡ field_at text s
-field_again text more s w =
+field_again : (text more : List ℕ) (start : ℕ) (s : Span) → IsWithin (length text) start s
+    → field_at (text ++ more) start s ≡ field_at text start s
+field_again text more start s w =
     rw (
-      cut_again text more s.start s.middle w.name (omega (arith, w.value, w.within)),
+      cut_again text more start s.middle w.name (omega (arith, w.value, w.within)),
       cut_again text more s.middle s.end w.value w.within,
     ) refl
 
-fields_again : (text more : List ℕ) (spans : List Span) → AllByRecursion (IsWithin (length text)) spans
-    → fields_in (text ++ more) spans ≡ fields_in text spans
-fields_again text more [] w = refl
-fields_again text more (s ∷ spans) w = rw (field_again text more s w.0, fields_again text more spans w.1) refl
+fields_again : (text more : List ℕ) (start : ℕ) (spans : List Span) → AreInTurn start spans (length text)
+    → fields_in (text ++ more) start spans ≡ fields_in text start spans
+fields_again text more start [] k = refl
+fields_again text more start (s ∷ spans) (name, value, in_turn) =
+    rw (
+      field_again text more start s (first_within start (length text) s spans (name, value, in_turn)),
+      fields_again text more s.end spans in_turn,
+    ) refl
 
-map_last : (text : List ℕ) (spans : List Span) (s : Span) → fields_in text (spans ++ s ∷ [])
-    ≡ fields_in text spans ++ field_at text s ∷ []
-map_last text [] s = refl
-map_last text (t ∷ spans) s = ap (λ fs. field_at text t ∷ fs) (map_last text spans s)
+-- the last begins at the end of those before it
+fields_last : (text : List ℕ) (start end : ℕ) (spans : List Span) (s : Span) → AreInTurn start spans end
+    → fields_in text start (spans ++ s ∷ []) ≡ fields_in text start spans ++ field_at text end s ∷ []
+fields_last text start end [] s k = ap (λ (n : ℕ). field_at text n s ∷ []) k
+fields_last text start end (t ∷ spans) s (name, value, in_turn) =
+    ap (λ fs. field_at text start t ∷ fs) (fields_last text t.end end spans s in_turn)
 
 -- with one more field, the fields are those before it and it
 pub fields_more : (old new : CursorView) (text_old text_new : List ℕ) (spans_old spans_new : List Span) (all sum : ℕ)
     (read : Result (FieldLine × List ℕ) LineFault)
     → (a : Adds old new text_old text_new spans_old spans_new all sum read)
-    → AllByRecursion (IsWithin (length text_old)) spans_old
-    → fields_in text_new spans_new ≡ fields_in text_old spans_old ++ a.field ∷ []
-fields_more old new text_old text_new spans_old spans_new all sum read a w =
-    ap (fields_in text_new) a.spans ∙ map_last text_new spans_old a.span
-    ∙ ap (λ f. fields_in text_new spans_old ++ f ∷ []) a.at
-    ∙ ap (λ t. fields_in t spans_old ++ a.field ∷ []) a.text
-    ∙ ap (λ fs. fs ++ a.field ∷ []) (fields_again text_old a.more spans_old w)
+    → AreInTurn 0 spans_old (length text_old)
+    → fields_in text_new 0 spans_new ≡ fields_in text_old 0 spans_old ++ a.field ∷ []
+fields_more old new text_old text_new spans_old spans_new all sum read a k =
+    ap (fields_in text_new 0) a.spans ∙ fields_last text_new 0 (length text_old) spans_old a.span k
+    ∙ ap (λ f. fields_in text_new 0 spans_old ++ f ∷ []) a.at
+    ∙ ap (λ t. fields_in t 0 spans_old ++ a.field ∷ []) a.text
+    ∙ ap (λ fs. fs ++ a.field ∷ []) (fields_again text_old a.more 0 spans_old k)
 
 -- ---- the lines behind those that were read
 

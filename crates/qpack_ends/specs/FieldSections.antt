@@ -1,21 +1,28 @@
 -- The fields of a section, each a name and a value cut out of one text.
-use Rattle.std.specs.Prelude.{◌≡◌, ◌<◌, ◌≤◌, ◌/◌, ◌⊎◌, ℕ, max, List, [], ◌∷◌, ◌++◌, Option, None, Some, map, slice_range}
+use Rattle.std.specs.Prelude.{◌≡◌, ◌<◌, ◌≤◌, ◌/◌, ◌⊎◌, ℕ, zero, suc, max, List, [], ◌∷◌, ◌++◌, Option, None, Some, slice_range}
 use Rattle.qpack_spec.specs.Field.{FieldLine}
 use Rattle.qpack_base.specs.HeaderFields.{line_of}
 use Rattle.qpack_base.specs.declared.field.FieldLine.{FieldLine as LentLine}
 use Rattle.qpack_ends.specs.declared.field_section.Span.{Span}
 
--- the field of a span of the text
-abbrev pub field_at : List ℕ → Span → FieldLine
-field_at text s =
+-- the field of a span of the text, which begins here
+abbrev pub field_at : List ℕ → ℕ → Span → FieldLine
+field_at text start s =
     record {
-      field = record { name = slice_range text s.start s.middle; value = slice_range text s.middle s.end };
+      field = record { name = slice_range text start s.middle; value = slice_range text s.middle s.end };
       never_indexed = s.never_indexed;
     }
 
--- the fields of spans of the text
-abbrev pub fields_in : List ℕ → List Span → List FieldLine
-fields_in text spans = map (field_at text) spans
+-- the fields of spans of the text: the first begins here, each further one at the end of the one before it
+abbrev pub fields_in : List ℕ → ℕ → List Span → List FieldLine
+fields_in text start [] = []
+fields_in text start (s ∷ spans) = field_at text start s ∷ fields_in text s.end spans
+
+-- where the field at an index begins, if the first begins here
+abbrev pub start_of : ℕ → List Span → ℕ → ℕ
+start_of start spans zero = start
+start_of start [] (suc i) = start
+start_of start (s ∷ spans) (suc i) = start_of s.end spans i
 
 -- a field's name, followed by its value
 abbrev pub text_of_field : FieldLine → List ℕ
@@ -26,18 +33,17 @@ abbrev pub text_of : List FieldLine → List ℕ
 text_of [] = []
 text_of (f ∷ fs) = text_of_field f ++ text_of fs
 
--- the span is within a text of this many bytes
-pub record IsWithin (len : ℕ) (s : Span) : Type 0 where
-  pub name : s.start ≤ s.middle
+-- the span, which begins here, is within a text of this many bytes
+pub record IsWithin (len start : ℕ) (s : Span) : Type 0 where
+  pub name : start ≤ s.middle
   pub value : s.middle ≤ s.end
   pub within : s.end ≤ len
 
--- the spans are in turn: the first begins here, each further one begins at the end of the one before it, and the last
--- ends the text of this many bytes
+-- the spans are in turn: the first begins here, each further one at the end of the one before it, and the last ends the
+-- text of this many bytes
 abbrev pub AreInTurn : ℕ → List Span → ℕ → Type 0
-AreInTurn at [] len = at ≡ len
-AreInTurn at (s ∷ spans) len =
-    (s.start ≡ at) × (s.start ≤ s.middle) × (s.middle ≤ s.end) × AreInTurn s.end spans len
+AreInTurn start [] len = start ≡ len
+AreInTurn start (s ∷ spans) len = (start ≤ s.middle) × (s.middle ≤ s.end) × AreInTurn s.end spans len
 
 -- the fields of a section, and how many bytes of names and values, and how many fields, there is memory for
 pub record SectionView : Type 0 where

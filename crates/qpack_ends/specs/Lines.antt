@@ -155,10 +155,9 @@ pub record Adds (old new : CursorView) (text_old text_new : List ℕ) (spans_old
   pub spans : spans_new ≡ spans_old ++ span ∷ []
   pub more : List ℕ
   pub text : text_new ≡ text_old ++ more
-  pub within : IsWithin (length text_new) span
-  pub start : span.start ≡ length text_old
+  pub within : IsWithin (length text_new) (length text_old) span
   pub end : span.end ≡ length text_new
-  pub at : field_at text_new span ≡ field
+  pub at : field_at text_new (length text_old) span ≡ field
   pub sum_is : sum ≡ saturated_size (all + field_size field.field)
   pub shorter : length new.rest < length old.rest
   pub total : new.total ≡ old.total

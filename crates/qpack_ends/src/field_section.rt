@@ -1,14 +1,13 @@
 //! The fields of a section, in memory that is kept from section to section.
 
-ghost use Rattle.std.specs.Prelude.{◌≡◌, ◌≤◌, ◌/◌, ℕ, List, [], length, nat_eq, slice_get, vec_capacity, Err};
+ghost use Rattle.std.specs.Prelude.{◌≡◌, ◌<◌, ◌≤◌, ◌/◌, ℕ, List, [], length, nat_eq, slice_get, vec_capacity, Err};
 ghost use Rattle.std.specs.Option.{option_map};
-ghost use Rattle.std.specs.List.{AllByRecursion};
 ghost use Rattle.qpack_spec.specs.Bytes.{Begins};
 ghost use Rattle.qpack_spec.specs.StrictReading.{strict_lines_at};
 ghost use Rattle.qpack_wire.specs.Memory.{AsksLine};
 ghost use Rattle.qpack_base.specs.HeaderFields.{line_of};
 ghost use Rattle.qpack_ends.specs.FieldSections.{IsWithin, GrowsTo, GrowsWithin, LacksRoomWithin, text_of};
-ghost use Rattle.qpack_ends.specs.FieldSections.{field_at as field_of_span};
+ghost use Rattle.qpack_ends.specs.FieldSections.{field_at as field_of_span, start_of as start_of_span};
 ghost use Rattle.qpack_ends.specs.Lines.{under};
 ghost use Rattle.qpack_ends.specs.Sections.{ReadsLines};
 ghost use Rattle.qpack_ends.specs.declared.section.SectionError.TheVariants.{Memory};
@@ -21,11 +20,10 @@ use qpack_table::dynamic::EntryIndex;
 use std::alloc::Global;
 use std::marker::Model;
 
-/// Where a field is in a text, in bytes from its start, and how its line was spelled.
+/// Where a field is in a text, in bytes from the start of the text, and how its line was spelled. Its name begins where
+/// the field before it ends. The first begins at 0.
 #[derive(Clone, Copy, Debug, Drop)]
 pub(crate) struct Span {
-    /// Where the name begins.
-    pub(crate) start: usize,
     /// Where the name ends and the value begins.
     pub(crate) middle: usize,
     /// Where the value ends.
@@ -34,21 +32,29 @@ pub(crate) struct Span {
     pub(crate) never_indexed: bool,
 }
 
-/// Returns the field of a span.
-fn field_at<'a>(text: &'a [u8], span: &Span) -> FieldLine<'a>
-    requires { IsWithin (length text.now) span.now }
-    ensures { line_of result ≡ field_of_span text.now span.now }
+/// Returns the field of a span, whose name begins at `start`.
+fn field_at<'a>(text: &'a [u8], start: usize, span: &Span) -> FieldLine<'a>
+    requires { IsWithin (length text.now) start span.now }
+    ensures { line_of result ≡ field_of_span text.now start span.now }
 {
     FieldLine {
-        name: &text[span.start..span.middle],
+        name: &text[start..span.middle],
         value: &text[span.middle..span.end],
         never_indexed: span.never_indexed,
     }
 }
 
+/// Returns where the field at an index begins.
+fn start_of(spans: &[Span], index: usize) -> usize
+    requires { index < length spans.now }
+    ensures { result ≡ start_of_span 0 spans.now index }
+{
+    if index == 0 { 0 } else { spans[index - 1].end }
+}
+
 /// The fields of a section: names and values one after the other in one text, which holds nothing else. It keeps its
 /// memory from section to section. Reading under a limit of n bytes makes room for at most n bytes of text, and for n /
-/// 32 fields of 32 bytes each: both together take at most 2n bytes. Once there is that much room, it asks for no
+/// 32 spans of 24 bytes each: both together take at most 7n / 4 bytes. Once there is that much room, it asks for no
 /// memory. Only `expect` or a greater limit makes room for more, which is given back when a section is rejected.
 #[derive(Debug, Drop)]
 pub struct FieldSection {
@@ -63,7 +69,7 @@ impl Model for FieldSection {
     ghost Value = { SectionView };
 
     ghost view = { λ s. record {
-      fields = fields_in s.text.items s.spans.items;
+      fields = fields_in s.text.items 0 s.spans.items;
       text_room = vec_capacity s.text;
       fields_room = vec_capacity s.spans;
     } };
@@ -83,6 +89,7 @@ impl FieldSection {
     }
 
     /// Returns how many fields there are.
+    #[tactic(auto, using(crate::proofs::SpansInTurn::count_in))]
     pub fn len(&self) -> usize
         ensures { result ≡ length self.now.fields }
     {
@@ -90,6 +97,7 @@ impl FieldSection {
     }
 
     /// Returns whether there is no field.
+    #[tactic(auto, using(crate::proofs::SpansInTurn::count_in))]
     pub fn is_empty(&self) -> bool
         ensures { result ≡ nat_eq (length self.now.fields) 0 }
     {
@@ -97,19 +105,21 @@ impl FieldSection {
     }
 
     /// Returns the field at an index, from 0.
+    #[tactic(auto, using(crate::proofs::SpansInTurn::within_at, crate::proofs::SpansInTurn::field_there, crate::proofs::SpansInTurn::no_field_there))]
     pub fn get(&self, index: usize) -> Option<FieldLine<'_>>
         ensures { option_map line_of result ≡ slice_get self.now.fields index }
     {
-        self.iter().at(index)
+        let span = self.spans.get(index)?;
+        Some(field_at(&self.text, start_of(&self.spans, index), span))
     }
 
     /// Returns the fields, in the order of their lines.
-    #[tactic(auto, using(crate::proofs::SpansInTurn::all_within))]
     pub fn iter(&self) -> Fields<'_>
         ensures { result ≡ self.now.fields }
     {
         Fields {
             text: &self.text,
+            start: 0,
             spans: &self.spans,
         }
     }
@@ -158,6 +168,7 @@ impl FieldSection {
     }
 
     /// Reads the lines of a section to the end of the cursor, into a field section without fields.
+    #[tactic(auto, using(crate::proofs::SpansInTurn::none_in))]
     pub(crate) fn read_lines<I: EntryIndex>(
         &mut self,
         lines: &Lines<I>,
@@ -179,31 +190,21 @@ impl FieldSection {
 #[derive(Debug, Drop)]
 pub struct Fields<'a> {
     text: &'a [u8],
+    /// Where the first of them begins.
+    start: usize,
     spans: &'a [Span],
 }
 
 impl<'a> Model for Fields<'a> {
     ghost use Rattle.std.specs.Prelude.{List, length};
-    ghost use Rattle.std.specs.List.{AllByRecursion};
     ghost use Rattle.qpack_spec.specs.Field.{FieldLine};
-    ghost use Rattle.qpack_base.specs.HeaderFields.{line_of};
-    ghost use Rattle.qpack_ends.specs.FieldSections.{IsWithin, fields_in};
+    ghost use Rattle.qpack_ends.specs.FieldSections.{AreInTurn, fields_in};
 
     ghost Value = { List FieldLine };
 
-    ghost view = { λ s. fields_in s.text.now s.spans.now };
+    ghost view = { λ s. fields_in s.text.now s.start s.spans.now };
 
-    ghost invariant = { λ s. AllByRecursion (IsWithin (length s.text.now)) s.spans.now };
-}
-
-impl<'a> Fields<'a> {
-    /// Returns the field at an index of those that are still to come, from 0.
-    fn at(&self, index: usize) -> Option<FieldLine<'a>>
-        ensures { option_map line_of result ≡ slice_get self.now index }
-    {
-        let span = self.spans.get(index)?;
-        Some(field_at(self.text, span))
-    }
+    ghost invariant = { λ s. AreInTurn s.start s.spans.now (length s.text.now) };
 }
 
 impl<'a> Iterator for Fields<'a> {
@@ -217,9 +218,12 @@ impl<'a> Iterator for Fields<'a> {
 
     ghost remaining = { λ left. at_most (length left) };
 
+    #[tactic(auto, using(crate::proofs::SpansInTurn::front_within))]
     fn next(&mut self) -> Option<FieldLine<'a>> {
         let (first, rest) = self.spans.split_first()?;
+        let field = field_at(self.text, self.start, first);
+        self.start = first.end;
         self.spans = rest;
-        Some(field_at(self.text, first))
+        Some(field)
     }
 }

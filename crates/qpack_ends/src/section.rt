@@ -146,8 +146,8 @@ pub fn longest_section(size: u64) -> u64
 
 /// Reads a section under a table, strictly, and up to a limit on the sum of its fields' sizes in bytes (RFC 9204,
 /// section 3.2.1). It first empties the field section, which stays empty unless `Reading::Fields` is returned. It
-/// appends nothing that exceeds the limit: under a limit of n bytes the field section grows to at most 2n bytes. With
-/// room for n bytes of text and for n / 32 fields it asks for no memory.
+/// appends nothing that exceeds the limit: under a limit of n bytes the field section grows to at most 7n / 4 bytes.
+/// With room for n bytes of text and for n / 32 fields it asks for no memory.
 ///
 /// # Errors
 ///

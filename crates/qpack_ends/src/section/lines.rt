@@ -393,7 +393,6 @@ fn read_line<I: EntryIndex>(
     }
     let middle = start + lengths.name;
     let span = Span {
-        start,
         middle,
         end: middle + lengths.value,
         never_indexed: is_never_indexed(first),
@@ -435,7 +434,7 @@ pub(crate) fn read_lines<I: EntryIndex>(
 ) -> Result<(), SectionError>
     requires none { spans.old.items ≡ [] }
     requires empty { text.old.items ≡ [] }
-    ensures exact { ReadsLines result (fields_in text.new.items spans.new.items)
+    ensures exact { ReadsLines result (fields_in text.new.items 0 spans.new.items)
         (strict_lines_at (length buf.old.rest) (under lines.now buf.old.total) 0 0 buf.old.rest) }
     ensures in_turn { AreInTurn 0 spans.new.items (length text.new.items) }
     ensures memory { result ≡ Err OutOfMemory → Begins AsksLine buf.old.rest }

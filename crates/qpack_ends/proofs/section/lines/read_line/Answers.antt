@@ -45,13 +45,11 @@ returns-in-Ok-make_room_within-clause-exact g c all held =
     (omega (arith, c.if-sum-lines.false)) (omega (arith, c.if-sum.false, c.saturating_add-sum.ensures))
     c.most_of_field-most.ensures in
     let text = h.2.text (omega (arith, room.0, h.2.name, h.2.value)) in
-    let span = span_of c.args.text.now.items c.append_line.new.text.items start (start + name) (start + name + value)
-    c.args.first h.0 c.is_never_indexed.result text (omega (arith, c.len-start.ensures))
-    (omega (arith, c.len-start.ensures, h.2.name)) (omega (arith, c.len-start.ensures, h.2.name, h.2.value))
-    c.is_never_indexed.ensures in
+    let span = span_of c.args.text.now.items c.append_line.new.text.items (start + name) (start + name + value)
+    c.args.first h.0 c.is_never_indexed.result text (omega (arith, c.len-start.ensures, h.2.name))
+    (omega (arith, c.len-start.ensures, h.2.name, h.2.value)) c.is_never_indexed.ensures in
     let added : Span =
     record {
-      start = start;
       middle = start + name;
       end = start + name + value;
       never_indexed = c.is_never_indexed.result;
@@ -66,7 +64,6 @@ returns-in-Ok-make_room_within-clause-exact g c all held =
       more = h.0.name ++ h.0.value;
       text = text ∙ append_assoc c.args.text.now.items h.0.name h.0.value;
       within = span.0;
-      start = omega (arith, c.len-start.ensures);
       end = omega (arith, c.len-start.ensures, h.2.name, h.2.value, ap length text, length-append c.args.text.now.items (h.0.name ++ h.0.value), length-append h.0.name h.0.value, ap length (append_assoc c.args.text.now.items h.0.name h.0.value));
       at = span.1;
       sum_is = sum;

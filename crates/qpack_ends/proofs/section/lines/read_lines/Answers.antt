@@ -7,7 +7,7 @@ use Rattle.qpack_ends.specs.FieldSections.{fields_in}
 use Rattle.qpack_ends.specs.Lines.{under}
 use Rattle.qpack_ends.proofs.SectionLines.{fields_more, goes_bad, goes_on, goes_end, first_is}
 use Rattle.qpack_ends.proofs.SectionLines.{none_is}
-use Rattle.qpack_ends.proofs.SpansInTurn.{all_within, in_turn_more}
+use Rattle.qpack_ends.proofs.SpansInTurn.{in_turn_more}
 use Rattle.qpack_wire.proofs.Asking.{asks_begun}
 use Rattle.qpack_ends.proofs.Asking.{held_begun, lacks_before, memory_at}
 use Rattle.qpack_ends.proofs.section.lines.read_lines.Goals as goal
@@ -22,7 +22,7 @@ loop-byte-preserved g c =
     let a = c.in-Ok.ensures.exact inv.0 inv.1 in
     let fields = fields_more c.loop-byte.buf c.read_line.new.buf c.loop-byte.text.items c.read_line.new.text.items
     c.loop-byte.spans.items c.read_line.new.spans.items inv.0 c.in-Ok.with read a
-    (all_within 0 (length c.loop-byte.text.items) c.loop-byte.spans.items c.loop-byte.invariant.in_turn) in
+    c.loop-byte.invariant.in_turn in
     let number : length c.read_line.new.spans.items ≡ suc (length c.loop-byte.spans.items) =
     omega (arith, ap length a.spans, length-append c.loop-byte.spans.items (a.span ∷ [])) in
     record {
@@ -31,7 +31,7 @@ loop-byte-preserved g c =
         a.sum_is,
         rw (number, fields)
             (goes_on c.args.lines.now c.args.buf.now.total (length c.loop-byte.spans.items) inv.0 rest
-            (fields_in c.loop-byte.text.items c.loop-byte.spans.items) _ c.in-Some.byte.now (drop 1 rest) a.field
+            (fields_in c.loop-byte.text.items 0 c.loop-byte.spans.items) _ c.in-Some.byte.now (drop 1 rest) a.field
             c.read_line.new.buf.rest inv.2 at a.is a.shorter),
       );
       in_turn = in_turn_more c.loop-byte.buf c.read_line.new.buf c.loop-byte.text.items c.read_line.new.text.items
@@ -57,7 +57,7 @@ returns-in-Err-clause-exact g c =
     omega (arith, c.position-offset.ensures, c.loop-byte.invariant.total) in
     rw (c.at_line.ensures, number, offset)
     (goes_bad c.args.lines.now c.args.buf.now.total (length c.loop-byte.spans.items) inv.0 rest
-    (fields_in c.loop-byte.text.items c.loop-byte.spans.items) _ c.in-Some.byte.now (drop 1 rest) c.in-Err.error inv.2
+    (fields_in c.loop-byte.text.items 0 c.loop-byte.spans.items) _ c.in-Some.byte.now (drop 1 rest) c.in-Err.error inv.2
     at
     (c.in-Err.ensures.exact inv.0 inv.1).0)
 
@@ -65,7 +65,7 @@ pub returns-clause-exact : goal.returns-clause-exact
 returns-clause-exact g c =
     let inv = c.loop-byte.invariant.lines in
     goes_end (under c.args.lines.now c.args.buf.now.total) (length c.loop-byte.spans.items) inv.0 c.loop-byte.buf.rest
-    (fields_in c.loop-byte.text.items c.loop-byte.spans.items) _ inv.2
+    (fields_in c.loop-byte.text.items 0 c.loop-byte.spans.items) _ inv.2
     (none_is c.loop-byte.buf.rest
     (ap (λ (l : List ℕ). slice_get l 0) (sym c.chunk.ensures) ∙ sym c.in_default.ensures.value))
 

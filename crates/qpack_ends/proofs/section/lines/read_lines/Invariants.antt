@@ -12,7 +12,7 @@ invariant-loop-byte g l = record {
   lines :
       (all : ℕ) × (l.sum ≡ saturated_size all)
       × Goes (under l.fn.lines l.fn.buf.total) (length l.spans.items) all l.buf.rest
-      (fields_in l.text.items l.spans.items)
+      (fields_in l.text.items 0 l.spans.items)
       (strict_lines_at (length l.fn.buf.rest) (under l.fn.lines l.fn.buf.total) 0 0 l.fn.buf.rest);
   in_turn : AreInTurn 0 l.spans.items (length l.text.items);
   begun : HasBegun l.fn.buf.rest l.buf.rest;
