@@ -13,7 +13,7 @@ static uint8_t text[1 << 20];
 #define BASE ((size_t)1 << 16)
 
 /* The least that an entry takes, with two strings of sixteen bytes, and its index at an encoder. */
-#define ENTRY ((size_t)112)
+#define ENTRY ((size_t)80)
 #define INDEX ((size_t)10)
 
 /* ---- Tables of many entries */

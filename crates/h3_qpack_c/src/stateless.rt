@@ -16,7 +16,7 @@ use crate::fields::{Field, give_all, write};
 use crate::statuses::{BLOCKED, NO_MEMORY, status_of_line, status_of_section};
 use qpack_codec::encoder::encode_section_stateless;
 use qpack_ends::{FieldSection, Reading, SectionError, read_section};
-use qpack_table::dynamic::DynamicTable;
+use qpack_table::dynamic::ReceivedPackedTable;
 use std::alloc::Global;
 
 /// The most room that is made before a section is written, in bytes.
@@ -91,7 +91,12 @@ fn read_alone(
 {
     let (lines, bytes) = (section.len() / LINE_LEN, section.len().saturating_mul(2));
     fields.expect(lines.min(most_fields), bytes.min(most_bytes));
-    read_section(&DynamicTable::new(alloc), section, limit, fields)
+    read_section(
+        &ReceivedPackedTable::without_index(alloc),
+        section,
+        limit,
+        fields,
+    )
 }
 
 /// Returns the result for a section that was read, and copies its fields; or the result for one that is rejected.

@@ -8,12 +8,13 @@ ghost use Rattle.h3_qpack_c.specs.Tables.{entry_at};
 
 use crate::answers::Given;
 use crate::fields::{give, no_field};
+use qpack_base::stored_field::StoredField;
 use qpack_table::dynamic::{DynamicTable, EntryIndex};
 
 /// Copies the name and the value of an entry to a caller's memory, one after the other, if both fit. Index 0 is the
 /// newest entry.
-pub(crate) fn give_entry<I: EntryIndex>(
-    table: &DynamicTable<I>,
+pub(crate) fn give_entry<I: EntryIndex, F: StoredField>(
+    table: &DynamicTable<I, F>,
     index: usize,
     out: &mut [u8],
 ) -> Given
@@ -26,7 +27,7 @@ pub(crate) fn give_entry<I: EntryIndex>(
 }
 
 /// Returns how many entries a table has. It is found by binary search.
-pub(crate) fn count_entries<I: EntryIndex>(table: &DynamicTable<I>) -> usize
+pub(crate) fn count_entries<I: EntryIndex, F: StoredField>(table: &DynamicTable<I, F>) -> usize
     ensures { result ≡ length table.now.live }
 {
     let mut low = 0;
@@ -43,7 +44,7 @@ pub(crate) fn count_entries<I: EntryIndex>(table: &DynamicTable<I>) -> usize
 }
 
 /// Returns whether a table has an entry at an index.
-fn has_entry<I: EntryIndex>(table: &DynamicTable<I>, index: usize) -> bool
+fn has_entry<I: EntryIndex, F: StoredField>(table: &DynamicTable<I, F>, index: usize) -> bool
     ensures { result ≡ nat_lt index (length table.now.live) }
 {
     match table.get_relative(index) {
@@ -53,7 +54,7 @@ fn has_entry<I: EntryIndex>(table: &DynamicTable<I>, index: usize) -> bool
 }
 
 /// Returns the sum of the sizes of a table's entries, in bytes (RFC 9204, section 3.2.1). It takes time for each entry.
-pub(crate) fn sum_sizes<I: EntryIndex>(table: &DynamicTable<I>) -> usize
+pub(crate) fn sum_sizes<I: EntryIndex, F: StoredField>(table: &DynamicTable<I, F>) -> usize
     ensures { result ≡ total_size (fields_in table.now.live) }
 {
     let mut size = 0usize;

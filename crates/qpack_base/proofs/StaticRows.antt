@@ -1,9 +1,10 @@
 -- A row of a part of the static table stands in the table, and what a look for a field finds.
 use Rattle.std.proofs.Common.{◌≡◌, ℕ, zero, suc, ◌+◌, ◌<◌, ◌≤◌, List, [], ◌∷◌, length, take, drop, get_or}
-use Rattle.std.proofs.Common.{Option, Some, None, refl, sym, ap, ◌∙◌, arith}
+use Rattle.std.proofs.Common.{Option, Some, None, refl, sym, ap, subst, ◌∙◌, arith, inl, inr}
+use Rattle.std.proofs.lemmas.Bool.{cases_lt}
 use Rattle.std.proofs.lemmas.List.{length-map, length-take-le, length-drop}
 use Rattle.std.proofs.lemmas.Option.{slice_get-map, slice_get-get_or, slice_get_past}
-use Rattle.std.specs.Prelude.{slice_get}
+use Rattle.std.specs.Prelude.{slice_get, IsSome}
 use Rattle.std.specs.Option.{option_map}
 use Rattle.std.specs.Borrow.{Bor}
 use Rattle.qpack_spec.specs.Field.{Field}
@@ -38,6 +39,14 @@ row_there rows n first at index d are is within fits =
 
 pub no_row : (index : ℕ) → 99 ≤ index → None ≡ slice_get static_table index
 no_row index past = sym (slice_get_past static_table index (omega (arith, has_99)))
+
+-- the index of a row is below 99
+pub row_below : (index : ℕ) → IsSome (slice_get static_table index) → index < 99
+row_below index there =
+    elim (cases_lt index 99) [
+      | inl below ↦ below
+      | inr past ↦ let none = subst IsSome (sym (no_row index past)) there in absurd cc
+    ]
 
 -- ---- what a look for a field finds
 

@@ -7,6 +7,7 @@ pub mod Refusals
 pub mod Integers
 pub mod HeaderFields
 pub mod StaticFields
+pub mod PackedFields
 pub mod HuffmanTables
 pub mod BitPositions
 pub mod Payloads

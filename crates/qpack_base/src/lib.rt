@@ -9,3 +9,4 @@ pub mod parse_error;
 pub mod prefix_int;
 pub mod prefix_string;
 pub mod static_;
+pub mod stored_field;

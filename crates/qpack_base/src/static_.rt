@@ -53,6 +53,14 @@ impl StaticTable {
         })
     }
 
+    /// Returns the name of the field at an index, from 0 to 98. A greater index has none.
+    #[inline(always)]
+    pub fn name(index: usize) -> Option<&'static [u8]>
+        ensures { option_copied result ≡ option_map (λ f. f.name) (slice_get static_table index) }
+    {
+        row(index).map(|row| row.0)
+    }
+
     /// Returns the equal field, or else the first one with the name, in one search.
     #[inline(always)]
     pub fn lookup(name: &[u8], value: &[u8]) -> Option<StaticMatch>

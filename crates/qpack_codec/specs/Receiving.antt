@@ -16,9 +16,7 @@ use Rattle.qpack_spec.specs.Table.{Table, window, insert_count, apply_encoder_in
 use Rattle.qpack_spec.specs.Window.{TableRefusal, NoEntry, NoStaticField, DoesNotFit, AboveMaximum, UnknownStream}
 use Rattle.qpack_spec.specs.Window.{relative_entry, with_value}
 use Rattle.qpack_spec.specs.Taking.{TakesAllOf}
-use Rattle.qpack_base.specs.HeaderFields.{field_of}
 use Rattle.qpack_base.specs.Refusals.{IsRefusedFor}
-use Rattle.qpack_base.specs.declared.field.HeaderField.{HeaderField}
 use Rattle.qpack_table.specs.declared.dynamic.Error.TheVariants.{BadRelativeIndex, MaxTableSizeReached}
 use Rattle.qpack_table.specs.declared.dynamic.Error.TheVariants.{MaximumTableSizeTooLarge, UnknownStreamId}
 use Rattle.qpack_wire.specs.Memory.{AsksForMemory}
@@ -59,10 +57,10 @@ field_to_insert t (Duplicate relative) = relative_entry (window t) relative
 field_to_insert t (SetCapacity capacity) = None
 
 -- the field that an instruction is to insert was found; or it is refused as the instruction is, or memory is refused
-abbrev pub FindsField : Table → EncoderInstruction → Result HeaderField DecoderError → Type 0
-FindsField t i (Ok field) = IsSome (field_to_insert t i) × (apply_encoder_instruction t i ≡ put t (field_of field))
-FindsField t i (Err Memory) = IsSome (field_to_insert t i)
-FindsField t i (Err e) = IsRefusedFor (apply_encoder_instruction t i) (refusal_of e)
+abbrev pub FindsField : {S : Type 0} → (S → Field) → Table → EncoderInstruction → Result S DecoderError → Type 0
+FindsField field t i (Ok found) = IsSome (field_to_insert t i) × (apply_encoder_instruction t i ≡ put t (field found))
+FindsField field t i (Err Memory) = IsSome (field_to_insert t i)
+FindsField field t i (Err e) = IsRefusedFor (apply_encoder_instruction t i) (refusal_of e)
 
 -- memory may be asked for: a string of the next instruction is whole, or a field is to be inserted
 abbrev pub AsksToTake : Table → List ℕ → Type 0

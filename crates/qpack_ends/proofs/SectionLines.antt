@@ -71,7 +71,7 @@ with_front front read = read >>= λ fs. Ok (front ++ fs)
 abbrev behind : ℕ → LinesUnder → ℕ → ℕ → FieldLine × List ℕ → Result (List FieldLine) SectionFault
 behind k u number all r = strict_lines_at k u number (all + field_size r.0.field) r.1 >>= λ fs. Ok (r.0 ∷ fs)
 
-same_line : {I Key : Type 0} (l : Lines I Key) (section all first : ℕ) (more : List ℕ)
+same_line : {I F Key : Type 0} (l : Lines I F Key) (section all first : ℕ) (more : List ℕ)
     → strict_line_at (under l section) all first more ≡ strict_line_at (under l 0) all first more
 unfolding strict_line_at strict_field
 same_line l section all first more = refl
@@ -127,7 +127,7 @@ by_line u number all rest front whole first more g cut = go g.steps g.enough g.i
           ∙ ap (λ x. with_front front (strict_lines_at (suc n) u number all x)) (sym cut) ∙ is,
     )
 
-pub goes_bad : {I Key : Type 0} (l : Lines I Key) (section number all : ℕ) (rest : List ℕ) (front : List FieldLine)
+pub goes_bad : {I F Key : Type 0} (l : Lines I F Key) (section number all : ℕ) (rest : List ℕ) (front : List FieldLine)
     (whole : Result (List FieldLine) SectionFault) (first : ℕ) (more : List ℕ) (e : LineError)
     → Goes (under l section) number all rest front whole → rest ≡ first ∷ more
     → FailsLine e (strict_line_at (under l 0) all first more)
@@ -154,7 +154,7 @@ goes_bad l section number all rest front whole first more e g cut bad =
     go (line.PastRequired i) (Ok x) h steps = absurd h
     go (line.TooLarge s) (Ok x) h steps = absurd h
 
-pub goes_on : {I Key : Type 0} (l : Lines I Key) (section number all : ℕ) (rest : List ℕ) (front : List FieldLine)
+pub goes_on : {I F Key : Type 0} (l : Lines I F Key) (section number all : ℕ) (rest : List ℕ) (front : List FieldLine)
     (whole : Result (List FieldLine) SectionFault) (first : ℕ) (more : List ℕ) (f : FieldLine) (behind_it : List ℕ)
     → Goes (under l section) number all rest front whole → rest ≡ first ∷ more
     → strict_line_at (under l 0) all first more ≡ Ok (f, behind_it) → length behind_it < length rest

@@ -108,7 +108,7 @@ AppendsEntry most old new (Err e) read = FailsLine e read × Extends old new
 -- ---- lines
 
 -- what the lines of a section of this many bytes are read under
-abbrev pub under : {I Key : Type 0} → Lines I Key → ℕ → LinesUnder
+abbrev pub under : {I F Key : Type 0} → Lines I F Key → ℕ → LinesUnder
 under l section =
     record { window = window l.table.now; required = l.required; base = l.base; limit = l.limit; section = section }
 

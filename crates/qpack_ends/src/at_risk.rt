@@ -6,7 +6,7 @@ ghost use Rattle.qpack_ends.specs.Risk.{covers, with_stream, still_at_risk};
 
 use crate::blocked::BlockedStream;
 use qpack_base::coding::NoMemory;
-use qpack_table::dynamic::DynamicTable;
+use qpack_table::dynamic::PackedTable;
 use std::alloc::Global;
 
 /// The streams that may be blocked, each once, with the most insertions that a section of each requires.
@@ -77,7 +77,7 @@ impl StreamsAtRisk {
 
     /// Drops those that may be blocked no more, as the table has it: what they require is known to be received, or no
     /// section of theirs waits for its acknowledgment.
-    pub(crate) fn keep_open(&mut self, table: &DynamicTable)
+    pub(crate) fn keep_open(&mut self, table: &PackedTable)
         ensures { self.new.streams.items ≡ still_at_risk table.now self.old.streams.items }
     {
         let known = table.known_received_count();

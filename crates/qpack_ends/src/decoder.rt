@@ -24,7 +24,7 @@ use crate::section::{DECOMPRESSION_FAILED, Reading, SectionError, read_section};
 use crate::unsent::Unsent;
 use qpack_base::coding::{Cursor, NoMemory};
 use qpack_codec::DecoderError;
-use qpack_table::dynamic::{DynamicTable, ReceivedTable};
+use qpack_table::dynamic::ReceivedPackedTable;
 use std::alloc::Global;
 use std::marker::Model;
 use thiserror::Error;
@@ -129,7 +129,7 @@ impl From<NoMemory> for DecodingError {
 #[derive(Debug, Drop)]
 pub struct ConnectionDecoder {
     settings: DecoderSettings,
-    table: ReceivedTable,
+    table: ReceivedPackedTable,
     stream: EncoderStream,
     /// How many insertions increments have reported.
     reported: usize,
@@ -198,7 +198,7 @@ impl ConnectionDecoder {
     }
 
     /// Returns the table.
-    pub fn table(&self) -> &ReceivedTable
+    pub fn table(&self) -> &ReceivedPackedTable
         ensures { result.now ≡ self.now.table }
     {
         &self.table
@@ -448,11 +448,11 @@ impl ConnectionDecoder {
 }
 
 /// Returns an empty table of capacity 0, with this maximum capacity.
-fn new_table(alloc: Global, max_capacity: usize) -> Result<ReceivedTable, SettingsError>
+fn new_table(alloc: Global, max_capacity: usize) -> Result<ReceivedPackedTable, SettingsError>
     ensures ok { IfOk result (λ t. (max_capacity < 2 ^ 30) × (t ≡ empty_table 0 (Some max_capacity) 0)) }
     ensures err { IfErr result (λ e. (e ≡ CapacityTooLarge) × (2 ^ 30 ≤ max_capacity)) }
 {
-    let mut table = DynamicTable::without_index(alloc);
+    let mut table = ReceivedPackedTable::without_index(alloc);
     match table.set_agreed_max(max_capacity) {
         Ok(()) => Ok(table),
         Err(_) => Err(SettingsError::CapacityTooLarge),

@@ -9,7 +9,8 @@ ghost use Rattle.qpack_ends.specs.Hearing.{decoder_stream_error, ReceivesMore};
 
 use crate::encoder_stream::Place;
 use qpack_base::coding::Cursor;
-use qpack_table::dynamic::DynamicTable;
+use qpack_base::stored_field::StoredField;
+use qpack_table::dynamic::{DynamicTable, Index};
 use qpack_wire::stream::{DecoderLine, HeaderAck, InsertCountIncrement, StreamCancel, next_line};
 use std::marker::Model;
 use thiserror::Error;
@@ -105,9 +106,9 @@ impl DecoderStream {
     /// Fails if an integer is too large, if an increment is 0 or exceeds the insertions that were made, or if an
     /// acknowledged stream has no unacknowledged section. The table is then as it was before that instruction, no bytes
     /// wait, and the error has the place of the instruction. The cursor always moves to its end.
-    pub fn receive(
+    pub fn receive<F: StoredField>(
         &mut self,
-        table: &mut DynamicTable,
+        table: &mut DynamicTable<Index, F>,
         buf: &mut Cursor,
     ) -> Result<(), DecoderStreamError>
         ensures receives { (heard : List DecoderInstruction) (before : List ℕ) → Receives heard before self.old
@@ -121,9 +122,9 @@ impl DecoderStream {
     }
 
     /// Receives these bytes.
-    fn receive_bytes(
+    fn receive_bytes<F: StoredField>(
         &mut self,
-        table: &mut DynamicTable,
+        table: &mut DynamicTable<Index, F>,
         bytes: &[u8],
     ) -> Result<(), DecoderStreamError>
         ensures { (heard : List DecoderInstruction) (before : List ℕ) → Receives heard before self.old
@@ -136,7 +137,11 @@ impl DecoderStream {
     }
 
     /// Receives one byte more.
-    fn receive_byte(&mut self, table: &mut DynamicTable, byte: u8) -> Result<(), DecoderStreamError>
+    fn receive_byte<F: StoredField>(
+        &mut self,
+        table: &mut DynamicTable<Index, F>,
+        byte: u8,
+    ) -> Result<(), DecoderStreamError>
         ensures { (heard : List DecoderInstruction) (before : List ℕ) → Receives heard before self.old
             → ReceivesMore table.old table.new heard before (byte ∷ []) self.new result }
     {
@@ -160,7 +165,10 @@ impl DecoderStream {
 }
 
 /// Applies the instruction at the front of the bytes. Returns whether there was a whole one.
-fn hear(table: &mut DynamicTable, bytes: &[u8]) -> Result<bool, HearingError>
+fn hear<F: StoredField>(
+    table: &mut DynamicTable<Index, F>,
+    bytes: &[u8],
+) -> Result<bool, HearingError>
     ensures hears { HearsNext table.old table.new bytes.now result }
     ensures short { result ≡ Ok false → length bytes.now < 10 }
 {
@@ -176,7 +184,10 @@ fn hear(table: &mut DynamicTable, bytes: &[u8]) -> Result<bool, HearingError>
 }
 
 /// Applies an instruction to the table. On error nothing changes.
-fn apply_strictly(table: &mut DynamicTable, line: DecoderLine) -> Result<(), HearingError>
+fn apply_strictly<F: StoredField>(
+    table: &mut DynamicTable<Index, F>,
+    line: DecoderLine,
+) -> Result<(), HearingError>
     ensures { Applies result (strict_hear table.old (decoder_instruction_of line)) table.old table.new }
 {
     match line {
@@ -192,7 +203,10 @@ fn apply_strictly(table: &mut DynamicTable, line: DecoderLine) -> Result<(), Hea
 }
 
 /// Raises the known received count by an increment (RFC 9204, section 4.4.3). On error nothing changes.
-fn raise(table: &mut DynamicTable, increment: usize) -> Result<(), HearingError>
+fn raise<F: StoredField>(
+    table: &mut DynamicTable<Index, F>,
+    increment: usize,
+) -> Result<(), HearingError>
     ensures { Applies result (strict_hear table.old (Increment increment)) table.old table.new }
 {
     if increment == 0 {
@@ -206,7 +220,7 @@ fn raise(table: &mut DynamicTable, increment: usize) -> Result<(), HearingError>
 }
 
 /// Returns whether an increment raises the known received count above the insertions that were made.
-fn is_past_insertions(table: &DynamicTable, increment: usize) -> bool
+fn is_past_insertions<F: StoredField>(table: &DynamicTable<Index, F>, increment: usize) -> bool
     ensures { result ≡ nat_lt (insert_count table.now) (table.now.known_received_count + increment) }
 {
     let insertions = table.total_inserted();
@@ -218,7 +232,10 @@ fn is_past_insertions(table: &DynamicTable, increment: usize) -> bool
 
 /// Releases the oldest unacknowledged section of a stream, and raises the known received count to what that required
 /// (RFC 9204, sections 2.1.4 and 4.4.1). On error nothing changes.
-fn acknowledge(table: &mut DynamicTable, stream_id: u64) -> Result<(), HearingError>
+fn acknowledge<F: StoredField>(
+    table: &mut DynamicTable<Index, F>,
+    stream_id: u64,
+) -> Result<(), HearingError>
     ensures { Applies result (strict_hear table.old (Acknowledgment stream_id)) table.old table.new }
 {
     let required = table.oldest_required(stream_id).unwrap_or(0);
@@ -232,7 +249,7 @@ fn acknowledge(table: &mut DynamicTable, stream_id: u64) -> Result<(), HearingEr
 }
 
 /// Raises the known received count to at least this.
-fn raise_to(table: &mut DynamicTable, count: usize)
+fn raise_to<F: StoredField>(table: &mut DynamicTable<Index, F>, count: usize)
     ensures { table.new ≡ known_at_least count table.old }
 {
     let missing = count.saturating_sub(table.known_received_count());

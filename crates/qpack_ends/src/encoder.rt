@@ -28,10 +28,11 @@ use crate::decoder::{STREAMS, SettingsError};
 use crate::decoder_stream::{DECODER_STREAM_ERROR, DecoderStream, DecoderStreamError};
 use crate::unsent::Unsent;
 use qpack_base::coding::Cursor;
+use qpack_base::stored_field::PackedField;
 use qpack_codec::EncoderError;
-use qpack_codec::encoder::{AsField, EncoderTable, WritesSections, encode_section_stateless};
+use qpack_codec::encoder::{AsField, EncoderTable, encode_section_stateless};
 use qpack_table::dynamic;
-use qpack_table::dynamic::DynamicTable;
+use qpack_table::dynamic::PackedTable;
 use qpack_wire::block::HeaderPrefix;
 use std::alloc::{Allocator, Global};
 use std::marker::Model;
@@ -193,7 +194,7 @@ impl EncodingError {
 #[derive(Debug, Drop)]
 pub struct ConnectionEncoder {
     settings: EncoderSettings,
-    table: EncoderTable,
+    table: EncoderTable<PackedField>,
     at_risk: StreamsAtRisk,
     chooser: Chooser,
     /// The capacity to announce before the first section, in bytes.
@@ -264,7 +265,7 @@ impl ConnectionEncoder {
     }
 
     /// Returns the table.
-    pub fn table(&self) -> &DynamicTable
+    pub fn table(&self) -> &PackedTable
         ensures { result.now ≡ self.now.table }
     {
         &self.table.table
@@ -588,7 +589,7 @@ fn encode_alone<A: Allocator, H: AsField>(
 /// permits no blocked block while the section is written, so that the section requires nothing that is not known to be
 /// received.
 fn write_section<A: Allocator, H: AsField>(
-    table: &mut EncoderTable,
+    table: &mut EncoderTable<PackedField>,
     stream: u64,
     may_block: bool,
     section: &mut Vec<u8, A>,
@@ -624,7 +625,7 @@ fn write_section<A: Allocator, H: AsField>(
 }
 
 /// Sets how many sections may be blocked.
-fn limit_blocked(table: &mut DynamicTable, limit: usize)
+fn limit_blocked(table: &mut PackedTable, limit: usize)
     requires { limit < 65535 }
     ensures { table.new ≡ record table.old { limit = limit } }
 {
@@ -635,7 +636,7 @@ fn limit_blocked(table: &mut DynamicTable, limit: usize)
 }
 
 /// Agrees on a maximum capacity, before anything is inserted.
-fn agree_on(table: &mut DynamicTable, maximum: usize)
+fn agree_on(table: &mut PackedTable, maximum: usize)
     requires small { maximum < 2 ^ 30 }
     requires empty { insert_count table.old ≡ 0 }
     requires none { table.old.capacity ≡ 0 }
@@ -648,12 +649,12 @@ fn agree_on(table: &mut DynamicTable, maximum: usize)
 }
 
 /// Returns an empty table of capacity 0, with the maximum capacity of these settings.
-fn new_table(alloc: Global, settings: EncoderSettings) -> Result<DynamicTable, SettingsError>
+fn new_table(alloc: Global, settings: EncoderSettings) -> Result<PackedTable, SettingsError>
     ensures ok { IfOk result (λ t. (settings.max_capacity < 2 ^ 30)
         × (t ≡ empty_table 0 (Some settings.max_capacity) 4096)) }
     ensures err { IfErr result (λ e. (e ≡ CapacityTooLarge) × (2 ^ 30 ≤ settings.max_capacity)) }
 {
-    let mut table = DynamicTable::with_seed(alloc, settings.seed);
+    let mut table = PackedTable::with_seed(alloc, settings.seed);
     if table.set_agreed_max(settings.max_capacity).is_err() {
         return Err(SettingsError::CapacityTooLarge);
     }

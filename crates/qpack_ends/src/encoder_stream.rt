@@ -14,6 +14,7 @@ ghost use Rattle.qpack_ends.specs.declared.encoder_stream.EncoderStreamError.The
 ghost use Rattle.qpack_ends.specs.Places.{first_place, passed};
 
 use qpack_base::coding::Cursor;
+use qpack_base::stored_field::StoredField;
 use qpack_codec::decoder::{DecoderError, take_instruction};
 use qpack_table::dynamic::{self, DynamicTable, EntryIndex};
 use qpack_wire::stream::{self, EncoderInstruction};
@@ -116,9 +117,9 @@ impl EncoderStream {
     /// that instruction, and the kept bytes are unspecified. If memory runs out, the instructions before it stay
     /// applied, and the cursor is past the bytes that were consumed. Then call again with the bytes left at the cursor,
     /// even if there are none.
-    pub fn receive<I: EntryIndex>(
+    pub fn receive<I: EntryIndex, F: StoredField>(
         &mut self,
-        table: &mut DynamicTable<I>,
+        table: &mut DynamicTable<I, F>,
         buf: &mut Cursor,
     ) -> Result<(), EncoderStreamError>
         ensures receives { (start : Table) (before : List ℕ) → Receives start table.old before self.old
@@ -135,9 +136,9 @@ impl EncoderStream {
     }
 
     /// Receives the bytes as `receive` does. A rejected instruction is the first one that was not applied.
-    fn receive_bytes<I: EntryIndex>(
+    fn receive_bytes<I: EntryIndex, F: StoredField>(
         &mut self,
-        table: &mut DynamicTable<I>,
+        table: &mut DynamicTable<I, F>,
         buf: &mut Cursor,
     ) -> Result<(), DecoderError>
         ensures receives { (start : Table) (before : List ℕ) → Receives start table.old before self.old
@@ -157,9 +158,9 @@ impl EncoderStream {
     }
 
     /// Consumes as many bytes as the waiting instruction is known to need, or one, and applies it if it is whole then.
-    fn receive_front<I: EntryIndex>(
+    fn receive_front<I: EntryIndex, F: StoredField>(
         &mut self,
-        table: &mut DynamicTable<I>,
+        table: &mut DynamicTable<I, F>,
         buf: &mut Cursor,
     ) -> Result<(), DecoderError>
         ensures receives { (start : Table) (before : List ℕ) → Receives start table.old before self.old
@@ -185,9 +186,9 @@ impl EncoderStream {
     }
 
     /// Receives the bytes if none wait: each instruction is read from them, and a rest that is not whole is kept.
-    fn receive_rest<I: EntryIndex>(
+    fn receive_rest<I: EntryIndex, F: StoredField>(
         &mut self,
-        table: &mut DynamicTable<I>,
+        table: &mut DynamicTable<I, F>,
         buf: &mut Cursor,
     ) -> Result<(), DecoderError>
         ensures receives { (start : Table) (before : List ℕ) → Receives start table.old before self.old
@@ -209,8 +210,8 @@ impl EncoderStream {
 
 /// Applies all whole instructions at the front of the bytes, from this place on, and drops their bytes. Stops at the
 /// first one that is rejected, with its place; if memory runs out, its bytes are kept.
-fn take_whole<I: EntryIndex>(
-    table: &mut DynamicTable<I>,
+fn take_whole<I: EntryIndex, F: StoredField>(
+    table: &mut DynamicTable<I, F>,
     place: &mut Place,
     pending: &mut Vec<u8>,
 ) -> Result<(), DecoderError>
@@ -225,8 +226,8 @@ fn take_whole<I: EntryIndex>(
 
 /// Applies all whole instructions at the cursor, from this place on, and moves past them. Stops at the first one that
 /// is rejected, with its place; if memory runs out, the cursor stays before it.
-fn take_all_strictly<I: EntryIndex>(
-    table: &mut DynamicTable<I>,
+fn take_all_strictly<I: EntryIndex, F: StoredField>(
+    table: &mut DynamicTable<I, F>,
     place: &mut Place,
     buf: &mut Cursor,
 ) -> Result<(), DecoderError>
@@ -239,8 +240,8 @@ fn take_all_strictly<I: EntryIndex>(
 
 /// Applies the instruction at the cursor, and moves the cursor and the place past it. Returns whether there was a whole
 /// one.
-fn take_and_pass<I: EntryIndex>(
-    table: &mut DynamicTable<I>,
+fn take_and_pass<I: EntryIndex, F: StoredField>(
+    table: &mut DynamicTable<I, F>,
     place: &mut Place,
     buf: &mut Cursor,
 ) -> Result<bool, DecoderError>
@@ -258,8 +259,8 @@ fn take_and_pass<I: EntryIndex>(
 
 /// Applies the instruction at the cursor, and moves past it. Returns whether there was a whole one. At capacity 0 it
 /// rejects an insertion by its first byte.
-fn take_strictly<I: EntryIndex>(
-    table: &mut DynamicTable<I>,
+fn take_strictly<I: EntryIndex, F: StoredField>(
+    table: &mut DynamicTable<I, F>,
     buf: &mut Cursor,
 ) -> Result<bool, DecoderError>
     ensures takes { TakesNextStrictly table.old table.new buf.old.rest buf.new.rest result }
@@ -272,7 +273,10 @@ fn take_strictly<I: EntryIndex>(
 }
 
 /// Returns whether the bytes begin an insertion at capacity 0 (RFC 9204, section 3.2.2).
-fn begins_unlawfully<I: EntryIndex>(table: &DynamicTable<I>, bytes: &[u8]) -> bool
+fn begins_unlawfully<I: EntryIndex, F: StoredField>(
+    table: &DynamicTable<I, F>,
+    bytes: &[u8],
+) -> bool
     ensures { result ≡ begins_unlawfully table.now bytes.now }
 {
     match bytes.first() {
@@ -294,8 +298,8 @@ fn begins_insertion(first: u8) -> bool
 
 /// Returns how many bytes there must be before the truncated instruction at their front can be whole. Fails if its
 /// field can't fit.
-fn find_wanted<I: EntryIndex>(
-    table: &DynamicTable<I>,
+fn find_wanted<I: EntryIndex, F: StoredField>(
+    table: &DynamicTable<I, F>,
     pending: &[u8],
 ) -> Result<usize, DecoderError>
     ensures finds { Truncates encoder_instruction_form pending.now → FindsWanted table.now pending.now result }

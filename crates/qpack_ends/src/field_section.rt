@@ -16,6 +16,7 @@ use crate::room::shrink_within;
 use crate::section::{Lines, SectionError, read_lines};
 use qpack_base::coding::Cursor;
 use qpack_base::field::{ESTIMATED_OVERHEAD_BYTES, FieldLine};
+use qpack_base::stored_field::StoredField;
 use qpack_table::dynamic::EntryIndex;
 use std::alloc::Global;
 use std::marker::Model;
@@ -169,9 +170,9 @@ impl FieldSection {
 
     /// Reads the lines of a section to the end of the cursor, into a field section without fields.
     #[tactic(auto, using(crate::proofs::SpansInTurn::none_in))]
-    pub(crate) fn read_lines<I: EntryIndex>(
+    pub(crate) fn read_lines<I: EntryIndex, F: StoredField>(
         &mut self,
-        lines: &Lines<I>,
+        lines: &Lines<I, F>,
         buf: &mut Cursor,
     ) -> Result<(), SectionError>
         requires { self.old.fields ≡ [] }

@@ -15,6 +15,7 @@ ghost use Rattle.qpack_ends.specs.declared.section.SectionError.TheVariants.{Mem
 use crate::field_section::FieldSection;
 use qpack_base::coding::Cursor;
 use qpack_base::parse_error::ParseError;
+use qpack_base::stored_field::StoredField;
 use qpack_codec::DecoderError;
 use qpack_table::dynamic::{DynamicTable, EntryIndex};
 use qpack_wire::block::HeaderPrefix;
@@ -156,8 +157,8 @@ pub fn longest_section(size: u64) -> u64
 /// below 0 (`Prefix`); and line by line (`Line`) its bytes, a reference past the required insert count, what it
 /// references, and the sum of sizes. If the required insert count exceeds the insertions that were received, it returns
 /// `Reading::Blocked` and does not read the lines.
-pub fn read_section<I: EntryIndex>(
-    table: &DynamicTable<I>,
+pub fn read_section<I: EntryIndex, F: StoredField>(
+    table: &DynamicTable<I, F>,
     section: &[u8],
     limit: u64,
     fields: &mut FieldSection,
@@ -181,8 +182,8 @@ pub fn read_section<I: EntryIndex>(
 
 /// Reads as `read_section` does, into a field section without fields. On error it may have the fields read so far.
 #[tactic(auto, unfolding(qpack_spec::specs::StrictReading::strict_reading))]
-fn read_into<I: EntryIndex>(
-    table: &DynamicTable<I>,
+fn read_into<I: EntryIndex, F: StoredField>(
+    table: &DynamicTable<I, F>,
     section: &[u8],
     limit: u64,
     fields: &mut FieldSection,
@@ -202,8 +203,8 @@ fn read_into<I: EntryIndex>(
 }
 
 /// Reads the lines after the prefix, if the prefix permits it.
-fn read_behind<I: EntryIndex>(
-    table: &DynamicTable<I>,
+fn read_behind<I: EntryIndex, F: StoredField>(
+    table: &DynamicTable<I, F>,
     prefix: HeaderPrefix,
     limit: u64,
     buf: &mut Cursor,

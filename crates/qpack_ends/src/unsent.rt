@@ -16,10 +16,11 @@ ghost use Rattle.qpack_ends.specs.declared.choosing.Chooser.{Chooser};
 use crate::choosing::Chooser;
 use crate::room::shrink_within;
 use qpack_base::coding::NoMemory;
+use qpack_base::stored_field::PackedField;
 use qpack_codec::EncoderError;
 use qpack_codec::decoder::{ack_header, stream_canceled, write_increments};
-use qpack_codec::encoder::{AsField, EncoderTable, WritesSections, set_dynamic_table_size};
-use qpack_table::dynamic::DynamicTable;
+use qpack_codec::encoder::{AsField, EncoderTable, set_dynamic_table_size};
+use qpack_table::dynamic::PackedTable;
 use std::alloc::{Allocator, Global};
 use std::marker::Model;
 
@@ -122,7 +123,7 @@ impl Unsent {
     /// With room for eleven bytes, the longest instruction, it asks for no memory.
     pub(crate) fn set_capacity(
         &mut self,
-        table: &mut DynamicTable,
+        table: &mut PackedTable,
         capacity: usize,
     ) -> Result<(), EncoderError>
         ensures sets { SetsCapacity capacity table.old table.new self.old.bytes self.new.bytes result }
@@ -137,7 +138,7 @@ impl Unsent {
     /// sizes that of the instructions is not grown.
     pub(crate) fn write_section<A: Allocator, H: AsField>(
         &mut self,
-        table: &mut EncoderTable,
+        table: &mut EncoderTable<PackedField>,
         stream: u64,
         section: &mut Vec<u8, A>,
         fields: &[H],

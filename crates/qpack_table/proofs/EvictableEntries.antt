@@ -13,7 +13,7 @@ use Rattle.qpack_spec.proofs.Lists.{get_within}
 use Rattle.qpack_table.specs.Tables.{entry_of, entries_of, times, references_in, IsEvictableAt}
 use Rattle.qpack_table.proofs.References.{named_if_used}
 use Rattle.qpack_table.proofs.Lookups.{entry_there}
-use Rattle.qpack_table.specs.declared.dynamic.entry.Entry.{Entry}
+use Rattle.qpack_table.specs.Entries.{Entry}
 
 by_either : (x y z : Bool) → (x || y) ≡ true → (x || (y || z)) ≡ true
 by_either true y z e = refl

@@ -4,7 +4,6 @@ use Rattle.std.proofs.Common.{refl, sym, ap, subst, ◌∙◌, arith, inl, inr}
 use Rattle.std.proofs.lemmas.Bool.{cases_lt}
 use Rattle.std.proofs.lemmas.List.{drop-drop, drop-append-le, drop-map, length-drop, length-append, drop_more}
 use Rattle.std.proofs.lemmas.List.{map-append}
-use Rattle.qpack_base.specs.HeaderFields.{field_of}
 use Rattle.qpack_spec.specs.Field.{Field, field_size, total_size}
 use Rattle.qpack_spec.specs.Table.{fields_in, eviction_count_for}
 use Rattle.qpack_spec.specs.Table as table
@@ -14,7 +13,7 @@ use Rattle.qpack_spec.proofs.Windows.{eviction_count_fits, eviction_count_least,
 use Rattle.qpack_spec.proofs.Windows.{eviction_count_push}
 use Rattle.qpack_table.specs.Positions.{Positions}
 use Rattle.qpack_table.specs.Tables.{entry_of, entries_of, IsSized, live_fields}
-use Rattle.qpack_table.specs.declared.dynamic.entry.Entry.{Entry}
+use Rattle.qpack_table.specs.Entries.{Entry}
 use Rattle.qpack_table.proofs.Lookups.{fields_long}
 
 further : (n k : ℕ) (fs : List Field) → n ≤ k → total_size (drop k fs) ≤ total_size (drop n fs)
@@ -61,7 +60,7 @@ eviction_count_beside capacity fs f fits =
 
 -- the field of an entry
 abbrev field_at : Entry → Field
-field_at e = field_of e.field
+field_at e = e.field
 
 -- the fields of what is left are what is left of the fields
 fields_drop : (k : ℕ) (es : List Entry) → drop k (live_fields es) ≡ live_fields (drop k es)
@@ -172,7 +171,7 @@ live_less es now k items = ap (λ (l : List Entry). entries_of l) items ∙ sym 
 pub joined_entries : (es : List Entry) (e : Entry) → entries_of (es ++ e ∷ []) ≡ entries_of es ++ entry_of e ∷ []
 joined_entries es e = map-append entry_of es (e ∷ [])
 
-pub joined_fields : (es : List Entry) (e : Entry) → live_fields (es ++ e ∷ []) ≡ live_fields es ++ field_of e.field ∷ []
+pub joined_fields : (es : List Entry) (e : Entry) → live_fields (es ++ e ∷ []) ≡ live_fields es ++ e.field ∷ []
 joined_fields es e =
     ap (λ (l : List table.Entry). fields_in l) (joined_entries es e)
     ∙ map-append (λ (x : table.Entry). x.field) (entries_of es) (entry_of e ∷ [])

@@ -12,7 +12,7 @@ use Rattle.qpack_table.specs.Positions.{Positions}
 use Rattle.qpack_table.specs.Tables.{times, references_in, uses_of, flags_of, NoneTwice, AreUsed, AreFlagged}
 use Rattle.qpack_table.specs.Tables.{AreCounted, CountsReferences, entry_of, entries_of}
 use Rattle.qpack_table.proofs.EvictableEntries.{item_there}
-use Rattle.qpack_table.specs.declared.dynamic.entry.Entry.{Entry}
+use Rattle.qpack_table.specs.Entries.{Entry}
 use Rattle.qpack_table.proofs.References.{times_append, references_append, is_among, same_map, flagged_as, used_as}
 use Rattle.qpack_table.proofs.Marks.{map_written, There, Elsewhere, written, once_more, other_times, used_counted}
 

@@ -3,7 +3,6 @@ use Rattle.std.proofs.Common.{◌≡◌, ℕ, ◌+◌, ◌-◌, ◌^◌, ◌<◌
 use Rattle.std.proofs.Common.{ap, subst, ◌∙◌, arith}
 use Rattle.std.proofs.lemmas.List.{length-drop, length-map}
 use Rattle.std.specs.List.{AllByRecursion}
-use Rattle.qpack_base.specs.HeaderFields.{field_of}
 use Rattle.qpack_spec.specs.Field.{field_size, total_size}
 use Rattle.qpack_spec.specs.Table as table
 use Rattle.qpack_spec.specs.Table.{fields_in}
@@ -14,7 +13,7 @@ use Rattle.qpack_table.specs.Tables.{entry_of, entries_of, flags_of, references_
 use Rattle.qpack_table.specs.Tables.{NoneTwice}
 use Rattle.qpack_table.specs.Tables.{IsKept, IsSized, IsIndexOfEntries, CountsReferences, live_fields}
 use Rattle.qpack_table.specs.Indexes.{IsIndexOf}
-use Rattle.qpack_table.specs.declared.dynamic.entry.Entry.{Entry}
+use Rattle.qpack_table.specs.Entries.{Entry}
 use Rattle.qpack_table.specs.declared.dynamic.index.Index.{Index}
 use Rattle.qpack_table.proofs.Lookups.{fields_long}
 use Rattle.qpack_table.proofs.Evictions.{sized_inserted, sized_resized, evicted_within}
@@ -44,10 +43,10 @@ pub kept_put : {index more : ℕ → List Entry → Type 0} (v w : Positions) (e
     (size left capacity : ℕ) (referenced : List ℕ)
     (unacknowledged : List table.UnacknowledgedBlock) (e : Entry) (k : ℕ)
     → IsKept v es size capacity referenced unacknowledged index
-    → field_size (field_of e.field) ≤ capacity
-    → k ≡ eviction_count capacity (fields_in (entries_of es) ++ field_of e.field ∷ [])
+    → field_size e.field ≤ capacity
+    → k ≡ eviction_count capacity (fields_in (entries_of es) ++ e.field ∷ [])
     → now ≡ drop k es ++ e ∷ []
-    → left ≡ total_size (drop k (fields_in (entries_of es))) + field_size (field_of e.field)
+    → left ≡ total_size (drop k (fields_in (entries_of es))) + field_size e.field
     → e.referenced ≡ false → e.uses ≡ 0
     → w.dropped ≡ v.dropped + k → w.total ≡ v.total + 1
     → more w.dropped now
@@ -55,7 +54,7 @@ pub kept_put : {index more : ℕ → List Entry → Type 0} (v w : Positions) (e
 kept_put v w es now size left capacity referenced unacknowledged e k kept room evicted items sum unflagged
     unused dropped total indexed =
     let m : Positions = record { total = v.total; dropped = v.dropped + k } in
-    let few : k ≤ length es = evicted_within es (field_of e.field) capacity k room evicted in
+    let few : k ≤ length es = evicted_within es e.field capacity k room evicted in
     let counted : v.total ≡ v.dropped + k + length (drop k es) =
     omega (arith, kept.sized.counted, few, length-drop k es) in
     record {

@@ -8,8 +8,6 @@ use Rattle.std.proofs.lemmas.Option.{same_Some, slice_get-map, slice_get_read, g
 use Rattle.std.specs.Borrow.{Bor}
 use Rattle.std.specs.Option.{option_map}
 use Rattle.std.specs.Str.{bytes_eq}
-use Rattle.qpack_base.specs.HeaderFields.{field_of}
-use Rattle.qpack_base.specs.declared.field.HeaderField.{HeaderField}
 use Rattle.qpack_spec.specs.Chosen.{passes_at, some_passes}
 use Rattle.qpack_spec.specs.Field.{Field, field_size, is_field, total_size}
 use Rattle.qpack_spec.specs.Reading.{Fault, BelowWindow, AboveWindow, BehindBase, or_fault, relative_field}
@@ -24,7 +22,7 @@ use Rattle.qpack_table.specs.Positions.{post_base_index}
 use Rattle.qpack_table.specs.Tables.{entry_of, entries_of, LooksUp, live_fields}
 use Rattle.qpack_table.specs.declared.dynamic.Error.{Error}
 use Rattle.qpack_table.specs.declared.dynamic.Error.TheVariants.{BadIndex}
-use Rattle.qpack_table.specs.declared.dynamic.entry.Entry.{Entry}
+use Rattle.qpack_table.specs.Entries.{Entry}
 use Rattle.qpack_table.proofs.Entries.{there_is_live, live_is_there, at_position, recent_is_entry, relative_at_position}
 use Rattle.qpack_table.proofs.Entries.{relative_dropped, post_base_is_entry, not_there}
 
@@ -40,15 +38,15 @@ entry_there es position e h is =
     ∙ ap (λ (o : Option Entry). option_map entry_of o) (slice_get_read es (length es) position e refl h is)
 
 pub field_there : (es : List Entry) (position : ℕ) (e : Entry) → position < length es → e ≡ get_or es position e
-    → slice_get (live_fields es) position ≡ Some (field_of e.field)
+    → slice_get (live_fields es) position ≡ Some e.field
 field_there es position e h is =
     slice_get-map (λ (x : table.Entry). x.field) (entries_of es) position
     ∙ ap (λ (o : Option table.Entry). option_map (λ (x : table.Entry). x.field) o) (entry_there es position e h is)
 
 pub field_read : (es : List Entry) (position : ℕ) (e : Entry) (d : Field) → position < length es
-    → e ≡ get_or es position e → get_or (live_fields es) position d ≡ field_of e.field
+    → e ≡ get_or es position e → get_or (live_fields es) position d ≡ e.field
 field_read es position e d h is =
-    get_or_from_slice_get (live_fields es) position (field_of e.field) d (field_there es position e h is)
+    get_or_from_slice_get (live_fields es) position e.field d (field_there es position e h is)
 
 pub field_missing : (es : List Entry) (position : ℕ) → length es ≤ position
     → slice_get (live_fields es) position ≡ None
@@ -153,41 +151,41 @@ other_name f g name names other =
 
 -- ---- under a base
 
-pub under_base : (v : Positions) (t : table.Table) (base index position : ℕ) (r : Result (Bor HeaderField) Error)
+pub under_base : {S : Type 0} (field : S → Field) (v : Positions) (t : table.Table) (base index position : ℕ) (r : Result (Bor S) Error)
     → v ≡ positions_of (window t) → IsNotEvicted v base index → IsPositionOf v (relative_index base index) position
-    → IfOk r (λ f. slice_get (fields_in t.live) position ≡ Some (field_of f.now))
+    → IfOk r (λ f. slice_get (fields_in t.live) position ≡ Some (field f.now))
     → IfErr r (λ e. (e ≡ BadIndex position) × (slice_get (fields_in t.live) position ≡ None))
-    → LooksUp r (relative_field (window t) base index)
+    → LooksUp field r (relative_field (window t) base index)
 unfolding window
-under_base v t base index position (Ok f) e kept at found refused =
+under_base field v t base index position (Ok f) e kept at found refused =
     relative_at_position (window t) base index position (subst (λ (p : Positions). IsNotEvicted p base index) e kept)
     (subst (λ (p : Positions). IsPositionOf p (relative_index base index) position) e at)
     ∙ ap (λ (o : Option Field). or_fault o (AboveWindow position)) found
-under_base v t base index position (Err x) e kept at found refused =
+under_base field v t base index position (Err x) e kept at found refused =
     let is = relative_at_position (window t) base index position
     (subst (λ (p : Positions). IsNotEvicted p base index) e kept)
     (subst (λ (p : Positions). IsPositionOf p (relative_index base index) position) e at)
     ∙ ap (λ (o : Option Field). or_fault o (AboveWindow position)) refused.1 in
-    subst (λ (y : Error). LooksUp (Err y) (relative_field (window t) base index)) (sym refused.0) is
+    subst (λ (y : Error). LooksUp field (Err y) (relative_field (window t) base index)) (sym refused.0) is
 
 pub below_base : (v : Positions) (t : table.Table) (base index : ℕ) → v ≡ positions_of (window t)
     → (IsNotEvicted v base index → ⊥) → relative_field (window t) base index ≡ Err (BelowWindow index)
 below_base v t base index e evicted = relative_dropped (window t) base index
     (subst (λ (p : Positions). IsNotEvicted p base index → ⊥) e evicted)
 
-pub behind_base : (v : Positions) (t : table.Table) (base index position : ℕ) (r : Result (Bor HeaderField) Error)
+pub behind_base : {S : Type 0} (field : S → Field) (v : Positions) (t : table.Table) (base index position : ℕ) (r : Result (Bor S) Error)
     → v ≡ positions_of (window t) → IsLive v (post_base_index base index)
     → IsPositionOf v (post_base_index base index) position
-    → IfOk r (λ f. slice_get (fields_in t.live) position ≡ Some (field_of f.now))
+    → IfOk r (λ f. slice_get (fields_in t.live) position ≡ Some (field f.now))
     → IfErr r (λ e. (e ≡ BadIndex position) × (slice_get (fields_in t.live) position ≡ None))
-    → LooksUp r (post_base_field (window t) base index)
+    → LooksUp field r (post_base_field (window t) base index)
 unfolding window
-behind_base v t base index position (Ok f) e live at found refused =
+behind_base field v t base index position (Ok f) e live at found refused =
     post_base_is_entry (window t) base index
     ∙ ap (λ (o : Option Field). or_fault o (BehindBase index))
     (at_position (window t) (post_base_index base index) position
     (subst (λ (p : Positions). IsPositionOf p (post_base_index base index) position) e at) ∙ found)
-behind_base v t base index position (Err x) e live at found refused =
+behind_base field v t base index position (Err x) e live at found refused =
     let some = live_is_there (window t) (post_base_index base index)
     (subst (λ (p : Positions). IsLive p (post_base_index base index)) e live) in
     let none : absolute_entry (window t) (post_base_index base index) ≡ None =
@@ -206,12 +204,12 @@ past_base v t base index e evicted =
     (λ some. not (there_is_live (window t) (post_base_index base index) some)))
 
 -- an index's refusal, passed on
-pub told : (r : Result (Bor HeaderField) Error) (e : Error) (read : Result Field Fault) → IsErr r
-    × IsErrAnd r (λ x. x ≡ e) → LooksUp (Err e) read → LooksUp r read
-told (Ok f) e read h looks = absurd h.1
-told (Err x) e read h looks = subst (λ (y : Error). LooksUp (Err y) read) (sym h.1) looks
+pub told : {S : Type 0} (field : S → Field) (r : Result (Bor S) Error) (e : Error) (read : Result Field Fault) → IsErr r
+    × IsErrAnd r (λ x. x ≡ e) → LooksUp field (Err e) read → LooksUp field r read
+told field (Ok f) e read h looks = absurd h.1
+told field (Err x) e read h looks = subst (λ (y : Error). LooksUp field (Err y) read) (sym h.1) looks
 
-pub given_as : (r : Result (Bor HeaderField) Error) (d e : Error) → IsErr r × IsErrAnd r (λ x. x ≡ d) → d ≡ e
+pub given_as : {S : Type 0} (r : Result (Bor S) Error) (d e : Error) → IsErr r × IsErrAnd r (λ x. x ≡ d) → d ≡ e
     → IsErr r × IsErrAnd r (λ x. x ≡ e)
 given_as (Ok f) d e h same = absurd h.1
 given_as (Err x) d e h same = (h.0, h.1 ∙ same)

@@ -8,7 +8,7 @@ use Rattle.std.proofs.lemmas.List.{drop_all, drop_more}
 use Rattle.std.proofs.lemmas.Option.{slice_get_within}
 use Rattle.qpack_spec.specs.Table.{has_number}
 use Rattle.qpack_table.specs.Tables.{times, entry_of, entries_of, uses_of, flags_of, AreUsed, AreFlagged, AreCounted}
-use Rattle.qpack_table.specs.declared.dynamic.entry.Entry.{Entry}
+use Rattle.qpack_table.specs.Entries.{Entry}
 use Rattle.qpack_table.proofs.EvictableEntries.{item_there}
 
 -- ---- one entry is written

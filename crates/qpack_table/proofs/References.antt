@@ -9,7 +9,7 @@ use Rattle.qpack_spec.specs.Table as table
 use Rattle.qpack_spec.specs.Table.{has_number}
 use Rattle.qpack_table.specs.Positions.{Positions}
 use Rattle.qpack_table.specs.Tables.{times, references_in, flags_of, NoneTwice, AreUsed, AreFlagged, CountsReferences}
-use Rattle.qpack_table.specs.declared.dynamic.entry.Entry.{Entry}
+use Rattle.qpack_table.specs.Entries.{Entry}
 
 -- ---- how often a number is among some
 

@@ -5,12 +5,11 @@ use Rattle.std.specs.Prelude.{Contains}
 use Rattle.std.specs.declared.cmp.Ordering.TheVariants.{Less, Equal, Greater}
 use Rattle.std.proofs.lemmas.Bool.{cases_lt}
 use Rattle.std.proofs.lemmas.List.{get_or_default}
-use Rattle.qpack_base.specs.HeaderFields.{field_of}
 use Rattle.qpack_spec.specs.Field.{Field}
 use Rattle.qpack_table.specs.Rows.{Key, key_cmp, key_at, part_of, part_at, field_at, IsSlot, IsRow, IsMatch}
 use Rattle.qpack_table.specs.Rows.{IsGap, hash_of, index_of}
 use Rattle.qpack_table.specs.Tables.{live_fields}
-use Rattle.qpack_table.specs.declared.dynamic.entry.Entry.{Entry}
+use Rattle.qpack_table.specs.Entries.{Entry}
 use Rattle.qpack_table.specs.declared.dynamic.index.row.Part.{Part}
 use Rattle.qpack_table.specs.declared.dynamic.index.row.Slot.{Slot}
 use Rattle.qpack_table.proofs.RowOrder.{less_through, greater_through, same_part, same_hash, tie_of}
@@ -109,7 +108,7 @@ module _ (part : Part) (dropped : ℕ) (live : List Field) (row : List Slot) (is
 -- the entry of a slot that is compared has the field of its index
 pub entry_part : (part : Part) (dropped : ℕ) (es : List Entry) (index : ℕ) (e : Entry)
     → (dropped < index) × (index ≤ dropped + length (live_fields es)) → e ≡ get_or es (index - dropped - 1) e
-    → part_of part (field_of e.field) ≡ part_at part dropped (live_fields es) index
+    → part_of part e.field ≡ part_at part dropped (live_fields es) index
 entry_part part dropped es index e live read =
     let none : Field = record { name = []; value = [] } in
     ap (λ (f : Field). part_of part f)

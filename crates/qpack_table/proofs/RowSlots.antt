@@ -19,7 +19,7 @@ use Rattle.qpack_table.specs.declared.dynamic.index.row.Slot.{Slot}
 use Rattle.qpack_table.proofs.Lists.{contains_more, contains_either, set_either, all_pairs_insert}
 use Rattle.qpack_table.proofs.RowOrder.{same_key, tie_of, same_hash, flipped_greater, not_less_and_equal}
 use Rattle.qpack_table.specs.Tables.{live_fields}
-use Rattle.qpack_table.specs.declared.dynamic.entry.Entry.{Entry}
+use Rattle.qpack_table.specs.Entries.{Entry}
 use Rattle.qpack_table.proofs.Lookups.{fields_long}
 use Rattle.qpack_table.proofs.RowSearches.{ties, found_none}
 use Rattle.qpack_table.proofs.SlotIndexes.{index_made}

@@ -5,8 +5,6 @@ use Rattle.std.specs.Prelude.{⊤, slice_set, nat_le, IfSome, IfNone}
 use Rattle.std.proofs.lemmas.Bool.{lt-ltb, le-ltb, lt-leb, le-leb}
 use Rattle.std.proofs.lemmas.List.{length-drop}
 use Rattle.std.proofs.Math.Seq.{set-append_seam}
-use Rattle.qpack_base.specs.HeaderFields.{field_of}
-use Rattle.qpack_base.specs.declared.field.HeaderField.{HeaderField}
 use Rattle.qpack_spec.specs.Field.{Field, field_size, total_size}
 use Rattle.qpack_spec.specs.Table as table
 use Rattle.qpack_spec.specs.Table.{Table, fields_in, insert_count, has_number, sent_entry, with_entry, with_reference}
@@ -15,7 +13,7 @@ use Rattle.qpack_spec.specs.Window.{eviction_count}
 use Rattle.qpack_spec.proofs.Lists.{get_append_end}
 use Rattle.qpack_table.specs.Positions.{Positions}
 use Rattle.qpack_table.specs.Tables.{entries_of, references_in, IsKept, CountsReferences}
-use Rattle.qpack_table.specs.declared.dynamic.entry.Entry.{Entry}
+use Rattle.qpack_table.specs.Entries.{Entry}
 use Rattle.qpack_table.proofs.Changes.{entered}
 use Rattle.qpack_table.proofs.Evictions.{evicted_within, joined_entries}
 use Rattle.qpack_table.proofs.References.{times_append, not_among}
@@ -23,28 +21,28 @@ use Rattle.qpack_table.proofs.Kept.{kept_put, sized_as}
 use Rattle.qpack_table.proofs.InProgress.{references_of_block, with_new}
 
 -- an entry that is sent and referenced, and as if it were neither referenced nor used yet
-abbrev pub sent_now : HeaderField → Entry
+abbrev pub sent_now : Field → Entry
 sent_now f = record { field = f; sent = true; referenced = true; uses = 1 }
 
-abbrev sent_before : HeaderField → Entry
+abbrev sent_before : Field → Entry
 sent_before f = record { field = f; sent = true; referenced = false; uses = 0 }
 
 pub kept_sent : {index shown : ℕ → List Entry → Type 0} (v w : Positions) (es now : List Entry)
     (size left capacity : ℕ)
     (referenced more : List ℕ) (unacknowledged : List table.UnacknowledgedBlock)
-    (f : HeaderField) (k n : ℕ)
+    (f : Field) (k n : ℕ)
     → IsKept v es size capacity referenced unacknowledged index
-    → field_size (field_of f) ≤ capacity
-    → k ≡ eviction_count capacity (fields_in (entries_of es) ++ field_of f ∷ [])
+    → field_size f ≤ capacity
+    → k ≡ eviction_count capacity (fields_in (entries_of es) ++ f ∷ [])
     → now ≡ drop k es ++ sent_now f ∷ []
-    → left ≡ total_size (drop k (fields_in (entries_of es))) + field_size (field_of f)
+    → left ≡ total_size (drop k (fields_in (entries_of es))) + field_size f
     → w.dropped ≡ v.dropped + k → w.total ≡ v.total + 1 → n ≡ w.total → more ≡ referenced ++ n ∷ []
     → shown w.dropped now
     → IsKept w now left capacity more unacknowledged shown
 kept_sent {index} {shown} v w es now size left capacity referenced more unacknowledged f k n kept room
     evicted items sum dropped total new last indexed =
     let mid : List Entry = drop k es ++ sent_before f ∷ [] in
-    let few : k ≤ length es = evicted_within es (field_of f) capacity k room evicted in
+    let few : k ≤ length es = evicted_within es f capacity k room evicted in
     let same : entries_of now ≡ entries_of mid =
     ap (λ (l : List Entry). entries_of l) items ∙ joined_entries (drop k es) (sent_now f)
     ∙ sym (joined_entries (drop k es) (sent_before f)) in

@@ -3,14 +3,13 @@ use Rattle.std.proofs.Common.{◌≡◌, ℕ, suc, ◌+◌, ◌-◌, ◌<◌, �
 use Rattle.std.proofs.Common.{subst, ◌∙◌, arith, Option, None, Some}
 use Rattle.std.specs.Prelude.{IfSome, IfNone}
 use Rattle.std.proofs.lemmas.Option.{IfSome_then}
-use Rattle.qpack_base.specs.HeaderFields.{field_of}
 use Rattle.qpack_spec.specs.Field.{Field, field_size}
 use Rattle.qpack_spec.specs.Table as table
 use Rattle.qpack_spec.specs.Table.{Table, fields_in, all_evictable, can_evict, eviction_count_for}
 use Rattle.qpack_spec.specs.Window.{eviction_count}
 use Rattle.qpack_spec.proofs.Positions.{eviction_count_live}
 use Rattle.qpack_table.specs.Tables.{entries_of, IsEvictableAt}
-use Rattle.qpack_table.specs.declared.dynamic.entry.Entry.{Entry}
+use Rattle.qpack_table.specs.Entries.{Entry}
 use Rattle.qpack_table.proofs.EvictableEntries.{stops_at_first, free_goes_on, all_free}
 use Rattle.qpack_table.proofs.Evictions.{GoneSoFar, eviction_count_beside, still, evicted_more, evicted_fits}
 use Rattle.qpack_table.proofs.Evictions.{evicted_all}
@@ -37,7 +36,7 @@ walk_held t es room rest evicted k more at = k.free
 
 pub walk_more : (t : Table) (es : List Entry) (room rest evicted size : ℕ) (e : Entry) → Walked t es room rest evicted
     → evicted < length es → room < rest → IsEvictableAt t evicted true → e ≡ get_or es evicted e
-    → size ≡ field_size (field_of e.field) → Walked t es room (rest - size) (evicted + 1)
+    → size ≡ field_size e.field → Walked t es room (rest - size) (evicted + 1)
 walk_more t es room rest evicted size e k within more at is exact = record {
   same = k.same;
   gone = evicted_more room es rest evicted size e within more is exact k.gone;

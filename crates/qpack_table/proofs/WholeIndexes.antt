@@ -2,13 +2,12 @@
 use Rattle.std.proofs.Common.{refl, ◌≡◌, ℕ, ◌+◌, ◌-◌, ◌<◌, ◌≤◌, [], ◌∷◌, ◌++◌, List, length, get_or, drop, sym, ap}
 use Rattle.std.proofs.Common.{subst, ◌∙◌, arith}
 use Rattle.std.proofs.lemmas.List.{length-drop}
-use Rattle.qpack_base.specs.HeaderFields.{field_of}
 use Rattle.qpack_spec.specs.Field.{Field, FieldLine, unmarked}
 use Rattle.qpack_table.specs.Positions.{Positions}
 use Rattle.qpack_table.specs.Rows.{part_of, part_at}
 use Rattle.qpack_table.specs.Indexes.{IsIndexOf}
 use Rattle.qpack_table.specs.Tables.{live_fields, IsIndexOfEntries}
-use Rattle.qpack_table.specs.declared.dynamic.entry.Entry.{Entry}
+use Rattle.qpack_table.specs.Entries.{Entry}
 use Rattle.qpack_table.specs.declared.dynamic.index.Index.{Index}
 use Rattle.qpack_table.specs.declared.dynamic.index.row.Part.{Part}
 use Rattle.qpack_table.specs.declared.dynamic.index.row.Part.TheVariants.{Name, Whole}
@@ -29,7 +28,7 @@ index_pushed dropped live f index is = record {
 -- the line of a live entry that was read
 pub line_read : (part : Part) (dropped : ℕ) (es : List Entry) (index : ℕ) (e : Entry) (l : FieldLine)
     → (dropped < index) × (index ≤ dropped + length es) → e ≡ get_or es (index - dropped - 1) e
-    → l ≡ unmarked (field_of e.field) → part_of part l.field ≡ part_at part dropped (live_fields es) index
+    → l ≡ unmarked e.field → part_of part l.field ≡ part_at part dropped (live_fields es) index
 line_read part dropped es index e l live read is =
     ap (λ (x : FieldLine). part_of part x.field) is
     ∙ entry_part part dropped es index e (live.0, omega (arith, live.1, fields_long es)) read
@@ -68,8 +67,8 @@ index_joined dropped es now e index is items =
     let long = fields_long es in
     subst (λ (l : List Field). IsIndexOf dropped l (length es) index)
     (sym (ap (λ (l : List Entry). live_fields l) items ∙ joined_fields es e))
-    (subst (λ (n : ℕ). IsIndexOf dropped (live_fields es ++ field_of e.field ∷ []) n index) long
-    (index_pushed dropped (live_fields es) (field_of e.field) index
+    (subst (λ (n : ℕ). IsIndexOf dropped (live_fields es ++ e.field ∷ []) n index) long
+    (index_pushed dropped (live_fields es) e.field index
     (subst (λ (n : ℕ). IsIndexOf dropped (live_fields es) n index) (sym long) is)))
 
 -- how many were dropped so far, as the code counts them

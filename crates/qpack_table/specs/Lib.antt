@@ -5,6 +5,7 @@ pub mod Errors
 pub mod Commits
 pub mod OpenBlocks
 pub mod BlockedBlocks
+pub mod Entries
 pub mod Tables
 pub mod Rows
 pub mod Hashes

@@ -5,9 +5,7 @@ use Rattle.std.specs.Prelude.{Option, Some, None, IfSome, slice_get, Result, Ok,
 use Rattle.std.specs.List.{AllByRecursion, find}
 use Rattle.std.specs.Option.{option_map}
 use Rattle.std.specs.Borrow.{Bor}
-use Rattle.qpack_base.specs.HeaderFields.{field_of}
 use Rattle.qpack_base.specs.Refusals.{IsRefusedFor}
-use Rattle.qpack_base.specs.declared.field.HeaderField.{HeaderField}
 use Rattle.qpack_spec.specs.Field.{Field, total_size}
 use Rattle.qpack_spec.specs.Table as table
 use Rattle.qpack_spec.specs.Table.{has_number, fields_in, is_evictable}
@@ -19,12 +17,12 @@ use Rattle.qpack_table.specs.declared.dynamic.Error.TheVariants.{BadRelativeInde
 use Rattle.qpack_table.specs.declared.dynamic.Error.TheVariants.{MaxTableSizeReached, MaximumTableSizeTooLarge, Memory}
 use Rattle.qpack_table.specs.declared.dynamic.Error.TheVariants.{UnknownStreamId}
 use Rattle.qpack_table.specs.Indexes.{IsIndexOf}
-use Rattle.qpack_table.specs.declared.dynamic.entry.Entry.{Entry}
+use Rattle.qpack_table.specs.Entries.{Entry}
 use Rattle.qpack_table.specs.declared.dynamic.index.Index.{Index}
 
 -- a live entry
 abbrev pub entry_of : Entry → table.Entry
-entry_of e = record { field = field_of e.field; sent = e.sent }
+entry_of e = record { field = e.field; sent = e.sent }
 
 abbrev pub entries_of : List Entry → List table.Entry
 entries_of es = map (λ e. entry_of e) es
@@ -138,10 +136,10 @@ refusal_of MaximumTableSizeTooLarge = Some AboveMaximum
 refusal_of (UnknownStreamId stream) = Some (UnknownStream stream)
 refusal_of e = None
 
--- a field that was looked for, or the refusal of the index
-abbrev pub LooksUp : Result (Bor HeaderField) Error → Result Field Fault → Type 0
-LooksUp (Ok field) read = read ≡ Ok (field_of field.now)
-LooksUp (Err e) read = IsRefusedFor read (lookup_fault_of e)
+-- a stored field that was looked for, or the refusal of the index
+abbrev pub LooksUp : {S : Type 0} → (S → Field) → Result (Bor S) Error → Result Field Fault → Type 0
+LooksUp field (Ok found) read = read ≡ Ok (field found.now)
+LooksUp field (Err e) read = IsRefusedFor read (lookup_fault_of e)
 
 -- the table is what the definition makes of it, or unchanged if that is refused
 abbrev pub Changes : Result ⊤ Error → Result table.Table TableRefusal → table.Table → table.Table → Type 0

@@ -28,7 +28,9 @@ pub use crate::dynamic::encoder::{
 pub use crate::dynamic::entry_index::{EntryIndex, NoIndex};
 pub use crate::dynamic::index::{Index, Steps};
 pub use crate::dynamic::sought::{FoundField, SoughtField};
-pub use crate::dynamic::table::{DynamicTable, DynamicTableDecoder, ReceivedTable};
+pub use crate::dynamic::table::{
+    DynamicTable, DynamicTableDecoder, PackedTable, ReceivedPackedTable, ReceivedTable,
+};
 
 /// Why a call of the dynamic table failed.
 #[derive(Clone, Copy, Debug, PartialEq, Drop, ThisError)]

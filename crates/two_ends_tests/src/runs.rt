@@ -6,7 +6,7 @@ use anyhow::{Result, bail};
 use h3_qpack::dynamic::{DynamicTable, Error};
 use h3_qpack::session::{Event, Outcome, Session, run};
 use qpack_connection::connection as ends;
-use qpack_testing::cases::{Subject, Words};
+use qpack_testing::cases::{Subject, Words, push_capacity};
 use std::alloc::Global;
 use std::fmt::Write;
 
@@ -149,17 +149,17 @@ fn push_begun(alloc: Global, words: &mut Words<'_>, answer: &mut String) -> Resu
 fn push_capacities(answer: &mut String, begun: &Result<Session, Error>) -> Result<()> {
     match begun {
         Ok(session) => {
-            push_capacity(answer, session.encoder().table())?;
+            push_table(answer, session.encoder().table())?;
             answer.push_str(", ")?;
-            push_capacity(answer, session.decoder().table())
+            push_table(answer, session.decoder().table())
         }
         Err(error) => push_refused(answer, error),
     }
 }
 
 /// Appends the capacity of a table, and its maximum.
-fn push_capacity(answer: &mut String, table: &DynamicTable) -> Result<()> {
-    Ok(write!(answer, "{} of {}", table.max_mem_size(), table.agreed_max())?)
+fn push_table(answer: &mut String, table: &DynamicTable) -> Result<()> {
+    push_capacity(answer, table.max_mem_size(), table.agreed_max())
 }
 
 /// Appends the outcomes of a session's run, and the capacity then; or why it is refused.
@@ -176,7 +176,7 @@ fn push_outcomes(answer: &mut String, session: &Session, outcomes: &[Outcome]) -
         session::push_outcome(answer, outcome)?;
         answer.push_str("; ")?;
     }
-    push_capacity(answer, session.encoder().table())
+    push_table(answer, session.encoder().table())
 }
 
 /// Appends the outcomes of a connection's run, and the capacity then; or why it is refused.
@@ -200,7 +200,8 @@ fn push_connection(
         connection::push_outcome(answer, outcome)?;
         answer.push_str("; ")?;
     }
-    push_capacity(answer, connection.encoder().table())
+    let table = connection.encoder().table();
+    push_capacity(answer, table.max_mem_size(), table.agreed_max())
 }
 
 /// Appends, for each of the outcomes of a session's run, how many of them equal it; or why it is refused.

@@ -3,7 +3,6 @@
 ghost use Rattle.std.specs.Prelude.{◌≡◌, ◌<◌, Err, IsSome, IsTrue, OnOk, OnErr};
 ghost use Rattle.qpack_spec.specs.Instruction.{Duplicate as DuplicateOf, written_decoder_instructions};
 ghost use Rattle.qpack_spec.specs.Table.{apply_encoder_instruction, put, with_capacity};
-ghost use Rattle.qpack_base.specs.HeaderFields.{field_of};
 ghost use Rattle.qpack_base.specs.Writes.{Writes};
 ghost use Rattle.qpack_wire.specs.Instructions.{encoder_instruction_of_insert_with_name_ref};
 ghost use Rattle.qpack_wire.specs.StreamLines.{encoder_instruction_of};
@@ -14,8 +13,8 @@ ghost use Rattle.qpack_codec.specs.declared.error.DecoderError.TheVariants.{Dyna
 
 use crate::error::DecoderError;
 use qpack_base::coding::{Cursor, NoMemory};
-use qpack_base::field::HeaderField;
 use qpack_base::static_::StaticTable;
+use qpack_base::stored_field::StoredField;
 use qpack_table::dynamic::{self, DynamicTable, EntryIndex};
 use qpack_wire::stream::{
     Duplicate, DynamicTableSizeUpdate, EncoderLine, InsertCountIncrement, InsertWithNameRef,
@@ -28,8 +27,8 @@ const GREATEST_PIECE: usize = 64;
 
 /// Applies all whole instructions at the cursor, and moves past them. Stops at the first one that is rejected. The
 /// cursor moves past that one exactly if the table rejects what it asks for.
-pub(super) fn take_instructions<I: EntryIndex>(
-    table: &mut DynamicTable<I>,
+pub(super) fn take_instructions<I: EntryIndex, F: StoredField>(
+    table: &mut DynamicTable<I, F>,
     buf: &mut Cursor,
 ) -> Result<(), DecoderError>
     ensures takes { TakesInstructions table.old table.new buf.old.rest buf.new.rest result }
@@ -42,8 +41,8 @@ pub(super) fn take_instructions<I: EntryIndex>(
 /// Applies the encoder instruction at the cursor, and moves past it (RFC 9204, section 4.3). Returns whether there was
 /// a whole one. On error the table is unchanged. The cursor moves past the instruction exactly if the table rejects
 /// what it asks for. The table may be one without an index.
-pub fn take_instruction<I: EntryIndex>(
-    table: &mut DynamicTable<I>,
+pub fn take_instruction<I: EntryIndex, F: StoredField>(
+    table: &mut DynamicTable<I, F>,
     buf: &mut Cursor,
 ) -> Result<bool, DecoderError>
     ensures takes { TakesNext table.old table.new buf.old.rest buf.new.rest result }
@@ -87,8 +86,8 @@ fn is_refused_by_table(e: &dynamic::Error) -> bool
 
 /// Applies an instruction to the table. On error nothing changes.
 #[tactic(auto, unfolding(qpack_spec::specs::Table::apply_encoder_instruction))]
-fn apply_encoder_line<I: EntryIndex>(
-    table: &mut DynamicTable<I>,
+fn apply_encoder_line<I: EntryIndex, F: StoredField>(
+    table: &mut DynamicTable<I, F>,
     line: EncoderLine,
 ) -> Result<(), DecoderError>
     ensures applies { Applies result (apply_encoder_instruction table.old (encoder_instruction_of line))
@@ -101,7 +100,8 @@ fn apply_encoder_line<I: EntryIndex>(
             insert(table, field)
         }
         EncoderLine::InsertWithoutNameRef(InsertWithoutNameRef { name, value }) => {
-            insert(table, HeaderField::new(name, value))
+            let field = F::from_parts(name, value)?;
+            insert(table, field)
         }
         EncoderLine::Duplicate(Duplicate(index)) => {
             let field = duplicated(table, index)?;
@@ -115,15 +115,16 @@ fn apply_encoder_line<I: EntryIndex>(
 
 /// Returns the field that an insertion with a name reference asks for (RFC 9204, section 4.3.2).
 #[tactic(auto, unfolding(qpack_spec::specs::Table::apply_encoder_instruction))]
-fn with_name<I: EntryIndex>(
-    table: &DynamicTable<I>,
+fn with_name<I: EntryIndex, F: StoredField>(
+    table: &DynamicTable<I, F>,
     line: InsertWithNameRef,
-) -> Result<HeaderField, DecoderError>
-    ensures { FindsField table.now (encoder_instruction_of_insert_with_name_ref line) result }
+) -> Result<F, DecoderError>
+    ensures { FindsField F.field table.now (encoder_instruction_of_insert_with_name_ref line) result }
 {
     match line {
         InsertWithNameRef::Static { index, value } => {
-            Ok(StaticTable::get(index)?.with_value(value)?)
+            StaticTable::get(index)?;
+            Ok(F::with_static_name(index, value)?)
         }
         InsertWithNameRef::Dynamic { index, value } => {
             Ok(table.get_relative(index)?.with_value(value)?)
@@ -133,27 +134,30 @@ fn with_name<I: EntryIndex>(
 
 /// Returns the field that a duplicate asks for (RFC 9204, section 4.3.4).
 #[tactic(auto, unfolding(qpack_spec::specs::Table::apply_encoder_instruction))]
-fn duplicated<I: EntryIndex>(
-    table: &DynamicTable<I>,
+fn duplicated<I: EntryIndex, F: StoredField>(
+    table: &DynamicTable<I, F>,
     index: usize,
-) -> Result<HeaderField, DecoderError>
-    ensures { FindsField table.now (DuplicateOf index) result }
+) -> Result<F, DecoderError>
+    ensures { FindsField F.field table.now (DuplicateOf index) result }
 {
-    Ok(table.get_relative(index)?.clone()?)
+    Ok(table.get_relative(index)?.duplicate()?)
 }
 
 /// Puts a field. On error nothing changes.
-fn insert<I: EntryIndex>(
-    table: &mut DynamicTable<I>,
-    field: HeaderField,
+fn insert<I: EntryIndex, F: StoredField>(
+    table: &mut DynamicTable<I, F>,
+    field: F,
 ) -> Result<(), DecoderError>
-    ensures { Applies result (put table.old (field_of field)) table.old table.new }
+    ensures { Applies result (put table.old (F.field field)) table.old table.new }
 {
     Ok(table.put(field)?)
 }
 
 /// Sets the capacity. On error nothing changes; it takes no memory.
-fn set_capacity<I: EntryIndex>(table: &mut DynamicTable<I>, size: usize) -> Result<(), DecoderError>
+fn set_capacity<I: EntryIndex, F: StoredField>(
+    table: &mut DynamicTable<I, F>,
+    size: usize,
+) -> Result<(), DecoderError>
     ensures applies { Applies result (with_capacity table.old size) table.old table.new }
     ensures no_memory { result ≡ Err Memory → ⊥ }
 {

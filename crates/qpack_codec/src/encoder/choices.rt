@@ -12,6 +12,7 @@ ghost use Rattle.qpack_codec.specs.declared.encoder.choices.Wish.{Wish as Asked}
 ghost use Rattle.qpack_codec.specs.declared.encoder.choices.Wish.TheVariants.{Unmarked};
 
 use qpack_base::field::{FieldLine, HeaderField};
+use qpack_base::stored_field::PackedField;
 use qpack_table::dynamic::{DynamicTableEncoder, SoughtField};
 
 /// The caller's wish for a field.
@@ -75,13 +76,13 @@ pub trait Chooses {
     ghost chooses: { Self → Table → Line → Asked → Chosen → Self → Type 0 };
 
     /// Begins a section: this is called before its first field.
-    fn begin(&mut self, block: &DynamicTableEncoder<'_>);
+    fn begin(&mut self, block: &DynamicTableEncoder<'_, PackedField>);
 
     /// Chooses for a field that no static field equals, or that is never indexed. Of the latter only the name counts:
     /// `sought` holds no equal entry, and it is not inserted.
     fn choose(
         &mut self,
-        block: &DynamicTableEncoder<'_>,
+        block: &DynamicTableEncoder<'_, PackedField>,
         field: &FieldLine<'_>,
         wish: Wish,
         sought: &SoughtField,

@@ -18,6 +18,7 @@ use qpack_base::coding::{NoMemory, make_room};
 use qpack_base::field::FieldLine;
 use qpack_base::prefix_string;
 use qpack_base::static_::{StaticMatch, StaticTable};
+use qpack_base::stored_field::StoredField;
 use qpack_table::dynamic::{
     DynamicInsertionResult, DynamicLookupResult, DynamicTableEncoder, FoundField,
 };
@@ -162,7 +163,10 @@ fn append_insertion<A: Allocator, B: Allocator>(
 
 /// Returns how many bytes hold the instruction of this field, if it is inserted, with a reference or without: four for
 /// each byte of the entry's size hold its numbers and its coded strings.
-pub(super) fn instruction_room(block: &DynamicTableEncoder<'_>, field: &FieldLine<'_>) -> usize
+pub(super) fn instruction_room<F: StoredField>(
+    block: &DynamicTableEncoder<'_, F>,
+    field: &FieldLine<'_>,
+) -> usize
     ensures enough { length (written_insertion (line_of field.now).field
         (insert_field block.now.table.now block.now.base (line_of field.now).field).insertion) ≤ result }
     ensures any { field_size (line_of field.now).field ≤ block.now.table.now.capacity

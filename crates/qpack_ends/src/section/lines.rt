@@ -2,7 +2,7 @@
 
 ghost use Rattle.std.specs.Prelude.{◌≡◌, ℕ, ◌+◌, ◌*◌, ◌/◌, ◌-◌, ◌<◌, ◌≤◌, ◌∷◌, [], drop, length, max, Err, IfOk};
 ghost use Rattle.std.specs.Prelude.{vec_len, vec_capacity};
-ghost use Rattle.qpack_base.specs.HeaderFields.{field_of};
+ghost use Rattle.qpack_base.specs.HeaderFields.{line_of};
 ghost use Rattle.qpack_spec.specs.Bytes.{Begins};
 ghost use Rattle.qpack_spec.specs.Form.{NameAndValue, made_at, form_at, or_bad_integer};
 ghost use Rattle.qpack_spec.specs.Form.{or_bad_string};
@@ -27,9 +27,10 @@ ghost use Rattle.qpack_ends.specs.declared.section.SectionError.TheVariants.{Mem
 use crate::field_section::Span;
 use crate::section::{LineError, SectionError};
 use qpack_base::coding::{Cursor, NoMemory, append_within, make_room_within};
-use qpack_base::field::{ESTIMATED_OVERHEAD_BYTES, HeaderField};
+use qpack_base::field::{ESTIMATED_OVERHEAD_BYTES, FieldLine};
 use qpack_base::parse_error::ParseError;
 use qpack_base::static_::{self, StaticTable};
+use qpack_base::stored_field::StoredField;
 use qpack_base::{prefix_int, prefix_string};
 use qpack_codec::DecoderError;
 use qpack_table::dynamic::{self, DynamicTable, EntryIndex};
@@ -69,9 +70,9 @@ impl From<NoMemory> for LineError {
 
 /// What the lines of a section are read under.
 #[derive(Drop)]
-pub(crate) struct Lines<'a, I: EntryIndex> {
+pub(crate) struct Lines<'a, I: EntryIndex, F: StoredField> {
     /// The table.
-    pub(crate) table: &'a DynamicTable<I>,
+    pub(crate) table: &'a DynamicTable<I, F>,
     /// The base of the section.
     pub(crate) base: usize,
     /// Its required insert count.
@@ -128,30 +129,34 @@ struct Lengths {
 
 /// Appends a field's name if it has at most `most` bytes, and returns how many it has. On error the text is unchanged.
 #[inline(always)]
-fn append_name(field: &HeaderField, most: usize, text: &mut Vec<u8>) -> Result<usize, LineError>
-    ensures exact { AppendsName most text.old.items text.new.items result (Ok (field_of field.now)) }
+fn append_name(field: &FieldLine<'_>, most: usize, text: &mut Vec<u8>) -> Result<usize, LineError>
+    ensures exact { AppendsName most text.old.items text.new.items result (Ok (line_of field.now).field) }
     ensures asks { result ≡ Err NoRoom → vec_capacity text.old < vec_len text.old + most }
     ensures left { IfOk result (λ len. vec_len text.new + (most - len) ≤ vec_len text.old + most) }
     ensures room { vec_capacity text.new ≤ max (vec_capacity text.old) (vec_len text.old + most) }
     ensures kept { vec_capacity text.old ≤ vec_capacity text.new }
 {
-    Ok(append_within(field.name.as_slice(), most, text)?)
+    Ok(append_within(field.name, most, text)?)
 }
 
 /// Appends a field's name and value, each if it has at most as many bytes as are left of `most`.
 #[inline(always)]
-fn append_field(field: &HeaderField, most: usize, text: &mut Vec<u8>) -> Result<Lengths, LineError>
-    ensures exact { AppendsEntry most text.old.items text.new.items result (Ok (field_of field.now)) }
+fn append_field(
+    field: &FieldLine<'_>,
+    most: usize,
+    text: &mut Vec<u8>,
+) -> Result<Lengths, LineError>
+    ensures exact { AppendsEntry most text.old.items text.new.items result (Ok (line_of field.now).field) }
     ensures asks { result ≡ Err NoRoom → vec_capacity text.old < vec_len text.old + most }
     ensures room { vec_capacity text.new ≤ max (vec_capacity text.old) (vec_len text.old + most) }
     ensures kept { vec_capacity text.old ≤ vec_capacity text.new }
 {
     let name = append_name(field, most, text)?;
-    let value = append_within(field.value.as_slice(), most.saturating_sub(name), text)?;
+    let value = append_within(field.value, most.saturating_sub(name), text)?;
     Ok(Lengths { name, value })
 }
 
-impl<I: EntryIndex> Lines<'_, I> {
+impl<I: EntryIndex, F: StoredField> Lines<'_, I, F> {
     /// Rejects a relative index past the required insert count (RFC 9204, section 2.2.3).
     fn check_relative(&self, index: usize) -> Result<(), LineError>
         ensures { ChecksRequired result self.now.required (self.now.base - index) }
@@ -191,11 +196,11 @@ impl<I: EntryIndex> Lines<'_, I> {
         ensures kept { vec_capacity text.old ≤ vec_capacity text.new }
     {
         match reference {
-            Reference::Static => append_name(&StaticTable::get(index)?, most, text),
+            Reference::Static => append_name(&StaticTable::get(index)?.as_line(), most, text),
             Reference::Relative => {
                 self.check_relative(index)?;
                 append_name(
-                    self.table.decoder(self.base).get_relative(index)?,
+                    &self.table.decoder(self.base).get_relative(index)?.as_line(),
                     most,
                     text,
                 )
@@ -203,7 +208,7 @@ impl<I: EntryIndex> Lines<'_, I> {
             Reference::PostBase => {
                 self.check_post_base(index)?;
                 append_name(
-                    self.table.decoder(self.base).get_postbase(index)?,
+                    &self.table.decoder(self.base).get_postbase(index)?.as_line(),
                     most,
                     text,
                 )
@@ -227,11 +232,11 @@ impl<I: EntryIndex> Lines<'_, I> {
         ensures kept { vec_capacity text.old ≤ vec_capacity text.new }
     {
         match reference {
-            Reference::Static => append_field(&StaticTable::get(index)?, most, text),
+            Reference::Static => append_field(&StaticTable::get(index)?.as_line(), most, text),
             Reference::Relative => {
                 self.check_relative(index)?;
                 append_field(
-                    self.table.decoder(self.base).get_relative(index)?,
+                    &self.table.decoder(self.base).get_relative(index)?.as_line(),
                     most,
                     text,
                 )
@@ -239,7 +244,7 @@ impl<I: EntryIndex> Lines<'_, I> {
             Reference::PostBase => {
                 self.check_post_base(index)?;
                 append_field(
-                    self.table.decoder(self.base).get_postbase(index)?,
+                    &self.table.decoder(self.base).get_postbase(index)?.as_line(),
                     most,
                     text,
                 )
@@ -348,8 +353,8 @@ fn most_of_field(limit: u64, sum: u64) -> usize
 /// Appends the field of the line at the cursor, which begins with this byte, unless the sizes pass the limit with it;
 /// those so far have this sum. Returns the sum with it. On error text and spans are unchanged. What passes the limit is
 /// never appended, and no room is made for it.
-fn read_line<I: EntryIndex>(
-    lines: &Lines<I>,
+fn read_line<I: EntryIndex, F: StoredField>(
+    lines: &Lines<I, F>,
     first: u8,
     sum: u64,
     buf: &mut Cursor,
@@ -426,8 +431,8 @@ fn at_line(number: usize, offset: usize, error: LineError) -> SectionError
 }
 
 /// Reads the lines to the end of the cursor, each strictly, until one is rejected.
-pub(crate) fn read_lines<I: EntryIndex>(
-    lines: &Lines<I>,
+pub(crate) fn read_lines<I: EntryIndex, F: StoredField>(
+    lines: &Lines<I, F>,
     buf: &mut Cursor,
     text: &mut Vec<u8>,
     spans: &mut Vec<Span>,

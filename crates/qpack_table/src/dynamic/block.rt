@@ -13,12 +13,14 @@ ghost use Rattle.qpack_table.specs.Handles.{Commits, OpensOrBlocks};
 
 use crate::dynamic::Error;
 use crate::dynamic::entry::{Entry, clear_references, lower_uses};
+use crate::dynamic::index::Index;
 use crate::dynamic::open_blocks::{BlockedBlocks, OpenBlocks};
 use crate::dynamic::table::DynamicTable;
+use qpack_base::stored_field::StoredField;
 use std::alloc::AllocError;
 use std::collections::VecDeque;
 
-impl DynamicTable {
+impl<F: StoredField> DynamicTable<Index, F> {
     /// Adds a live entry to the references of the block in progress. On error, which is `Memory` only, nothing changes.
     pub(super) fn reference(&mut self, absolute: usize) -> Result<(), AllocError>
         requires live { self.old.dropped < absolute }
@@ -27,14 +29,12 @@ impl DynamicTable {
         ensures err { OnErr result (self.new ≡ self.old) }
     {
         let position = absolute - self.vas.total_dropped() - 1;
-        if self.entries[position].referenced {
+        if self.entries[position].is_referenced() {
             return Ok(());
         }
         make_room(&mut self.referenced)?;
         self.referenced.push_reserved(absolute);
-        let entry = &mut self.entries[position];
-        entry.referenced = true;
-        entry.uses += 1;
+        self.entries[position].mark_referenced();
         Ok(())
     }
 
@@ -179,8 +179,8 @@ fn grow(numbers: &mut Vec<usize>) -> Result<(), AllocError>
 }
 
 /// Keeps the block in progress until it is acknowledged, if it references an entry. On error nothing changes.
-fn open_block(
-    entries: &mut VecDeque<Entry>,
+fn open_block<F: StoredField>(
+    entries: &mut VecDeque<Entry<F>>,
     dropped: usize,
     referenced: &mut Vec<usize>,
     unacknowledged: &mut OpenBlocks,

@@ -16,9 +16,11 @@ ghost use Rattle.qpack_table.specs.Handles.{Finds, Inserts, Commits, IsFoundIn, 
 ghost use Rattle.qpack_table.specs.Handles.{AreHashesIn, InsertsIf, referenced_insertion, unreferenced_insertion};
 
 use crate::dynamic::Error;
+use crate::dynamic::index::Index;
 use crate::dynamic::sought::{FoundField, SoughtField};
 use crate::dynamic::table::DynamicTable;
 use qpack_base::field::{FieldLine, HeaderField};
+use qpack_base::stored_field::StoredField;
 
 /// Where a field or its name was found. Absolute indexes begin at 1.
 #[derive(Debug, PartialEq, Clone, Copy)]
@@ -65,9 +67,9 @@ pub enum DynamicInsertionResult {
     NotInserted(DynamicLookupResult),
 }
 
-impl DynamicTable {
+impl<F: StoredField> DynamicTable<Index, F> {
     /// Begins a block of a stream, which references nothing yet. Its base is the insert count.
-    pub fn encoder(&mut self, stream_id: u64) -> DynamicTableEncoder<'_>
+    pub fn encoder(&mut self, stream_id: u64) -> DynamicTableEncoder<'_, F>
         ensures same_table { result.table.ghost_name ≡ self.entry.ghost_name }
         ensures table { result.table.now ≡ without_references self.old }
         ensures stream { result.stream_id ≡ stream_id }
@@ -84,13 +86,13 @@ impl DynamicTable {
 }
 
 /// A block in progress. It must be spent, by `commit` or `release`; its references are kept in the table.
-pub struct DynamicTableEncoder<'a> {
-    table: &'a mut DynamicTable,
+pub struct DynamicTableEncoder<'a, F: StoredField = HeaderField> {
+    table: &'a mut DynamicTable<Index, F>,
     stream_id: u64,
     base: usize,
 }
 
-impl DynamicTableEncoder<'_> {
+impl<F: StoredField> DynamicTableEncoder<'_, F> {
     /// Returns the capacity of the table in bytes. The live fields fit it.
     pub fn max_size(&self) -> usize
         ensures exact { result ≡ self.now.table.now.capacity }

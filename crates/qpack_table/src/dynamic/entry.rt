@@ -1,10 +1,11 @@
 //! The live entries of a table.
 
-ghost use Rattle.std.specs.Prelude.{◌≡◌, ℕ, ◌+◌, ◌^◌, ◌<◌, ◌≤◌, List, [], ◌∷◌, ◌++◌, length, drop, IfSome, IfNone, max};
+ghost use Rattle.std.specs.Prelude.{◌≡◌, ℕ, ◌+◌, ◌-◌, ◌^◌, ◌<◌, ◌≤◌, List, [], ◌∷◌, ◌++◌, length, drop, IfSome, IfNone, max};
+ghost use Rattle.std.specs.Prelude.{false, min, true};
 ghost use Rattle.std.specs.Prelude.{OnOk, OnErr};
 ghost use Rattle.std.specs.VecDeque.{deque_capacity};
-ghost use Rattle.qpack_base.specs.HeaderFields.{field_of};
-ghost use Rattle.qpack_spec.specs.Field.{field_size, total_size};
+ghost use Rattle.qpack_base.specs.HeaderFields.{line_of};
+ghost use Rattle.qpack_spec.specs.Field.{field_size, total_size, unmarked};
 ghost use Rattle.qpack_spec.specs.Table.{fields_in};
 ghost use Rattle.qpack_table.specs.Growth.{grown};
 ghost use Rattle.qpack_table.specs.Tables.{entries_of, uses_of, flags_of, AreFlagged, AreUsed, AreCounted};
@@ -12,14 +13,16 @@ ghost use Rattle.qpack_table.specs.Tables.{entries_of, uses_of, flags_of, AreFla
 use crate::dynamic::entry_index::EntryIndex;
 use crate::dynamic::growth::{ENTRIES, make_room};
 use crate::vas::VirtualAddressSpace;
-use qpack_base::field::HeaderField;
+use qpack_base::field::FieldLine;
+use qpack_base::stored_field::StoredField;
 use std::alloc::AllocError;
 use std::collections::VecDeque;
+use std::marker::Model;
 
 /// A live entry.
 #[derive(Debug, Drop)]
-pub struct Entry {
-    pub(super) field: HeaderField,
+pub struct Entry<F: StoredField> {
+    pub(super) field: F,
     /// Whether an encoder's handle inserted it, and so sent it.
     pub(super) sent: bool,
     /// Whether the block in progress references it.
@@ -28,8 +31,99 @@ pub struct Entry {
     pub(super) uses: usize,
 }
 
+impl<F: StoredField> Model for Entry<F> {
+    ghost use Rattle.qpack_table.specs.Entries.{Entry};
+
+    ghost Value = { Entry };
+
+    ghost view = { λ e. record {
+      field = F.field e.field;
+      sent = e.sent;
+      referenced = e.referenced;
+      uses = e.uses;
+    } };
+}
+
+impl<F: StoredField> Entry<F> {
+    /// Borrows the field.
+    #[inline(always)]
+    pub(super) fn field(&self) -> &F
+        ensures { F.field result.now ≡ self.now.field }
+    {
+        &self.field
+    }
+
+    /// Borrows the field as a line that may be indexed.
+    #[inline(always)]
+    pub(super) fn as_line(&self) -> FieldLine<'_>
+        ensures { line_of result ≡ unmarked self.now.field }
+    {
+        self.field.as_line()
+    }
+
+    /// Returns the size of the field in a table, in bytes, at most 2^64 - 1 (RFC 9204, section 3.2.1).
+    #[inline(always)]
+    pub(super) fn mem_size(&self) -> usize
+        ensures { result ≡ min (field_size self.now.field) (2 ^ 64 - 1) }
+    {
+        self.field.mem_size()
+    }
+
+    /// Returns whether an encoder's handle inserted it, and so sent it.
+    pub(super) fn is_sent(&self) -> bool
+        ensures { result ≡ self.now.sent }
+    {
+        self.sent
+    }
+
+    /// Returns whether the block in progress references it.
+    pub(super) fn is_referenced(&self) -> bool
+        ensures { result ≡ self.now.referenced }
+    {
+        self.referenced
+    }
+
+    /// Returns how many blocks reference it: unacknowledged ones, and the one in progress.
+    pub(super) fn uses(&self) -> usize
+        ensures { result ≡ self.now.uses }
+    {
+        self.uses
+    }
+
+    /// Counts one more block that references it, the one in progress.
+    #[inline(always)]
+    pub(super) fn mark_referenced(&mut self)
+        requires { self.old.uses < 2 ^ 64 - 1 }
+        ensures { self.new ≡ record self.old { referenced = true; uses = self.old.uses + 1 } }
+    {
+        self.referenced = true;
+        self.uses += 1;
+    }
+
+    /// Clears the mark that the block in progress references it.
+    #[inline(always)]
+    fn clear_mark(&mut self)
+        ensures { self.new ≡ record self.old { referenced = false } }
+    {
+        self.referenced = false;
+    }
+
+    /// Counts one block less that references it.
+    #[inline(always)]
+    fn lower_uses(&mut self)
+        requires { 0 < self.old.uses }
+        ensures { self.new ≡ record self.old { uses = self.old.uses - 1 } }
+    {
+        self.uses -= 1;
+    }
+}
+
 /// Returns the position of the live entry with an absolute index.
-fn position_of(entries: &VecDeque<Entry>, dropped: usize, absolute: usize) -> Option<usize>
+fn position_of<F: StoredField>(
+    entries: &VecDeque<Entry<F>>,
+    dropped: usize,
+    absolute: usize,
+) -> Option<usize>
     ensures found { IfSome result (λ position.
         (absolute ≡ dropped + position + 1) × (position < length entries.now.items)) }
     ensures none { IfNone result
@@ -44,7 +138,11 @@ fn position_of(entries: &VecDeque<Entry>, dropped: usize, absolute: usize) -> Op
 }
 
 /// Clears the marks of the live entries that the block in progress references; these are all of them.
-pub(super) fn clear_references(entries: &mut VecDeque<Entry>, dropped: usize, references: &[usize])
+pub(super) fn clear_references<F: StoredField>(
+    entries: &mut VecDeque<Entry<F>>,
+    dropped: usize,
+    references: &[usize],
+)
     ensures live { entries_of entries.new.items ≡ entries_of entries.old.items }
     ensures uses { uses_of entries.new.items ≡ uses_of entries.old.items }
     ensures cleared { AreFlagged dropped entries.old.items references.now
@@ -52,13 +150,17 @@ pub(super) fn clear_references(entries: &mut VecDeque<Entry>, dropped: usize, re
 {
     for absolute in references {
         if let Some(position) = position_of(entries, dropped, *absolute) {
-            entries[position].referenced = false;
+            entries[position].clear_mark();
         }
     }
 }
 
 /// Lowers the uses of each live entry among these by one, for a block that referenced them and is given up.
-pub(super) fn lower_uses(entries: &mut VecDeque<Entry>, dropped: usize, references: &[usize])
+pub(super) fn lower_uses<F: StoredField>(
+    entries: &mut VecDeque<Entry<F>>,
+    dropped: usize,
+    references: &[usize],
+)
     requires { AreCounted dropped entries.old.items references.now }
     ensures live { entries_of entries.new.items ≡ entries_of entries.old.items }
     ensures flags { flags_of entries.new.items ≡ flags_of entries.old.items }
@@ -69,14 +171,14 @@ pub(super) fn lower_uses(entries: &mut VecDeque<Entry>, dropped: usize, referenc
 {
     for absolute in references {
         if let Some(position) = position_of(entries, dropped, *absolute) {
-            entries[position].uses -= 1;
+            entries[position].lower_uses();
         }
     }
 }
 
 /// Drops the oldest entries, and returns the sum of their sizes.
-pub(super) fn drop_oldest<I: EntryIndex>(
-    entries: &mut VecDeque<Entry>,
+pub(super) fn drop_oldest<I: EntryIndex, F: StoredField>(
+    entries: &mut VecDeque<Entry<F>>,
     index: &mut I,
     vas: &mut VirtualAddressSpace,
     evicted: usize,
@@ -101,14 +203,17 @@ pub(super) fn drop_oldest<I: EntryIndex>(
         let Some(entry) = entries.pop_front() else {
             break;
         };
-        freed += entry.field.mem_size();
+        freed += entry.mem_size();
         vas.drop();
     }
     freed
 }
 
 /// Gives the memory of an empty list and of its index back. One with entries stays as it is.
-pub(super) fn give_back_room<I: EntryIndex>(entries: &mut VecDeque<Entry>, index: &mut I)
+pub(super) fn give_back_room<I: EntryIndex, F: StoredField>(
+    entries: &mut VecDeque<Entry<F>>,
+    index: &mut I,
+)
     ensures items { entries.new.items ≡ entries.old.items }
     ensures given { length entries.old.items ≡ 0 → deque_capacity entries.new ≡ 0 }
     ensures kept { 0 < length entries.old.items → deque_capacity entries.new ≡ deque_capacity entries.old }
@@ -128,13 +233,13 @@ pub(super) fn give_back_room<I: EntryIndex>(entries: &mut VecDeque<Entry>, index
 /// for memory only, nothing changes. With free room for the entry the list does not grow. The key is that of the
 /// entry's field.
 #[inline(always)]
-pub(super) fn replace_oldest<I: EntryIndex>(
-    entries: &mut VecDeque<Entry>,
+pub(super) fn replace_oldest<I: EntryIndex, F: StoredField>(
+    entries: &mut VecDeque<Entry<F>>,
     index: &mut I,
     vas: &mut VirtualAddressSpace,
     mem_size: &mut usize,
     evicted: usize,
-    entry: Entry,
+    entry: Entry<F>,
     key: I::Key,
 ) -> Result<(), AllocError>
     requires there { evicted ≤ length entries.old.items }
@@ -144,13 +249,13 @@ pub(super) fn replace_oldest<I: EntryIndex>(
     requires index { I.is_index_of index.old vas.old.dropped entries.old.items }
     requires sum { mem_size.old ≡ total_size (fields_in (entries_of entries.old.items)) }
     requires small { mem_size.old < 2 ^ 63 }
-    requires small_entry { field_size (field_of entry.field) < 2 ^ 63 }
-    requires key { I.is_key_of key (field_of entry.field) }
+    requires small_entry { field_size entry.field < 2 ^ 63 }
+    requires key { I.is_key_of key entry.field }
     ensures entered { OnOk result (entries.new.items ≡ drop evicted entries.old.items ++ entry ∷ []) }
     ensures dropped { OnOk result (vas.new.dropped ≡ vas.old.dropped + evicted) }
     ensures inserted { OnOk result (vas.new.total ≡ vas.old.total + 1) }
     ensures sum { OnOk result (mem_size.new
-        ≡ total_size (drop evicted (fields_in (entries_of entries.old.items))) + field_size (field_of entry.field)) }
+        ≡ total_size (drop evicted (fields_in (entries_of entries.old.items))) + field_size entry.field) }
     ensures same_sum { OnErr result (mem_size.new ≡ mem_size.old) }
     ensures same_entries { OnErr result (entries.new.items ≡ entries.old.items) }
     ensures same_space { OnErr result (vas.new ≡ vas.old) }
@@ -158,12 +263,12 @@ pub(super) fn replace_oldest<I: EntryIndex>(
     ensures still { length entries.old.items + 1 ≤ deque_capacity entries.old
         → deque_capacity entries.new ≡ deque_capacity entries.old }
     ensures grown { OnOk result (deque_capacity entries.old ≤ length entries.old.items
-        → deque_capacity entries.new ≡ grown 18 (length entries.old.items)) }
+        → deque_capacity entries.new ≡ grown 8 (length entries.old.items)) }
     ensures capacity { deque_capacity entries.new
-        ≤ max (deque_capacity entries.old) (grown 18 (length entries.old.items)) }
+        ≤ max (deque_capacity entries.old) (grown 8 (length entries.old.items)) }
 {
-    let size = entry.field.mem_size();
-    let key = index.own_key(key, &entry.field.as_line());
+    let size = entry.mem_size();
+    let key = index.own_key(key, &entry.as_line());
     make_room(entries, ENTRIES)?;
     index.reserve(entries, vas.total_dropped(), key)?;
     let freed = drop_oldest(entries, index, vas, evicted);

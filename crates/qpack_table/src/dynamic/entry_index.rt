@@ -5,11 +5,12 @@ ghost use Rattle.qpack_base.specs.HeaderFields.{field_of, line_of};
 ghost use Rattle.qpack_spec.specs.Field.{Field};
 ghost use Rattle.qpack_table.specs.Indexes.{AreSeededHashesOf, HasNoRows, HasRoomForEntry};
 ghost use Rattle.qpack_table.specs.Tables.{IsIndexOfEntries};
-ghost use Rattle.qpack_table.specs.declared.dynamic.entry.Entry.{Entry};
+ghost use Rattle.qpack_table.specs.Entries.{Entry as EntryView};
 
 use crate::dynamic::entry::Entry;
 use crate::dynamic::index::{Index, SeededHashes};
 use qpack_base::field::FieldLine;
+use qpack_base::stored_field::StoredField;
 use std::alloc::AllocError;
 use std::collections::VecDeque;
 
@@ -20,7 +21,7 @@ pub trait EntryIndex: Drop {
     type Key: Copy;
 
     // The live entries are in; this many were dropped before the first of them.
-    ghost is_index_of: { Self → ℕ → List Entry → Type 0 };
+    ghost is_index_of: { Self → ℕ → List EntryView → Type 0 };
 
     // The key is that of the field.
     ghost is_key_of: { Self.Key → Field → Type 0 };
@@ -52,9 +53,9 @@ pub trait EntryIndex: Drop {
         ensures own { (key : Self.Key) → is_own key self.now → is_own key result };
 
     /// Makes room for one more entry, with this key. On error the same entries are in.
-    fn reserve(
+    fn reserve<F: StoredField>(
         &mut self,
-        entries: &VecDeque<Entry>,
+        entries: &VecDeque<Entry<F>>,
         dropped: usize,
         key: Self::Key,
     ) -> Result<(), AllocError>
@@ -65,18 +66,23 @@ pub trait EntryIndex: Drop {
         ensures room { OnOk result (has_room key self.new) };
 
     /// Adds the newest entry, which was pushed after those that are in. There is room.
-    fn enter(&mut self, entries: &VecDeque<Entry>, dropped: usize, key: Self::Key)
+    fn enter<F: StoredField>(
+        &mut self,
+        entries: &VecDeque<Entry<F>>,
+        dropped: usize,
+        key: Self::Key,
+    )
         requires few { length entries.now.items < 2 ^ 32 }
         requires within { dropped + length entries.now.items ≤ 2 ^ 62 }
-        requires pushed { (front : List Entry) × (newest : Entry) × (entries.now.items ≡ front ++ newest ∷ [])
-            × is_index_of self.old dropped front × is_key_of key (field_of newest.field) }
+        requires pushed { (front : List EntryView) × (newest : EntryView) × (entries.now.items ≡ front ++ newest ∷ [])
+            × is_index_of self.old dropped front × is_key_of key newest.field }
         requires own { is_own key self.old }
         requires room { has_room key self.old }
         ensures index { is_index_of self.new dropped entries.now.items }
         ensures own { (other : Self.Key) → is_own other self.old → is_own other self.new };
 
     /// Removes the oldest entry, which is about to be popped. It takes no memory, and the room that was made stays.
-    fn leave(&mut self, entries: &VecDeque<Entry>, dropped: usize)
+    fn leave<F: StoredField>(&mut self, entries: &VecDeque<Entry<F>>, dropped: usize)
         requires some { 0 < length entries.now.items }
         requires index { is_index_of self.old dropped entries.now.items }
         ensures index { is_index_of self.new (dropped + 1) (drop 1 entries.now.items) }
@@ -111,9 +117,9 @@ impl EntryIndex for Index {
     }
 
     #[inline(always)]
-    fn reserve(
+    fn reserve<F: StoredField>(
         &mut self,
-        entries: &VecDeque<Entry>,
+        entries: &VecDeque<Entry<F>>,
         dropped: usize,
         key: SeededHashes,
     ) -> Result<(), AllocError> {
@@ -121,12 +127,17 @@ impl EntryIndex for Index {
     }
 
     #[inline(always)]
-    fn enter(&mut self, entries: &VecDeque<Entry>, dropped: usize, key: SeededHashes) {
+    fn enter<F: StoredField>(
+        &mut self,
+        entries: &VecDeque<Entry<F>>,
+        dropped: usize,
+        key: SeededHashes,
+    ) {
         Index::enter(self, entries, dropped, dropped + entries.len(), key.hashes);
     }
 
     #[inline(always)]
-    fn leave(&mut self, entries: &VecDeque<Entry>, dropped: usize) {
+    fn leave<F: StoredField>(&mut self, entries: &VecDeque<Entry<F>>, dropped: usize) {
         Index::leave(self, entries, dropped);
     }
 }
@@ -156,16 +167,16 @@ impl EntryIndex for NoIndex {
         NoIndex
     }
 
-    fn reserve(
+    fn reserve<F: StoredField>(
         &mut self,
-        _entries: &VecDeque<Entry>,
+        _entries: &VecDeque<Entry<F>>,
         _dropped: usize,
         _key: (),
     ) -> Result<(), AllocError> {
         Ok(())
     }
 
-    fn enter(&mut self, _entries: &VecDeque<Entry>, _dropped: usize, _key: ()) {}
+    fn enter<F: StoredField>(&mut self, _entries: &VecDeque<Entry<F>>, _dropped: usize, _key: ()) {}
 
-    fn leave(&mut self, _entries: &VecDeque<Entry>, _dropped: usize) {}
+    fn leave<F: StoredField>(&mut self, _entries: &VecDeque<Entry<F>>, _dropped: usize) {}
 }

@@ -9,7 +9,7 @@ use std::alloc::AllocError;
 use std::collections::VecDeque;
 
 /// For how many entries a growth makes room at least, and the first one does.
-pub(super) const ENTRIES: usize = 18;
+pub(super) const ENTRIES: usize = 8;
 
 /// How many rows of fields the index makes at first.
 pub(super) const ROWS: usize = 8;

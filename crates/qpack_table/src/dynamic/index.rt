@@ -24,6 +24,7 @@ pub(super) use crate::dynamic::index::hash::{Hashes, SeededHashes};
 use crate::dynamic::index::row::{Part, Sought};
 use crate::dynamic::index::rows::Rows;
 use qpack_base::field::FieldLine;
+use qpack_base::stored_field::StoredField;
 use std::alloc::{AllocError, Global};
 use std::collections::VecDeque;
 
@@ -100,9 +101,9 @@ impl Index {
     }
 
     /// Returns the newest entry with the field. If there is no entry, nothing is hashed.
-    pub(super) fn newest_equal(
+    pub(super) fn newest_equal<F: StoredField>(
         &self,
-        entries: &VecDeque<Entry>,
+        entries: &VecDeque<Entry<F>>,
         dropped: usize,
         field: &FieldLine<'_>,
         steps: &mut Steps,
@@ -121,9 +122,9 @@ impl Index {
 
     /// Returns the newest entry with a field that has these hashes.
     #[inline(always)]
-    pub(super) fn newest_hashed(
+    pub(super) fn newest_hashed<F: StoredField>(
         &self,
-        entries: &VecDeque<Entry>,
+        entries: &VecDeque<Entry<F>>,
         dropped: usize,
         field: &FieldLine<'_>,
         hashes: Hashes,
@@ -144,9 +145,9 @@ impl Index {
     }
 
     /// Returns the newest entry with the name. If there is no entry, nothing is hashed.
-    pub(super) fn newest_of_name(
+    pub(super) fn newest_of_name<F: StoredField>(
         &self,
-        entries: &VecDeque<Entry>,
+        entries: &VecDeque<Entry<F>>,
         dropped: usize,
         name: &[u8],
         steps: &mut Steps,
@@ -164,9 +165,9 @@ impl Index {
     }
 
     /// Returns the newest entry with a name that has this hash.
-    pub(super) fn newest_hashed_name(
+    pub(super) fn newest_hashed_name<F: StoredField>(
         &self,
-        entries: &VecDeque<Entry>,
+        entries: &VecDeque<Entry<F>>,
         dropped: usize,
         name: &[u8],
         hash: u32,
@@ -189,9 +190,9 @@ impl Index {
     /// Makes room for one more entry, with these hashes. If there are eight entries or more for each row of fields, it
     /// makes one more row, or the first ones. On error the same entries are in, in as many rows of fields.
     #[inline(always)]
-    pub(super) fn reserve(
+    pub(super) fn reserve<F: StoredField>(
         &mut self,
-        entries: &VecDeque<Entry>,
+        entries: &VecDeque<Entry<F>>,
         dropped: usize,
         hashes: Hashes,
     ) -> Result<(), AllocError>
@@ -284,9 +285,9 @@ impl Index {
 
     /// Adds the next newer entry after those that are in. There is room.
     #[inline(always)]
-    pub(super) fn enter(
+    pub(super) fn enter<F: StoredField>(
         &mut self,
-        entries: &VecDeque<Entry>,
+        entries: &VecDeque<Entry<F>>,
         dropped: usize,
         index: usize,
         hashes: Hashes,
@@ -300,7 +301,7 @@ impl Index {
         ensures rows { length self.new.fields.rows.items ≡ length self.old.fields.rows.items }
         ensures seed { self.new.seed ≡ self.old.seed }
     {
-        let line = entries[index - dropped - 1].field.as_line();
+        let line = entries[index - dropped - 1].as_line();
         let field = Sought {
             part: Part::Whole(self.seed),
             line,
@@ -316,7 +317,7 @@ impl Index {
     }
 
     /// Removes the oldest entry, which is about to be popped. It takes no memory, and the room that was made stays.
-    pub(super) fn leave(&mut self, entries: &VecDeque<Entry>, dropped: usize)
+    pub(super) fn leave<F: StoredField>(&mut self, entries: &VecDeque<Entry<F>>, dropped: usize)
         requires some { 0 < length entries.now.items }
         requires index { IsIndexOf dropped (live_fields entries.now.items) (length entries.now.items) self.old }
         ensures index { IsIndexOf (dropped + 1) (drop 1 (live_fields entries.now.items))
@@ -324,7 +325,7 @@ impl Index {
         ensures room { (hashes : Hashes) → HasRoomForEntry hashes self.old → HasRoomForEntry hashes self.new }
         ensures seed { self.new.seed ≡ self.old.seed }
     {
-        let line = entries[0].field.as_line();
+        let line = entries[0].as_line();
         let hashes = Hashes::of(self.seed, &line);
         let field = Sought {
             part: Part::Whole(self.seed),

@@ -3,7 +3,7 @@
 
 ghost use Rattle.std.specs.Prelude.{◌≡◌, ◌+◌, ◌-◌, ◌^◌, ◌<◌, ◌≤◌, true, false, IfOk, IfErr, IfSome, IfNone, OnOk};
 ghost use Rattle.std.specs.Prelude.{◌&&◌, drop, length};
-ghost use Rattle.qpack_base.specs.HeaderFields.{field_of, line_of};
+ghost use Rattle.qpack_base.specs.HeaderFields.{line_of};
 ghost use Rattle.qpack_spec.specs.Handle.{found_entry, find_field, found_name, insert_field, answer_of};
 ghost use Rattle.qpack_spec.specs.Rule.{instruction_for, entries_left};
 ghost use Rattle.qpack_spec.specs.StaticTable.{static_name_index, IsLeastStatic};
@@ -17,16 +17,14 @@ ghost use Rattle.qpack_table.specs.Indexes.{AreSeededHashesOf};
 
 use crate::dynamic::Error;
 use crate::dynamic::encoder::{DynamicInsertionResult, DynamicLookupResult};
-use crate::dynamic::index::SeededHashes;
+use crate::dynamic::index::{Index, SeededHashes};
 use crate::dynamic::sought::SoughtField;
 use crate::dynamic::table::{DynamicTable, MOST_INSERTIONS};
-use qpack_base::coding::NoMemory;
-use qpack_base::field::{FieldLine, HeaderField};
+use qpack_base::field::FieldLine;
 use qpack_base::static_::StaticTable;
-use std::alloc::Global;
-use std::borrow::CowSlice;
+use qpack_base::stored_field::StoredField;
 
-impl DynamicTable {
+impl<F: StoredField> DynamicTable<Index, F> {
     /// Finds the newest entry that is this field, and references it, if it may be referenced.
     pub(super) fn find_field(
         &mut self,
@@ -203,7 +201,7 @@ impl DynamicTable {
     {
         let hashes = self.hashes_of(field, sought);
         let insertion = self.insertion_of(base, field, hashes, sought, evicted);
-        let copy = stored(self.allocator(), field, sought.static_name)?;
+        let copy = F::copy_of(self.allocator(), field, sought.static_name)?;
         self.insert_sent(copy, hashes, evicted)?;
         Ok(insertion)
     }
@@ -268,7 +266,7 @@ impl DynamicTable {
     {
         let hashes = self.hashes_of(field, sought);
         let insertion = self.insertion_of(base, field, hashes, sought, evicted);
-        let copy = stored(self.allocator(), field, sought.static_name)?;
+        let copy = F::copy_of(self.allocator(), field, sought.static_name)?;
         self.insert_hashed(copy, true, evicted, hashes)?;
         Ok(insertion)
     }
@@ -317,25 +315,6 @@ impl DynamicTable {
             },
             None => DynamicInsertionResult::Inserted { postbase, absolute },
         }
-    }
-}
-
-/// Copies the field as it is stored: if a static field has its name, the name is borrowed from that.
-#[inline(always)]
-fn stored(
-    alloc: Global,
-    field: &FieldLine<'_>,
-    static_name: Option<usize>,
-) -> Result<HeaderField, NoMemory>
-    requires { IfSome static_name (IsLeastStatic (λ f. f.name ≡ field.now.name.now)) }
-    ensures { IfOk result (λ copy. field_of copy ≡ (line_of field.now).field) }
-{
-    match static_name.and_then(|index| StaticTable::get(index).ok()) {
-        Some(known) => Ok(HeaderField {
-            name: known.name,
-            value: CowSlice::Owned(Vec::from_slice(alloc, field.value)?),
-        }),
-        None => HeaderField::from_pair(alloc, field.name, field.value),
     }
 }
 

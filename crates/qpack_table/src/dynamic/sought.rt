@@ -14,10 +14,11 @@ ghost use Rattle.qpack_table.specs.Rows.{Counts};
 
 use crate::dynamic::Error;
 use crate::dynamic::encoder::DynamicLookupResult;
-use crate::dynamic::index::{SeededHashes, Steps};
+use crate::dynamic::index::{Index, SeededHashes, Steps};
 use crate::dynamic::table::DynamicTable;
 use crate::vas::AbsoluteIndex;
 use qpack_base::field::{FieldLine, HeaderField};
+use qpack_base::stored_field::StoredField;
 
 /// What is known of a field that was sought.
 #[derive(Debug, Clone, Copy)]
@@ -97,7 +98,7 @@ impl FoundField {
     }
 }
 
-impl DynamicTable {
+impl<F: StoredField> DynamicTable<Index, F> {
     /// Seeks a field; `static_name` is the index of its name in the static table, if it has one. If there is no entry,
     /// nothing is hashed.
     #[inline(always)]
@@ -163,7 +164,7 @@ impl DynamicTable {
     }
 }
 
-impl DynamicTable {
+impl<F: StoredField> DynamicTable<Index, F> {
     /// Returns the absolute index of the newest live entry with the field. It is compared with at most as many entries
     /// as the number of live ones has binary digits, and each comparison is counted.
     pub fn newest_equal(&self, field: &HeaderField, steps: &mut Steps) -> Option<AbsoluteIndex>

@@ -3,7 +3,7 @@
 ghost use Rattle.std.specs.Prelude.{◌≡◌, ℕ, [], ◌+◌, ◌-◌, ◌^◌, ◌<◌, ◌≤◌, Some, None, IfOk, IfErr, IfSome, IfNone, true};
 ghost use Rattle.std.specs.Prelude.{false, IsOk, OnOk, OnErr, length};
 ghost use Rattle.std.specs.Prelude.{slice_get};
-ghost use Rattle.qpack_base.specs.HeaderFields.{field_of, line_of};
+ghost use Rattle.qpack_base.specs.HeaderFields.{line_of};
 ghost use Rattle.qpack_base.specs.Refusals.{IsRefusedFor};
 ghost use Rattle.qpack_spec.specs.Chosen.{passes_at};
 ghost use Rattle.qpack_spec.specs.Field.{Field, field_size, is_field, total_size};
@@ -31,6 +31,7 @@ use crate::dynamic::index::{Index, SeededHashes};
 use crate::dynamic::open_blocks::{BlockedBlocks, OpenBlocks};
 use crate::vas::VirtualAddressSpace;
 use qpack_base::field::{FieldLine, HeaderField};
+use qpack_base::stored_field::{PackedField, StoredField};
 use std::alloc::{AllocError, Global};
 use std::collections::VecDeque;
 use std::marker::Model;
@@ -42,11 +43,11 @@ const TOO_MANY_BLOCKED: usize = 65_535;
 pub(super) const MOST_INSERTIONS: usize = 1 << 62;
 
 /// The dynamic table of one end, with what it keeps beside its entries to find them: an index, unless it only receives
-/// ([`ReceivedTable`]).
+/// ([`ReceivedTable`]). `F` is how an entry stores its field.
 #[derive(Debug, Drop)]
-pub struct DynamicTable<I: EntryIndex = Index> {
+pub struct DynamicTable<I: EntryIndex = Index, F: StoredField = HeaderField> {
     /// The live entries, the oldest first.
-    pub(super) entries: VecDeque<Entry>,
+    pub(super) entries: VecDeque<Entry<F>>,
     pub(super) vas: VirtualAddressSpace,
     /// The sum of the live fields' sizes, in bytes.
     pub(super) mem_size: usize,
@@ -65,7 +66,13 @@ pub struct DynamicTable<I: EntryIndex = Index> {
 /// A table that only receives: its entries are asked for by their indexes alone, so it keeps no index of their fields.
 pub type ReceivedTable = DynamicTable<NoIndex>;
 
-impl<I: EntryIndex> Model for DynamicTable<I> {
+/// A table that keeps each field in one allocation, for the end of a connection that encodes.
+pub type PackedTable = DynamicTable<Index, PackedField>;
+
+/// A table that only receives, and keeps each field in one allocation, for the end that decodes.
+pub type ReceivedPackedTable = DynamicTable<NoIndex, PackedField>;
+
+impl<I: EntryIndex, F: StoredField> Model for DynamicTable<I, F> {
     ghost use Rattle.qpack_spec.specs.Table.{Table};
     ghost use Rattle.qpack_table.specs.Tables.{IsKept, entries_of};
     ghost use Rattle.qpack_table.specs.BlockedBlocks.{counts_of};
@@ -95,10 +102,12 @@ impl DynamicTable {
     {
         DynamicTable::with_seed(alloc, 0)
     }
+}
 
+impl<F: StoredField> DynamicTable<Index, F> {
     /// Returns an empty table, as `new` does, whose index hashes fields with a seed. What it returns depends on no
     /// seed; but only with a secret one nobody can prepare fields that take long to insert.
-    pub fn with_seed(alloc: Global, seed: u64) -> DynamicTable
+    pub fn with_seed(alloc: Global, seed: u64) -> DynamicTable<Index, F>
         ensures { result ≡ empty_table 0 None 0 }
     {
         DynamicTable::with_index(alloc, Index::new(alloc, seed))
@@ -121,16 +130,16 @@ impl DynamicTable {
     #[inline(always)]
     pub(super) fn insert_sent(
         &mut self,
-        field: HeaderField,
+        field: F,
         hashes: SeededHashes,
         evicted: usize,
     ) -> Result<(), AllocError>
-        requires hashes { AreSeededHashesOf hashes (field_of field) }
+        requires hashes { AreSeededHashesOf hashes (F.field field) }
         requires few { insert_count self.old < 2 ^ 62 }
-        requires fits { field_size (field_of field) ≤ self.old.capacity }
-        requires evicted { evicted ≡ eviction_count_for self.old (field_of field) }
+        requires fits { field_size (F.field field) ≤ self.old.capacity }
+        requires evicted { evicted ≡ eviction_count_for self.old (F.field field) }
         ensures ok { OnOk result (self.new
-            ≡ with_reference (with_entry self.old (sent_entry (field_of field))) (insert_count self.old + 1)) }
+            ≡ with_reference (with_entry self.old (sent_entry (F.field field))) (insert_count self.old + 1)) }
         ensures err { OnErr result (self.new ≡ self.old) }
     {
         make_room(&mut self.referenced)?;
@@ -154,18 +163,18 @@ impl DynamicTable {
     }
 }
 
-impl DynamicTable<NoIndex> {
+impl<F: StoredField> DynamicTable<NoIndex, F> {
     /// Returns an empty table of a decoder, without an index.
-    pub fn without_index(alloc: Global) -> ReceivedTable
+    pub fn without_index(alloc: Global) -> DynamicTable<NoIndex, F>
         ensures { result ≡ empty_table 0 None 0 }
     {
         DynamicTable::with_index(alloc, NoIndex)
     }
 }
 
-impl<I: EntryIndex> DynamicTable<I> {
+impl<I: EntryIndex, F: StoredField> DynamicTable<I, F> {
     /// Returns an empty table, of capacity 0 and with no block that may be blocked, with an index of no entry.
-    fn with_index(alloc: Global, index: I) -> DynamicTable<I>
+    fn with_index(alloc: Global, index: I) -> DynamicTable<I, F>
         requires { (dropped : ℕ) → I.is_index_of index dropped [] }
         ensures { result ≡ empty_table 0 None 0 }
     {
@@ -213,7 +222,7 @@ impl<I: EntryIndex> DynamicTable<I> {
             return None;
         }
         match self.entries.get(absolute - dropped - 1) {
-            Some(entry) => Some(entry.field.mem_size()),
+            Some(entry) => Some(entry.mem_size()),
             None => None,
         }
     }
@@ -228,7 +237,7 @@ impl<I: EntryIndex> DynamicTable<I> {
         }
         match self.entries.get(absolute - dropped - 1) {
             Some(entry) => {
-                let entry = entry.field.as_line();
+                let entry = entry.as_line();
                 field.name == entry.name && field.value == entry.value
             }
             None => false,
@@ -250,7 +259,7 @@ impl<I: EntryIndex> DynamicTable<I> {
     }
 
     /// Returns the table under the base of a block.
-    pub fn decoder(&self, base: usize) -> DynamicTableDecoder<'_, I>
+    pub fn decoder(&self, base: usize) -> DynamicTableDecoder<'_, I, F>
         ensures table { result.table.now ≡ self.now }
         ensures base { result.base ≡ base }
     {
@@ -258,8 +267,8 @@ impl<I: EntryIndex> DynamicTable<I> {
     }
 
     /// Returns the live field of an instruction's relative index, 0 the newest (RFC 9204, section 3.2.5).
-    pub fn get_relative(&self, index: usize) -> Result<&HeaderField, Error>
-        ensures found { IfOk result (λ field. relative_entry (window self.now) index ≡ Some (field_of field.now)) }
+    pub fn get_relative(&self, index: usize) -> Result<&F, Error>
+        ensures found { IfOk result (λ field. relative_entry (window self.now) index ≡ Some (F.field field.now)) }
         ensures refused { IfErr result
             (λ e. (e ≡ BadRelativeIndex index) × (relative_entry (window self.now) index ≡ None)) }
     {
@@ -268,16 +277,16 @@ impl<I: EntryIndex> DynamicTable<I> {
     }
 
     /// Returns the live field of a line's relative index under a base (RFC 9204, section 3.2.5).
-    fn get_relative_base(&self, base: usize, index: usize) -> Result<&HeaderField, Error>
-        ensures { LooksUp result (relative_field (window self.now) base index) }
+    fn get_relative_base(&self, base: usize, index: usize) -> Result<&F, Error>
+        ensures { LooksUp F.field result (relative_field (window self.now) base index) }
     {
         let position = self.positions().relative_base(base, index)?;
         self.field_at(position)
     }
 
     /// Returns the live field of a line's post-base index (RFC 9204, section 3.2.6).
-    fn get_postbase(&self, base: usize, index: usize) -> Result<&HeaderField, Error>
-        ensures { LooksUp result (post_base_field (window self.now) base index) }
+    fn get_postbase(&self, base: usize, index: usize) -> Result<&F, Error>
+        ensures { LooksUp F.field result (post_base_field (window self.now) base index) }
     {
         let position = self.positions().post_base(base, index)?;
         self.field_at(position)
@@ -291,14 +300,14 @@ impl<I: EntryIndex> DynamicTable<I> {
     }
 
     /// Returns the live field at a position.
-    fn field_at(&self, position: usize) -> Result<&HeaderField, Error>
+    fn field_at(&self, position: usize) -> Result<&F, Error>
         ensures found { IfOk result
-            (λ field. slice_get (fields_in self.now.live) position ≡ Some (field_of field.now)) }
+            (λ field. slice_get (fields_in self.now.live) position ≡ Some (F.field field.now)) }
         ensures refused { IfErr result (λ e. (e ≡ BadIndex position)
             × (slice_get (fields_in self.now.live) position ≡ None)) }
     {
         match self.entries.get(position) {
-            Some(entry) => Ok(&entry.field),
+            Some(entry) => Ok(entry.field()),
             None => Err(Error::BadIndex(position)),
         }
     }
@@ -310,11 +319,11 @@ impl<I: EntryIndex> DynamicTable<I> {
         ensures { IsEvictableAt self.now position result }
     {
         let entry = &self.entries[position];
-        if entry.uses > 0 {
+        if entry.uses() > 0 {
             return false;
         }
         let dropped = self.total_inserted() - self.entries.len();
-        !entry.sent || dropped + position < self.known_received_count
+        !entry.is_sent() || dropped + position < self.known_received_count
     }
 
     /// Returns the least number of oldest entries whose removal lets the rest fit this many bytes, if each of them is
@@ -331,7 +340,7 @@ impl<I: EntryIndex> DynamicTable<I> {
             if !self.is_evictable(evicted) {
                 return None;
             }
-            rest -= self.entries[evicted].field.mem_size();
+            rest -= self.entries[evicted].mem_size();
             evicted += 1;
         }
         Some(evicted)
@@ -351,11 +360,11 @@ impl<I: EntryIndex> DynamicTable<I> {
 
     /// Inserts a field as the newest, and evicts this many of the oldest entries. On error, which is for memory only,
     /// nothing changes.
-    fn insert(&mut self, field: HeaderField, sent: bool, evicted: usize) -> Result<(), AllocError>
+    fn insert(&mut self, field: F, sent: bool, evicted: usize) -> Result<(), AllocError>
         requires few { insert_count self.old < 2 ^ 62 }
-        requires fits { field_size (field_of field) ≤ self.old.capacity }
-        requires evicted { evicted ≡ eviction_count_for self.old (field_of field) }
-        ensures ok { OnOk result (self.new ≡ with_entry self.old (record { field = field_of field; sent = sent })) }
+        requires fits { field_size (F.field field) ≤ self.old.capacity }
+        requires evicted { evicted ≡ eviction_count_for self.old (F.field field) }
+        ensures ok { OnOk result (self.new ≡ with_entry self.old (record { field = F.field field; sent = sent })) }
         ensures err { OnErr result (self.new ≡ self.old) }
     {
         let key = self.index.key_of(&field.as_line());
@@ -366,16 +375,16 @@ impl<I: EntryIndex> DynamicTable<I> {
     #[inline(always)]
     pub(super) fn insert_hashed(
         &mut self,
-        field: HeaderField,
+        field: F,
         sent: bool,
         evicted: usize,
         key: I::Key,
     ) -> Result<(), AllocError>
-        requires key { I.is_key_of key (field_of field) }
+        requires key { I.is_key_of key (F.field field) }
         requires few { insert_count self.old < 2 ^ 62 }
-        requires fits { field_size (field_of field) ≤ self.old.capacity }
-        requires evicted { evicted ≡ eviction_count_for self.old (field_of field) }
-        ensures ok { OnOk result (self.new ≡ with_entry self.old (record { field = field_of field; sent = sent })) }
+        requires fits { field_size (F.field field) ≤ self.old.capacity }
+        requires evicted { evicted ≡ eviction_count_for self.old (F.field field) }
+        ensures ok { OnOk result (self.new ≡ with_entry self.old (record { field = F.field field; sent = sent })) }
         ensures err { OnErr result (self.new ≡ self.old) }
     {
         let entry = Entry {
@@ -400,9 +409,9 @@ impl<I: EntryIndex> DynamicTable<I> {
     /// capacity 0, after the 2^62th insertion, and if an entry that is not evictable would be evicted. Fails if the
     /// field is larger than the capacity. Only an insertion takes memory. On error nothing changes.
     #[tactic(auto, using(crate::proofs::Changes::put_without_entry))]
-    pub fn put(&mut self, field: HeaderField) -> Result<(), Error>
-        ensures { ChangesWithMemory (IsInserted self.old (field_of field)) result
-            (put self.old (field_of field)) self.old self.new }
+    pub fn put(&mut self, field: F) -> Result<(), Error>
+        ensures { ChangesWithMemory (IsInserted self.old (F.field field)) result
+            (put self.old (F.field field)) self.old self.new }
     {
         let capacity = self.max_mem_size();
         if capacity == 0 {
@@ -495,23 +504,23 @@ impl<I: EntryIndex> DynamicTable<I> {
 
 /// A table under the base of a block, whose lines reference its entries.
 #[derive(Debug, Drop)]
-pub struct DynamicTableDecoder<'a, I: EntryIndex = Index> {
-    table: &'a DynamicTable<I>,
+pub struct DynamicTableDecoder<'a, I: EntryIndex = Index, F: StoredField = HeaderField> {
+    table: &'a DynamicTable<I, F>,
     base: usize,
 }
 
-impl<I: EntryIndex> DynamicTableDecoder<'_, I> {
+impl<I: EntryIndex, F: StoredField> DynamicTableDecoder<'_, I, F> {
     /// Returns the field that a line's relative index references (RFC 9204, section 3.2.5). Under a base above the
     /// total, the index may reference a position after the newest entry; the error is then `BadIndex`.
-    pub fn get_relative(&self, index: usize) -> Result<&HeaderField, Error>
-        ensures { LooksUp result (relative_field (window self.now.table.now) self.now.base index) }
+    pub fn get_relative(&self, index: usize) -> Result<&F, Error>
+        ensures { LooksUp F.field result (relative_field (window self.now.table.now) self.now.base index) }
     {
         self.table.get_relative_base(self.base, index)
     }
 
     /// Returns the field that a line's post-base index references (RFC 9204, section 3.2.6).
-    pub fn get_postbase(&self, index: usize) -> Result<&HeaderField, Error>
-        ensures { LooksUp result (post_base_field (window self.now.table.now) self.now.base index) }
+    pub fn get_postbase(&self, index: usize) -> Result<&F, Error>
+        ensures { LooksUp F.field result (post_base_field (window self.now.table.now) self.now.base index) }
     {
         self.table.get_postbase(self.base, index)
     }

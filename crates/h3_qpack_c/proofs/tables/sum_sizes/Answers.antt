@@ -1,5 +1,4 @@
 use Rattle.std.proofs.Common.{◌≡◌, ◌-◌, ◌<◌, ◌∙◌, ℕ, Some, ap, sym, arith, length}
-use Rattle.qpack_base.specs.HeaderFields.{field_of}
 use Rattle.qpack_spec.specs.Table.{fields_in, window}
 use Rattle.qpack_spec.specs.Window.{relative_entry}
 use Rattle.h3_qpack_c.proofs.Entries.{from_oldest, never_missing, sizes_next}
@@ -13,7 +12,7 @@ loop-oldest-preserved g c =
     let within : i < length t.live = omega (arith, c.loop-oldest-test.true, c.count_entries-count.ensures) in
     elim c.match-get_relative.branch [
       | in-Ok w ↦
-          let f = field_of w.in-Ok.field.now in
+          let f = g.F.StoredField.field w.in-Ok.field.now in
           let is : relative_entry (window t) (length t.live - 1 - i) ≡ Some f =
           ap (λ (n : ℕ). relative_entry (window t) (n - 1 - i)) (sym c.count_entries-count.ensures)
           ∙ w.in-Ok.ensures.found in

@@ -19,6 +19,7 @@ use crate::dynamic::index::Steps;
 use crate::dynamic::index::hash::position_of;
 use qpack_base::bytes::same;
 use qpack_base::field::FieldLine;
+use qpack_base::stored_field::StoredField;
 use std::alloc::{AllocError, Global};
 use std::cmp::Ordering;
 use std::collections::VecDeque;
@@ -63,17 +64,22 @@ impl Slot {
 }
 
 /// Compares an entry with what is sought. Nothing else compares the two, and nothing else raises the count.
-fn compare_entry(sought: &Sought<'_>, entry: &Entry, steps: &mut Steps) -> Ordering
-    ensures order { result ≡ field_cmp (part_of sought.now.part (field_of entry.now.field))
+fn compare_entry<F: StoredField>(
+    sought: &Sought<'_>,
+    entry: &Entry<F>,
+    steps: &mut Steps,
+) -> Ordering
+    ensures order { result ≡ field_cmp (part_of sought.now.part entry.now.field)
         (field_of_sought sought.now) }
     ensures raised { steps.new.count ≡ min (steps.old.count + 1) (2 ^ 64 - 1) }
     ensures grows { steps.old.count ≤ steps.new.count }
 {
     steps.raise();
-    match compare_bytes(entry.field.name.as_slice(), sought.line.name) {
+    let line = entry.as_line();
+    match compare_bytes(line.name, sought.line.name) {
         Ordering::Equal => match sought.part {
             Part::Name(_) => Ordering::Equal,
-            Part::Whole(_) => compare_bytes(entry.field.value.as_slice(), sought.line.value),
+            Part::Whole(_) => compare_bytes(line.value, sought.line.value),
         },
         apart => apart,
     }
@@ -90,10 +96,10 @@ fn compare_bytes(a: &[u8], b: &[u8]) -> Ordering
 }
 
 /// Compares a slot with what is sought. It looks at the entry only if the hashes are the same.
-fn compare(
+fn compare<F: StoredField>(
     sought: &Sought<'_>,
     slot: Slot,
-    entries: &VecDeque<Entry>,
+    entries: &VecDeque<Entry<F>>,
     dropped: usize,
     steps: &mut Steps,
 ) -> Ordering
@@ -212,9 +218,9 @@ impl Row {
 
     /// Returns where the slot with what is sought is, or where it would be. Each comparison leaves at most half of the
     /// slots.
-    fn search(
+    fn search<F: StoredField>(
         &self,
-        entries: &VecDeque<Entry>,
+        entries: &VecDeque<Entry<F>>,
         dropped: usize,
         sought: &Sought<'_>,
         steps: &mut Steps,
@@ -239,9 +245,9 @@ impl Row {
 
     /// Returns the index whose entry has what is sought.
     #[inline(always)]
-    pub(super) fn find(
+    pub(super) fn find<F: StoredField>(
         &self,
-        entries: &VecDeque<Entry>,
+        entries: &VecDeque<Entry<F>>,
         dropped: usize,
         sought: &Sought<'_>,
         steps: &mut Steps,
@@ -260,9 +266,9 @@ impl Row {
     }
 
     /// Adds a live index, for which there is room: in the slot of the same part, if there is one.
-    pub(super) fn enter(
+    pub(super) fn enter<F: StoredField>(
         &mut self,
-        entries: &VecDeque<Entry>,
+        entries: &VecDeque<Entry<F>>,
         dropped: usize,
         index: usize,
         sought: &Sought<'_>,
@@ -290,7 +296,12 @@ impl Row {
     }
 
     /// Removes the slot of the oldest entry, if it is there.
-    pub(super) fn leave(&mut self, entries: &VecDeque<Entry>, dropped: usize, sought: &Sought<'_>)
+    pub(super) fn leave<F: StoredField>(
+        &mut self,
+        entries: &VecDeque<Entry<F>>,
+        dropped: usize,
+        sought: &Sought<'_>,
+    )
         requires row { IsRow sought.now.part dropped (live_fields entries.now.items) self.old.slots.items }
         requires field { field_of_sought sought.now
             ≡ part_at sought.now.part dropped (live_fields entries.now.items) (dropped + 1) }
@@ -305,9 +316,9 @@ impl Row {
     }
 
     /// Returns the position of the oldest entry's slot.
-    fn position_of_oldest(
+    fn position_of_oldest<F: StoredField>(
         &self,
-        entries: &VecDeque<Entry>,
+        entries: &VecDeque<Entry<F>>,
         dropped: usize,
         sought: &Sought<'_>,
     ) -> Option<usize>

@@ -16,6 +16,7 @@ use crate::dynamic::growth::growth;
 use crate::dynamic::index::Steps;
 use crate::dynamic::index::hash::{position_of, split_among};
 use crate::dynamic::index::row::{Row, Sought, Split};
+use qpack_base::stored_field::StoredField;
 use std::alloc::{AllocError, Global};
 use std::collections::VecDeque;
 
@@ -166,9 +167,9 @@ impl Rows {
 
     /// Returns the newest index whose entry has what is sought.
     #[inline(always)]
-    pub(super) fn newest(
+    pub(super) fn newest<F: StoredField>(
         &self,
-        entries: &VecDeque<Entry>,
+        entries: &VecDeque<Entry<F>>,
         dropped: usize,
         sought: &Sought<'_>,
         steps: &mut Steps,
@@ -203,9 +204,9 @@ impl Rows {
     }
 
     /// Adds the next newer entry after those that are in. There is room.
-    pub(super) fn enter(
+    pub(super) fn enter<F: StoredField>(
         &mut self,
-        entries: &VecDeque<Entry>,
+        entries: &VecDeque<Entry<F>>,
         dropped: usize,
         index: usize,
         sought: &Sought<'_>,
@@ -227,7 +228,12 @@ impl Rows {
     }
 
     /// Removes the oldest entry, which is about to be popped: its slot, if no newer entry has the same part.
-    pub(super) fn leave(&mut self, entries: &VecDeque<Entry>, dropped: usize, sought: &Sought<'_>)
+    pub(super) fn leave<F: StoredField>(
+        &mut self,
+        entries: &VecDeque<Entry<F>>,
+        dropped: usize,
+        sought: &Sought<'_>,
+    )
         requires some { 0 < length entries.now.items }
         requires rows { AreRowsOf sought.now.part dropped (live_fields entries.now.items) (length entries.now.items)
             self.old.rows.items }

@@ -90,8 +90,8 @@ keep_spec {M} 𝓤 𝓛 𝓜 𝓡 wired =
     let A : RattleType = arg (bare (layout heap.the_row)) no heap.the_row in let LA = arg_laws (bare (layout heap.the_row)) no heap.the_row heap_laws.the_row_laws refl in
     let BX : RattleType = B.the_row T A global.ghosts in let BL = (box_laws.the_field_loose T A global.ghosts LT LA).lawful 𝓛 in
     let B0 : RattleType = B.the_row held.the_row heap.the_row global.ghosts in
-    let hs : Stays ended.signature.params ended.kept = (stay_dropped (plain (λ _. B0)) no, tt) in
-    proved_at 𝓛 ended hs c 𝓜 𝓡 (Goes-blank 𝓛 0 (plain (λ _. B0)) no (λ κs x f. tt), tt) #self fn (code.unfolded 𝓤 H 𝓜 𝓡 wired) (λ z are.
+    let hs : Stays ended.signature.params ended.kept = (stay_dropped (plain (λ _. B0)) ended.kept.0, tt) in
+    proved_at 𝓛 ended hs c 𝓜 𝓡 (Goes-blank 𝓛 0 (plain (λ _. B0)) ended.kept.0 (λ κs x f. tt), tt) #self fn (code.unfolded 𝓤 H 𝓜 𝓡 wired) (λ z are.
     let v = z.0.3.0 in let Post : Val → SProp 𝓤 = (walk_of 𝓛 ended hs c).post z in let Run : List Val → SProp 𝓤 = λ ws. WpFn 𝓤 H 𝓣.C 𝓣.Λ fn ws Post in
     qed 𝓛 ((‵ ftrue ⊛ ‵ (owns (types_at ended.signature.params z.0.0) z.0.3 z.0.4)) ∷ raw ((c z.0.0 z.0.3).requires z.1) ∷ []) ∵ split ! $ drop ! $ fsplit ! $
     peeks ! BX (Is BX) (shows 𝓛 BX) v z.0.4.0 (λ is.

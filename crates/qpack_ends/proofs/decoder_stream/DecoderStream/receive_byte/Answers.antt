@@ -5,12 +5,12 @@ use Rattle.qpack_ends.proofs.HeardStreams.{still_waits, is_refused, is_completed
 use Rattle.qpack_ends.proofs.decoder_stream.DecoderStream.receive_byte.Goals as goal
 
 pub invariant_of-self-in-Ok-false : goal.invariant_of-self-in-Ok-false
-invariant_of-self-in-Ok-false c =
+invariant_of-self-in-Ok-false g c =
     subst (λ (x : List ℕ). length x < 10) c.as_slice.ensures
     (c.in-Ok-false.ensures.short (ap (λ b. Ok b) c.in-Ok-false.field-0-test))
 
 pub returns-in-Ok-true : goal.returns-in-Ok-true
-returns-in-Ok-true c heard before k =
+returns-in-Ok-true g c heard before k =
     let one = rw c.in-Ok-true.field-0-test at c.in-Ok-true.ensures.hears in
     subst
     (λ (x : List ℕ). HearsMore c.args.table.now c.hear.new.table heard
@@ -24,7 +24,7 @@ returns-in-Ok-true c heard before k =
     (c.as_slice-in-Ok-true.ensures ∙ sym c.as_slice.ensures)))
 
 pub returns-in-Ok-false : goal.returns-in-Ok-false
-returns-in-Ok-false c heard before k =
+returns-in-Ok-false g c heard before k =
     let waits = rw c.in-Ok-false.field-0-test at c.in-Ok-false.ensures.hears in
     subst
     (λ (x : List ℕ). HearsMore c.args.table.now c.hear.new.table heard
@@ -35,7 +35,7 @@ returns-in-Ok-false c heard before k =
     (c.as_slice.ensures ∙ c.push.ensures) waits.0 waits.1)
 
 pub returns-in-Err : goal.returns-in-Err
-returns-in-Err c heard before k = (
+returns-in-Err g c heard before k = (
   is_refused c.args.table.now c.hear.new.table heard before c.as_slice.result.now c.args.byte _ c.in-Err.error
       (subst (λ (s : StreamView). Receives heard before s) (sym c.self.view_is) k)
       (c.as_slice.ensures ∙ c.push.ensures) c.in-Err.ensures.hears.0 c.in-Err.ensures.hears.1,

@@ -6,12 +6,12 @@ use Rattle.qpack_ends.proofs.HeardStreams.{next_byte, refused_within, then_more,
 use Rattle.qpack_ends.proofs.decoder_stream.DecoderStream.receive_bytes.Goals as goal
 
 pub loop-byte-init : goal.loop-byte-init
-loop-byte-init c heard before k =
+loop-byte-init g c heard before k =
     none_more c.args.table.now c.args.table.now heard _ refl
     (subst (λ (x : List ℕ). Receives heard x c.args.self.now) (sym (append-nil before)) k)
 
 pub loop-byte-preserved : goal.loop-byte-preserved
-loop-byte-preserved c heard before k =
+loop-byte-preserved g c heard before k =
     let front = c.loop-byte.invariant heard before k in
     then_more c.args.table.now c.loop-byte.table c.receive_byte.new.table heard _
     (λ all. Receives all (before ++ take (c.loop-byte.byte-index + 1) c.args.bytes.now) c.receive_byte.new.self) front
@@ -22,7 +22,7 @@ loop-byte-preserved c heard before k =
     front.behind_them))
 
 pub returns-in_err-receive_byte : goal.returns-in_err-receive_byte
-returns-in_err-receive_byte c heard before k =
+returns-in_err-receive_byte g c heard before k =
     let p = err_from_is_err_and c.from_residual.result c.from_residual.ensures.1 in
     let front = c.loop-byte.invariant heard before k in
     let refused = c.in_err-receive_byte.ensures (heard ++ front.more)
@@ -40,7 +40,7 @@ returns-in_err-receive_byte c heard before k =
     )
 
 pub returns : goal.returns
-returns c heard before k =
+returns g c heard before k =
     let all = take_all c.loop-byte.byte-index c.args.bytes.now (omega (arith, c.loop-byte-test.false)) in
     subst
     (λ (x : List ℕ). HearsMore c.args.table.now c.loop-byte.table heard

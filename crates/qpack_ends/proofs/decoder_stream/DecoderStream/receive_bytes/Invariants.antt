@@ -4,6 +4,6 @@ use Rattle.qpack_ends.specs.Hearing.{HearsMore, Receives}
 use Rattle.qpack_ends.proofs.decoder_stream.DecoderStream.receive_bytes.Given as goal
 
 abbrev pub invariant-loop-byte : goal.invariant-loop-byte
-invariant-loop-byte l =
+invariant-loop-byte g l =
     (heard : List DecoderInstruction) (before : List ℕ) → Receives heard before l.fn.self
     → HearsMore l.fn.table l.table heard (λ all. Receives all (before ++ take l.byte-index l.bytes) l.self)

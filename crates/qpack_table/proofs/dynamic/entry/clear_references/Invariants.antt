@@ -3,5 +3,5 @@ use Rattle.qpack_table.proofs.Marks.{Cleared}
 use Rattle.qpack_table.proofs.dynamic.entry.clear_references.Given as goal
 
 abbrev pub invariant-loop-absolute : goal.invariant-loop-absolute
-invariant-loop-absolute l =
+invariant-loop-absolute g l =
     Cleared l.dropped l.initial.entries.items l.entries.items (drop l.absolute-index l.references) l.references

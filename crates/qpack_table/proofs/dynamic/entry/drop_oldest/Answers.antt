@@ -1,5 +1,4 @@
 use Rattle.std.proofs.Common.{◌≡◌, ℕ, ◌+◌, ◌-◌, length, ap, refl, sym, subst, ◌∙◌, rules, arith}
-use Rattle.qpack_base.specs.HeaderFields.{field_of}
 use Rattle.qpack_spec.specs.Field.{field_size}
 use Rattle.qpack_table.specs.Positions.{Positions}
 use Rattle.qpack_table.proofs.Evictions.{shed}
@@ -9,7 +8,7 @@ use Rattle.qpack_table.proofs.dynamic.entry.drop_oldest.Goals as goal
 pub overflow_add-freed : goal.overflow_add-freed
 overflow_add-freed g c =
     let one = shed c.args.entries.now.items c.loop.entries.items c.loop.counter _
-    (field_size (field_of c.in-Some.entry.field)) c.in-Some.entry c.pop_front.new.self.items
+    (field_size c.in-Some.entry.field) c.in-Some.entry c.pop_front.new.self.items
     c.loop.invariant.items refl c.in-Some.ensures.items refl in
     omega (arith, one.fits, c.loop.invariant.freed, c.requires.small)
 
@@ -17,9 +16,9 @@ pub loop-preserved : goal.loop-preserved
 loop-preserved g c =
     let i = c.loop.invariant in
     let one = shed c.args.entries.now.items c.loop.entries.items c.loop.counter _
-    (field_size (field_of c.in-Some.entry.field)) c.in-Some.entry c.pop_front.new.self.items i.items refl
+    (field_size c.in-Some.entry.field) c.in-Some.entry c.pop_front.new.self.items i.items refl
     c.in-Some.ensures.items refl in
-    let exact : c.mem_size-freed.result ≡ field_size (field_of c.in-Some.entry.field) =
+    let exact : c.mem_size-freed.result ≡ field_size c.in-Some.entry.field =
     omega (arith, one.fits, i.freed, c.requires.small) in
     let at = dropped_there c.loop.vas.total c.loop.vas.dropped c.args.vas.now.dropped
     (length c.loop.entries.items) c.loop.counter c.args.entries.now.items c.loop.entries.items

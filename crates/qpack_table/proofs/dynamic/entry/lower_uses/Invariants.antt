@@ -3,5 +3,5 @@ use Rattle.qpack_table.proofs.Marks.{Lowered}
 use Rattle.qpack_table.proofs.dynamic.entry.lower_uses.Given as goal
 
 abbrev pub invariant-loop-absolute : goal.invariant-loop-absolute
-invariant-loop-absolute l =
+invariant-loop-absolute g l =
     Lowered l.dropped l.initial.entries.items l.entries.items (drop l.absolute-index l.references) l.references

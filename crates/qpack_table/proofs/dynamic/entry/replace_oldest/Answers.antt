@@ -1,11 +1,10 @@
 use Rattle.std.proofs.Common.{◌≡◌, ℕ, ◌+◌, ◌∷◌, [], ◌++◌, List, drop, length, ap, sym, subst, ◌∙◌, arith}
 use Rattle.std.proofs.lemmas.List.{length-append, length-drop}
-use Rattle.qpack_base.specs.HeaderFields.{field_of}
 use Rattle.qpack_spec.specs.Field.{Field, FieldLine, field_size, total_size}
 use Rattle.qpack_spec.specs.Table.{fields_in}
 use Rattle.qpack_table.specs.Positions.{Positions}
 use Rattle.qpack_table.specs.Tables.{entries_of}
-use Rattle.qpack_table.specs.declared.dynamic.entry.Entry.{Entry}
+use Rattle.qpack_table.specs.Entries.{Entry}
 use Rattle.qpack_table.proofs.Evictions.{left_is}
 use Rattle.qpack_table.proofs.WholeIndexes.{newest_there}
 use Rattle.qpack_table.proofs.dynamic.entry.replace_oldest.Goals as goal
@@ -65,7 +64,7 @@ returns-clause-sum g c =
     + total_size (drop c.args.evicted (fields_in (entries_of c.args.entries.now.items)))
     ≡ total_size (fields_in (entries_of c.args.entries.now.items)) =
     rw (← c.in_ok-make_room.ensures.items) c.drop_oldest-freed.ensures.freed in
-    let size : c.mem_size-size.result ≡ field_size (field_of c.args.entry.field) =
+    let size : c.mem_size-size.result ≡ field_size c.args.entry.field =
     omega (arith, c.requires.small_entry, c.mem_size-size.ensures) in
     left_is _ _ _ _ _ _ c.requires.sum freed size
 

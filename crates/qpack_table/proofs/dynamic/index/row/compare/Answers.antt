@@ -8,7 +8,7 @@ use Rattle.qpack_table.proofs.RowSearches.{entry_part}
 use Rattle.qpack_table.proofs.dynamic.index.row.compare.Goals as goal
 
 pub returns-in-Equal-clause-order : goal.returns-in-Equal-clause-order
-returns-in-Equal-clause-order c =
+returns-in-Equal-clause-order g c =
     let index = index_of c.args.dropped c.args.slot in
     let position : c.position.result ≡ index - c.args.dropped - 1 = omega (arith, c.position.ensures) in
     let read =
@@ -19,7 +19,7 @@ returns-in-Equal-clause-order c =
     (entry_part c.args.sought.now.part c.args.dropped c.args.entries.now.items index _ c.requires.0 read))
 
 pub returns-in_default : goal.returns-in_default
-returns-in_default c = record {
+returns-in_default g c = record {
   order = decided_by_hash
       (key_at c.args.sought.now.part c.args.dropped (live_fields c.args.entries.now.items) c.args.slot)
       (key_of c.args.sought.now) _ c.cmp.ensures c.in_default.not-Equal;

@@ -1,5 +1,4 @@
 use Rattle.std.proofs.Common.{ℕ, ◌-◌, ◌<◌, ◌≤◌, length, refl, sym, arith}
-use Rattle.qpack_base.specs.HeaderFields.{field_of}
 use Rattle.qpack_table.proofs.Lookups.{field_there, field_missing, not_less}
 use Rattle.qpack_table.proofs.Lookups.{entry_measured, entry_unmeasured, entry_gone}
 use Rattle.qpack_table.proofs.dynamic.table.DynamicTable.entry_size.Goals as goal
@@ -17,7 +16,7 @@ returns-in-Some g c =
     let sized = c.self.invariant.sized in
     rw (← c.self.view_is)
     (entry_measured _ c.args.absolute position c.mem_size.result c.total_dropped-dropped.result 18446744073709551615
-    (field_of c.in-Some.entry.now.field) c.total_dropped-dropped.ensures.exact c.if-absolute-dropped.false refl
+    c.in-Some.entry.now.field c.total_dropped-dropped.ensures.exact c.if-absolute-dropped.false refl
     (field_there c.self.inside.entries.items position c.in-Some.entry.now within c.in-Some.ensures.lookup)
     c.mem_size.ensures (omega (arith, sized.sum, sized.fits, sized.small)))
 

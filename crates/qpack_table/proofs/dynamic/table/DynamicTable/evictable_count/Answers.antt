@@ -1,5 +1,4 @@
 use Rattle.std.proofs.Common.{◌≡◌, ◌<◌, Bool, subst, arith, length}
-use Rattle.qpack_base.specs.HeaderFields.{field_of}
 use Rattle.qpack_spec.specs.Field.{field_size}
 use Rattle.qpack_table.specs.Tables.{IsEvictableAt}
 use Rattle.qpack_table.proofs.Evictions.{first_size, evicted_bound}
@@ -22,7 +21,7 @@ loop-evicted-preserved g c =
     let within : c.loop-evicted.evicted < length c.self.inside.entries.items = omega arith in
     let first = first_size _ _ _ _ c.index.result.now within c.index.ensures c.loop-evicted.invariant.gone in
     let least = evicted_bound _ _ _ _ _ c.self.invariant.sized.sum c.loop-evicted.invariant.gone in
-    let exact : c.mem_size-rest.result ≡ field_size (field_of c.index.result.now.field) =
+    let exact : c.mem_size-rest.result ≡ field_size c.index.result.now.field =
     omega (arith, first, least, c.self.invariant.sized.fits, c.self.invariant.sized.small) in
     walk_more _ _ _ _ c.loop-evicted.evicted _ c.index.result.now c.loop-evicted.invariant within c.if-rest-room.true
     (subst (λ (b : Bool). IsEvictableAt c.args.self.now c.loop-evicted.evicted b) c.if-not-is_evictable.false

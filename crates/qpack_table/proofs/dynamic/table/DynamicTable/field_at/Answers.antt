@@ -6,7 +6,7 @@ pub returns-in-Some-clause-found : goal.returns-in-Some-clause-found
 returns-in-Some-clause-found g c =
     let within : c.args.position
     < length c.self.inside.entries.items = omega (arith, c.in-Some.ensures.variant.0 refl) in
-    rw (← c.self.view_is)
+    rw (← c.self.view_is, c.field.ensures)
     (field_there c.self.inside.entries.items c.args.position c.in-Some.entry.now within c.in-Some.ensures.lookup)
 
 pub returns-in-None-clause-refused : goal.returns-in-None-clause-refused

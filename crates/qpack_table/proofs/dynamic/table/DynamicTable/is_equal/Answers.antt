@@ -1,5 +1,5 @@
 use Rattle.std.proofs.Common.{ℕ, ◌-◌, ◌<◌, ◌≤◌, length, None, Some, refl, sym, ap, ◌∙◌, arith}
-use Rattle.qpack_base.specs.HeaderFields.{field_of, line_of}
+use Rattle.qpack_base.specs.HeaderFields.{line_of}
 use Rattle.qpack_spec.specs.Field.{FieldLine, is_field}
 use Rattle.qpack_table.proofs.Lookups.{equal_as, field_there, field_missing, not_less, other_name, passes_as}
 use Rattle.qpack_table.proofs.dynamic.table.DynamicTable.is_equal.Goals as goal
@@ -19,7 +19,7 @@ returns-then-eq g c =
     let position : ℕ = c.args.absolute - c.total_dropped-dropped.result - 1 in
     let within : position < length c.self.inside.entries.items = omega (arith, c.in-Some.ensures.variant.0 refl) in
     let f = (line_of c.args.field.now).field in
-    let e = field_of c.in-Some.entry.now.field in
+    let e = c.in-Some.entry.now.field in
     equal_as f e c.as_line-entry.result.name.now c.as_line-entry.result.value.now c.eq-then-eq.result
     (ap (λ (l : FieldLine). l.field.name) c.as_line-entry.ensures)
     (ap (λ (l : FieldLine). l.field.value) c.as_line-entry.ensures) (sym c.eq.ensures ∙ c.if-eq.true)
@@ -33,7 +33,7 @@ returns-else-eq g c =
     let position : ℕ = c.args.absolute - c.total_dropped-dropped.result - 1 in
     let within : position < length c.self.inside.entries.items = omega (arith, c.in-Some.ensures.variant.0 refl) in
     let f = (line_of c.args.field.now).field in
-    let e = field_of c.in-Some.entry.now.field in
+    let e = c.in-Some.entry.now.field in
     c.if-eq.false
     ∙ sym (other_name f e c.as_line-entry.result.name.now (ap (λ (l : FieldLine). l.field.name) c.as_line-entry.ensures)
     (sym c.eq.ensures ∙ c.if-eq.false))

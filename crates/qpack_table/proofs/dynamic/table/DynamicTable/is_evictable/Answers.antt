@@ -1,4 +1,4 @@
-use Rattle.std.proofs.Common.{◌≡◌, ◌<◌, ◌+◌, ◌-◌, length, refl, sym, ap, ◌∙◌, arith}
+use Rattle.std.proofs.Common.{◌≡◌, not, ◌<◌, ◌+◌, ◌-◌, length, refl, sym, ap, ◌∙◌, arith}
 use Rattle.std.proofs.lemmas.List.{length-map}
 use Rattle.qpack_spec.specs.Table.{Table, insert_count}
 use Rattle.qpack_table.specs.Tables.{entry_of}
@@ -6,8 +6,8 @@ use Rattle.qpack_table.proofs.EvictableEntries.{evictable_at, evictable_used, ev
 use Rattle.qpack_table.proofs.EvictableEntries.{sent_received, not_sent}
 use Rattle.qpack_table.proofs.dynamic.table.DynamicTable.is_evictable.Goals as goal
 
-pub returns-then-entry-gt0 : goal.returns-then-entry-gt0
-returns-then-entry-gt0 g c =
+pub returns-then-uses-gt0 : goal.returns-then-uses-gt0
+returns-then-uses-gt0 g c =
     let within : c.args.position < length c.self.inside.entries.items =
     omega (
       arith,
@@ -21,8 +21,8 @@ returns-then-entry-gt0 g c =
     (evictable_at _ c.self.inside.entries.items c.args.position c.index-entry.result.now _ refl within
     c.index-entry.ensures (sym (evictable_used _ _ _ _ used (omega arith))))
 
-pub returns-then-not-entry : goal.returns-then-not-entry
-returns-then-not-entry g c =
+pub returns-then-not-is_sent : goal.returns-then-not-is_sent
+returns-then-not-is_sent g c =
     let within : c.args.position < length c.self.inside.entries.items =
     omega (
       arith,
@@ -35,11 +35,11 @@ returns-then-not-entry g c =
     rw (← c.self.view_is)
     (evictable_at _ c.self.inside.entries.items c.args.position c.index-entry.result.now _ refl within
     c.index-entry.ensures
-    (not_sent _ _ _ c.if-not-entry.true
+    (ap not c.is_sent.ensures ∙ not_sent _ _ _ (sym c.is_sent.ensures ∙ c.if-not-is_sent.true)
     ∙ sym (evictable_unused _ _ _ c.index-entry.result.now.sent used (omega arith))))
 
-pub returns-else-not-entry : goal.returns-else-not-entry
-returns-else-not-entry g c =
+pub returns-else-not-is_sent : goal.returns-else-not-is_sent
+returns-else-not-is_sent g c =
     let within : c.args.position < length c.self.inside.entries.items =
     omega (
       arith,
@@ -61,5 +61,5 @@ returns-else-not-entry g c =
     rw (← c.self.view_is)
     (evictable_at _ c.self.inside.entries.items c.args.position c.index-entry.result.now _ refl within
     c.index-entry.ensures
-    (sent_received _ c.self.inside.vas.dropped c.args.position _ _ c.if-not-entry.false position
+    (sent_received _ c.self.inside.vas.dropped c.args.position _ _ (sym c.is_sent.ensures ∙ c.if-not-is_sent.false) position
     ∙ sym (evictable_unused _ _ _ c.index-entry.result.now.sent used (omega arith))))

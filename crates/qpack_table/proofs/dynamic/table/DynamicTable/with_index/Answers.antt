@@ -1,5 +1,5 @@
 use Rattle.std.proofs.Common.{List, sym, subst, rules}
-use Rattle.qpack_table.specs.declared.dynamic.entry.Entry.{Entry}
+use Rattle.qpack_table.specs.Entries.{Entry}
 use Rattle.qpack_table.proofs.dynamic.table.DynamicTable.with_index.Goals as goal
 
 pub invariant_of-result : goal.invariant_of-result

@@ -9,7 +9,7 @@ use Rattle.qpack_table.proofs.RowSlots.{slot_entered, key_entered}
 use Rattle.qpack_table.proofs.dynamic.index.row.Row.enter.Goals as goal
 
 pub returns-in-Ok : goal.returns-in-Ok
-returns-in-Ok c =
+returns-in-Ok g c =
     let hash = c.args.sought.now.hash in
     let there = slot_entered c.args.sought.now.part c.args.dropped c.args.entries.now.items c.args.index hash
     c.requires.live c.requires.few (line_of c.args.sought.now.line).field c.requires.field c.requires.hashed in
@@ -21,7 +21,7 @@ returns-in-Ok c =
     }
 
 pub returns-in_default : goal.returns-in_default
-returns-in_default c =
+returns-in_default g c =
     let part = c.args.sought.now.part in
     let live = live_fields c.args.entries.now.items in
     let hash = c.args.sought.now.hash in

@@ -5,7 +5,7 @@ use Rattle.qpack_table.proofs.RowSearches.{slot_read, searching_lower, searching
 use Rattle.qpack_table.proofs.dynamic.index.row.Row.search.Goals as goal
 
 pub compare-requires : goal.compare-requires
-compare-requires c =
+compare-requires g c =
     let known = c.loop-low.invariant in
     let middle : ℕ = c.loop-low.low + (c.loop-low.high - c.loop-low.low) / 2 in
     let within : middle < length c.args.self.now.slots.items =
@@ -13,7 +13,7 @@ compare-requires c =
     slot_read _ _ _ _ c.requires (key_of c.args.sought.now) middle c.index.result.now within c.index.ensures
 
 pub loop-low-preserved-in-Less : goal.loop-low-preserved-in-Less
-loop-low-preserved-in-Less c =
+loop-low-preserved-in-Less g c =
     let known = c.loop-low.invariant in
     let middle : ℕ = c.loop-low.low + (c.loop-low.high - c.loop-low.low) / 2 in
     record {
@@ -25,7 +25,7 @@ loop-low-preserved-in-Less c =
     }
 
 pub loop-low-preserved : goal.loop-low-preserved
-loop-low-preserved c =
+loop-low-preserved g c =
     let known = c.loop-low.invariant in
     let middle : ℕ = c.loop-low.low + (c.loop-low.high - c.loop-low.low) / 2 in
     record {

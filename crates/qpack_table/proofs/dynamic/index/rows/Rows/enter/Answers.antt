@@ -11,19 +11,19 @@ use Rattle.qpack_table.proofs.HashedRows.{home_chosen, home_within, room_there, 
 use Rattle.qpack_table.proofs.dynamic.index.rows.Rows.enter.Goals as goal
 
 pub enter-requires-clause-row : goal.enter-requires-clause-row
-enter-requires-clause-row c =
+enter-requires-clause-row g c =
     let len : c.len.result ≡ length c.args.self.now.rows.items = search rules in
     let within = home_within _ _ _ len c.position_of-home.ensures.within in
     row_there _ _ _ _ _ c.requires.rows _ _ within c.index_mut.ensures.value
 
 pub enter-requires-clause-room : goal.enter-requires-clause-room
-enter-requires-clause-room c =
+enter-requires-clause-room g c =
     let len : c.len.result ≡ length c.args.self.now.rows.items = search rules in
     room_there _ _ _ _ c.requires.room (sym (c.position_of-home.ensures.position ∙ ap (λ (n : ℕ). position_among n
     c.args.sought.now.hash) len)) c.index_mut.ensures.value
 
 pub returns-clause-rows : goal.returns-clause-rows
-returns-clause-rows c =
+returns-clause-rows g c =
     let len : c.len.result ≡ length c.args.self.now.rows.items = search rules in
     let within = home_within _ _ _ len c.position_of-home.ensures.within in
     let next : c.args.index ≡ c.args.dropped + (c.args.index - c.args.dropped - 1) + 1 =

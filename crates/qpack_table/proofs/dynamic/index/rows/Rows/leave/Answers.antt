@@ -8,13 +8,13 @@ use Rattle.qpack_table.proofs.dynamic.index.rows.Rows.leave.Goals as goal
 use Rattle.qpack_table.proofs.Lookups.{fields_long}
 
 pub leave-requires-clause-row : goal.leave-requires-clause-row
-leave-requires-clause-row c =
+leave-requires-clause-row g c =
     let len : c.len.result ≡ length c.args.self.now.rows.items = search rules in
     let within = home_within _ _ _ len c.position_of-home.ensures.within in
     row_there _ _ _ _ _ c.requires.rows _ _ within c.index_mut.ensures.value
 
 pub returns-clause-rows : goal.returns-clause-rows
-returns-clause-rows c =
+returns-clause-rows g c =
     let len : c.len.result ≡ length c.args.self.now.rows.items = search rules in
     let within = home_within _ _ _ len c.position_of-home.ensures.within in
     let long = fields_long c.args.entries.now.items in
@@ -27,7 +27,7 @@ returns-clause-rows c =
     c.leave.ensures.row c.leave.ensures.slots)
 
 pub returns-clause-room : goal.returns-clause-room
-returns-clause-room c = λ other has.
+returns-clause-room g c = λ other has.
     let len : c.len.result ≡ length c.args.self.now.rows.items = search rules in
     let within = home_within _ _ _ len c.position_of-home.ensures.within in
     room_left _ _ _ _ other within c.index_mut.ensures.value c.leave.ensures.room has
