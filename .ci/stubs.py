@@ -9,8 +9,8 @@ from pathlib import Path
 
 # The head of a function that can be a stub: with at most one impl around it, and called by a path.
 HEAD = re.compile(r"^( {4})?(?:pub(?:\([^)]*\))? )?fn (\w+)")
-# A type with its arguments, after the parameters of an impl.
-OWNER = re.compile(r"^ (\w+)(?:<(.*)>)?(?: where .*)?$")
+# A trait, if there is one, and a type with its arguments, after the parameters of an impl.
+OWNER = re.compile(r"^ (?:(\w+)(?:<.*?>)? for )?(\w+)(?:<(.*)>)?(?: where .*)?$")
 PROOF = """use Rattle.{library}.Statement as stated
 
 pub {name}_spec : {{M : Type 1}} → stated.statement M
@@ -31,18 +31,21 @@ def parameters_of(head):
 
 
 def owner_of(lines, at):
-    """Returns the type whose impl begins at a line, if its functions are named by the type alone: no trait is
-    implemented, and its arguments are the parameters of the impl."""
+    """Returns the trait, or None, and the type of the impl whose head begins at a line, as the prover names the type:
+    with its arguments, if not all of them are parameters of the impl. Returns None if it has no such name."""
     head = lines[at]
     while not head.endswith("{") and at + 1 < len(lines):
         at += 1
         head += " " + lines[at].strip()
     parameters, rest = parameters_of(head.removesuffix("{").rstrip().removeprefix("impl"))
     found = OWNER.match(rest)
-    names = re.findall(r"(?:^|, )('?\w+)", parameters)
-    if not found or any(it not in names for it in (found[2] or "").split(", ") if it):
+    if not found:
         return None
-    return found[1]
+    trait, name, words = found.groups()
+    arguments = [it for it in (words or "").split(", ") if it and not it.startswith("'")]
+    if set(arguments) - set(re.findall(r"(?:^|, )(\w+)", parameters)):
+        name = "+".join([name, *arguments])
+    return trait, name
 
 
 def body_of(lines, at, indent):
@@ -67,7 +70,8 @@ def stub_file(path, module, is_kept):
     while at < len(lines):
         line = lines[at]
         if re.match(r"impl\b", line):
-            owner = owner_of(lines, at)
+            trait, name = owner_of(lines, at) or ("", None)
+            owner = None if trait else name
         elif re.match(r"\S", line) and line != "{":
             owner = ""
         head = HEAD.match(line)
