@@ -69,7 +69,7 @@ impl StaticTable {
         let indexes = indexes_of(name);
         match (index_of_value(indexes, value), indexes.first()) {
             (Some(index), _) => Some(StaticMatch::Field(index)),
-            (None, Some(index)) => Some(StaticMatch::Name(*index)),
+            (None, Some(index)) => Some(StaticMatch::Name(usize::from(*index))),
             (None, None) => None,
         }
     }
@@ -96,12 +96,12 @@ impl StaticTable {
         ensures none { IfNone result (NoStatic (λ f. f.name ≡ name.now)) }
         ensures exact { result ≡ static_name_index name.now }
     {
-        indexes_of(name).first().copied()
+        indexes_of(name).first().copied().map(usize::from)
     }
 }
 
 /// Returns all indexes with this name, rising.
-fn indexes_of(name: &[u8]) -> &'static [usize]
+fn indexes_of(name: &[u8]) -> &'static [u8]
     ensures { result.now ≡ indexes_with_name name.now }
 {
     let Some(entry) = entry_of(names_of_length(name.len()), name) else {
@@ -119,12 +119,13 @@ fn entry_of(names: &'static [Name], name: &[u8]) -> Option<&'static Name>
 
 /// Returns the first of the indexes whose field has this value.
 #[inline(always)]
-fn index_of_value(indexes: &[usize], value: &[u8]) -> Option<usize>
+fn index_of_value(indexes: &[u8], value: &[u8]) -> Option<usize>
     ensures { result ≡ find (λ index. has_value_at value.now index) indexes.now }
 {
     indexes
         .iter()
         .copied()
+        .map(usize::from)
         .find(|&index| has_value(index, value))
 }
 

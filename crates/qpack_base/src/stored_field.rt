@@ -1,15 +1,16 @@
 //! How a table stores the fields of its entries.
 
-ghost use Rattle.std.specs.Prelude.{◌≡◌, ◌-◌, ◌^◌, min, IfOk, IfSome, IsSome, Some, slice_get};
+ghost use Rattle.std.specs.Prelude.{◌≡◌, ◌≤◌, ◌-◌, ◌^◌, min, IfOk, IfErr, IfSome, Some, length, slice_get};
 ghost use Rattle.std.specs.Option.{option_map};
 ghost use Rattle.qpack_spec.specs.Field.{Field, field_size, unmarked};
 ghost use Rattle.qpack_spec.specs.StaticTable.{static_table, IsLeastStatic};
 ghost use Rattle.qpack_spec.specs.Window.{with_value};
 ghost use Rattle.qpack_base.specs.HeaderFields.{field_of, line_of};
+ghost use Rattle.qpack_base.specs.declared.static_.Error.TheVariants.{Unknown};
 
 use crate::coding::NoMemory;
 use crate::field::{FieldLine, HeaderField};
-use crate::static_::StaticTable;
+use crate::static_::{Error, StaticTable};
 pub use packed::PackedField;
 use std::alloc::Global;
 use std::borrow::CowSlice;
@@ -45,10 +46,10 @@ pub trait StoredField: Drop {
 
     /// Returns the field with the name of the static field at an index, from 0 to 98, and another value (RFC 9204,
     /// Appendix A).
-    fn with_static_name(index: usize, value: Vec<u8>) -> Result<Self, NoMemory>
-        requires { IsSome (slice_get static_table index) }
-        ensures { IfOk result (λ made.
-            option_map (λ f. with_value value.items f) (slice_get static_table index) ≡ Some (field made)) };
+    fn with_static_name(index: usize, value: Vec<u8>) -> Result<Self, Error>
+        ensures found { IfOk result (λ made.
+            option_map (λ f. with_value value.items f) (slice_get static_table index) ≡ Some (field made)) }
+        ensures unknown { IfErr result (λ e. (e ≡ Unknown index) × (length static_table ≤ index)) };
 
     /// Returns the field with this name and another value.
     fn with_value(&self, value: Vec<u8>) -> Result<Self, NoMemory>
@@ -91,10 +92,9 @@ impl StoredField for HeaderField {
         Ok(HeaderField::new(name, value))
     }
 
-    fn with_static_name(index: usize, value: Vec<u8>) -> Result<HeaderField, NoMemory> {
-        let name = StaticTable::name(index).unwrap_or(b"");
+    fn with_static_name(index: usize, value: Vec<u8>) -> Result<HeaderField, Error> {
         Ok(HeaderField {
-            name: CowSlice::Borrowed(name),
+            name: StaticTable::get(index)?.name,
             value: CowSlice::Owned(value),
         })
     }

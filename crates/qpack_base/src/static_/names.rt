@@ -5,7 +5,7 @@ ghost use Rattle.std.specs.Prelude.{◌≡◌, ◌^◌, [], slice_index_or};
 ghost use Rattle.qpack_base.specs.StaticFields.{AreNamesOfLength, AreNamesBetween, names_at, name_rows_at};
 
 /// A name and all its positions in the table, rising.
-pub(super) type Name = (&'static [u8], &'static [usize]);
+pub(super) type Name = (&'static [u8], &'static [u8]);
 
 /// Returns the names of this length, each with all its positions, rising.
 #[inline(always)]

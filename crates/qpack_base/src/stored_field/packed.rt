@@ -1,11 +1,13 @@
 //! A field that is packed into one allocation.
 
-ghost use Rattle.std.specs.Prelude.{◌≡◌, ◌+◌, ◌^◌, ◌<◌, ◌≤◌, ◌++◌, IfOk, length, max, vec_len, vec_capacity};
-ghost use Rattle.qpack_spec.specs.Field.{Field};
+ghost use Rattle.std.specs.Prelude.{◌≡◌, ◌+◌, ◌^◌, ◌<◌, ◌≤◌, ◌++◌, IfOk, IsSome, Some, length, max, slice_get, vec_len, vec_capacity};
+ghost use Rattle.std.specs.Option.{option_map};
+ghost use Rattle.qpack_spec.specs.StaticTable.{static_table};
+ghost use Rattle.qpack_spec.specs.Window.{with_value};
 
 use crate::coding::{NoMemory, append_within};
 use crate::field::FieldLine;
-use crate::static_::StaticTable;
+use crate::static_::{Error, StaticTable};
 use crate::stored_field::StoredField;
 use std::alloc::Global;
 use std::marker::Model;
@@ -37,6 +39,18 @@ impl Model for PackedField {
 }
 
 impl PackedField {
+    /// Returns the field of a value and the name of the static field at an index.
+    fn with_name_at(index: usize, value: Vec<u8>) -> PackedField
+        requires { IsSome (slice_get static_table index) }
+        ensures { option_map (λ f. with_value value.items f) (slice_get static_table index) ≡ Some result }
+    {
+        PackedField {
+            bytes: value,
+            name_len: 0,
+            static_name: Some(index as u8),
+        }
+    }
+
     /// Returns the field of a value and a name, which is appended to it.
     fn with_copied_name(value: Vec<u8>, name: &[u8]) -> Result<PackedField, NoMemory>
         ensures { IfOk result (λ made. made ≡ record { name = name.now; value = value.items }) }
@@ -99,7 +113,8 @@ impl StoredField for PackedField {
         static_name: Option<usize>,
     ) -> Result<PackedField, NoMemory> {
         if let Some(index) = static_name {
-            return PackedField::with_static_name(index, copied(alloc, line.value, 0)?);
+            let value = copied(alloc, line.value, 0)?;
+            return Ok(PackedField::with_name_at(index, value));
         }
         let value = copied(alloc, line.value, line.name.len())?;
         PackedField::with_copied_name(value, line.name)
@@ -109,21 +124,16 @@ impl StoredField for PackedField {
         PackedField::with_copied_name(value, &name)
     }
 
-    fn with_static_name(index: usize, value: Vec<u8>) -> Result<PackedField, NoMemory> {
-        Ok(PackedField {
-            bytes: value,
-            name_len: 0,
-            static_name: Some(index as u8),
-        })
+    fn with_static_name(index: usize, value: Vec<u8>) -> Result<PackedField, Error> {
+        if StaticTable::name(index).is_none() {
+            return Err(Error::Unknown(index));
+        }
+        Ok(PackedField::with_name_at(index, value))
     }
 
     fn with_value(&self, value: Vec<u8>) -> Result<PackedField, NoMemory> {
-        if self.static_name.is_some() {
-            return Ok(PackedField {
-                bytes: value,
-                name_len: 0,
-                static_name: self.static_name,
-            });
+        if let Some(index) = self.static_name {
+            return Ok(PackedField::with_name_at(index as usize, value));
         }
         let line = self.as_line();
         PackedField::with_copied_name(value, line.name)

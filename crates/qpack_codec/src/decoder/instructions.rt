@@ -13,7 +13,6 @@ ghost use Rattle.qpack_codec.specs.declared.error.DecoderError.TheVariants.{Dyna
 
 use crate::error::DecoderError;
 use qpack_base::coding::{Cursor, NoMemory};
-use qpack_base::static_::StaticTable;
 use qpack_base::stored_field::StoredField;
 use qpack_table::dynamic::{self, DynamicTable, EntryIndex};
 use qpack_wire::stream::{
@@ -122,10 +121,7 @@ fn with_name<I: EntryIndex, F: StoredField>(
     ensures { FindsField F.field table.now (encoder_instruction_of_insert_with_name_ref line) result }
 {
     match line {
-        InsertWithNameRef::Static { index, value } => {
-            StaticTable::get(index)?;
-            Ok(F::with_static_name(index, value)?)
-        }
+        InsertWithNameRef::Static { index, value } => { Ok(F::with_static_name(index, value)?) }
         InsertWithNameRef::Dynamic { index, value } => {
             Ok(table.get_relative(index)?.with_value(value)?)
         }

@@ -1,6 +1,7 @@
-use Rattle.std.proofs.Common.{ℕ, List, rules, ap, ◌∙◌}
+use Rattle.std.proofs.Common.{ℕ, List, Some, rules, ap, ◌∙◌}
 use Rattle.std.specs.Prelude.{slice_get}
 use Rattle.qpack_spec.specs.StaticTable.{field}
+use Rattle.qpack_base.specs.declared.static_.StaticMatch.TheVariants.{Name}
 use Rattle.qpack_base.proofs.StaticNames.{index_is_first, first_is_name_index}
 use Rattle.qpack_base.proofs.StaticRows.{match_field, match_name}
 use Rattle.qpack_base.proofs.static_.StaticTable.lookup.Goals as goal
@@ -12,7 +13,8 @@ returns-in-Some-default c =
 
 pub returns-in-None-Some : goal.returns-in-None-Some
 returns-in-None-Some c =
-    match_name (field c.args.name.now c.args.value.now) c.index_of_value.result _
+    ap (λ (i : ℕ). Some (Name i)) c.from.ensures
+    ∙ match_name (field c.args.name.now c.args.value.now) c.index_of_value.result _
     (search (rules, index_is_first)) c.in-None-Some.is-0
     (c.in-None-Some.ensures'.value ∙ ap (λ (l : List ℕ). slice_get l 0) c.indexes_of-indexes.ensures
     ∙ first_is_name_index c.args.name.now)
