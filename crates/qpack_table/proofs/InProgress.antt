@@ -1,5 +1,6 @@
 -- The block in progress: what it references, when it is given up, and when it ends.
-use Rattle.std.proofs.Common.{◌≡◌, ℕ, suc, ◌+◌, ◌^◌, ◌<◌, ◌≤◌, Bool, true, false, List, [], ◌∷◌, ◌++◌, length}
+use Rattle.std.proofs.Common.{◌≡◌, ℕ, suc, ◌+◌, ◌-◌, ◌^◌, ◌<◌, ◌≤◌, Bool, true, false, List, [], ◌∷◌, ◌++◌, length}
+use Rattle.std.proofs.lemmas.List.{length-map}
 use Rattle.std.proofs.Common.{Some, refl, sym, ap, subst, ◌∙◌, arith, inl, inr, get_or}
 use Rattle.std.specs.Prelude.{slice_get, slice_set, nat_lt, if◌then◌else◌}
 use Rattle.std.specs.List.{AllByRecursion}
@@ -266,3 +267,16 @@ pub same_live : (es : List Entry) (position : ℕ) (old new : Entry) → positio
     → entries_of (slice_set es position new) ≡ entries_of es
 same_live es position old new within at same =
     map_written _ es position old new (item_there es position old within at) same
+
+-- where a live entry stands
+pub live_position : (dropped : ℕ) (es : List Entry) (seen now : table.Table) (known absolute : ℕ)
+    → seen.dropped ≡ dropped → seen.live ≡ entries_of es → seen ≡ now → known ≡ dropped
+    → now.dropped < absolute → absolute ≤ table.insert_count now
+    → (absolute ≡ dropped + (absolute - known - 1) + 1) × (absolute - known - 1 < length es)
+live_position dropped es seen now known absolute first live is at after inserted =
+    let gone = ap (λ (t : table.Table). t.dropped) is in
+    let all = ap (λ (t : table.Table). table.insert_count t) is in
+    let long = ap (λ (l : List table.Entry). length l) live in (
+      omega (arith, first, gone, at, after),
+      omega (arith, first, gone, at, after, inserted, all, long, length-map es entry_of),
+    )

@@ -1,4 +1,5 @@
 pub mod Entries
+pub mod MovedEntries
 pub mod References
 pub mod Evictions
 pub mod EvictableEntries

@@ -13,6 +13,7 @@ use thiserror::Error as ThisError;
 mod block;
 mod capacities;
 mod encoder;
+mod entries;
 mod entry;
 mod entry_index;
 mod growth;

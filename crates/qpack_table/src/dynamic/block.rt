@@ -12,13 +12,13 @@ ghost use Rattle.qpack_spec.specs.Table.{apply_decoder_instruction, commit};
 ghost use Rattle.qpack_table.specs.Handles.{Commits, OpensOrBlocks};
 
 use crate::dynamic::Error;
+use crate::dynamic::entries::Entries;
 use crate::dynamic::entry::{Entry, clear_references, lower_uses};
 use crate::dynamic::index::Index;
 use crate::dynamic::open_blocks::{BlockedBlocks, OpenBlocks};
 use crate::dynamic::table::DynamicTable;
 use qpack_base::stored_field::StoredField;
 use std::alloc::AllocError;
-use std::collections::VecDeque;
 
 impl<F: StoredField> DynamicTable<Index, F> {
     /// Adds a live entry to the references of the block in progress. On error, which is `Memory` only, nothing changes.
@@ -34,7 +34,7 @@ impl<F: StoredField> DynamicTable<Index, F> {
         }
         make_room(&mut self.referenced)?;
         self.referenced.push_reserved(absolute);
-        self.entries[position].mark_referenced();
+        self.entries.mark_referenced(position);
         Ok(())
     }
 
@@ -180,7 +180,7 @@ fn grow(numbers: &mut Vec<usize>) -> Result<(), AllocError>
 
 /// Keeps the block in progress until it is acknowledged, if it references an entry. On error nothing changes.
 fn open_block<F: StoredField>(
-    entries: &mut VecDeque<Entry<F>>,
+    entries: &mut Entries<F>,
     dropped: usize,
     referenced: &mut Vec<usize>,
     unacknowledged: &mut OpenBlocks,

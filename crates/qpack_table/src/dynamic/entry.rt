@@ -3,20 +3,19 @@
 ghost use Rattle.std.specs.Prelude.{◌≡◌, ℕ, ◌+◌, ◌-◌, ◌^◌, ◌<◌, ◌≤◌, List, [], ◌∷◌, ◌++◌, length, drop, IfSome, IfNone, max};
 ghost use Rattle.std.specs.Prelude.{false, min, true};
 ghost use Rattle.std.specs.Prelude.{OnOk, OnErr};
-ghost use Rattle.std.specs.VecDeque.{deque_capacity};
 ghost use Rattle.qpack_base.specs.HeaderFields.{line_of};
 ghost use Rattle.qpack_spec.specs.Field.{field_size, total_size, unmarked};
 ghost use Rattle.qpack_spec.specs.Table.{fields_in};
+ghost use Rattle.qpack_table.specs.Entries.{no_entries};
 ghost use Rattle.qpack_table.specs.Growth.{grown};
 ghost use Rattle.qpack_table.specs.Tables.{entries_of, uses_of, flags_of, AreFlagged, AreUsed, AreCounted};
 
+use crate::dynamic::entries::Entries;
 use crate::dynamic::entry_index::EntryIndex;
-use crate::dynamic::growth::{ENTRIES, make_room};
 use crate::vas::VirtualAddressSpace;
 use qpack_base::field::FieldLine;
 use qpack_base::stored_field::StoredField;
 use std::alloc::AllocError;
-use std::collections::VecDeque;
 use std::marker::Model;
 
 /// A live entry.
@@ -102,7 +101,7 @@ impl<F: StoredField> Entry<F> {
 
     /// Clears the mark that the block in progress references it.
     #[inline(always)]
-    fn clear_mark(&mut self)
+    pub(super) fn clear_mark(&mut self)
         ensures { self.new ≡ record self.old { referenced = false } }
     {
         self.referenced = false;
@@ -110,7 +109,7 @@ impl<F: StoredField> Entry<F> {
 
     /// Counts one block less that references it.
     #[inline(always)]
-    fn lower_uses(&mut self)
+    pub(super) fn lower_uses(&mut self)
         requires { 0 < self.old.uses }
         ensures { self.new ≡ record self.old { uses = self.old.uses - 1 } }
     {
@@ -120,7 +119,7 @@ impl<F: StoredField> Entry<F> {
 
 /// Returns the position of the live entry with an absolute index.
 fn position_of<F: StoredField>(
-    entries: &VecDeque<Entry<F>>,
+    entries: &Entries<F>,
     dropped: usize,
     absolute: usize,
 ) -> Option<usize>
@@ -139,7 +138,7 @@ fn position_of<F: StoredField>(
 
 /// Clears the marks of the live entries that the block in progress references; these are all of them.
 pub(super) fn clear_references<F: StoredField>(
-    entries: &mut VecDeque<Entry<F>>,
+    entries: &mut Entries<F>,
     dropped: usize,
     references: &[usize],
 )
@@ -150,14 +149,14 @@ pub(super) fn clear_references<F: StoredField>(
 {
     for absolute in references {
         if let Some(position) = position_of(entries, dropped, *absolute) {
-            entries[position].clear_mark();
+            entries.clear_mark(position);
         }
     }
 }
 
 /// Lowers the uses of each live entry among these by one, for a block that referenced them and is given up.
 pub(super) fn lower_uses<F: StoredField>(
-    entries: &mut VecDeque<Entry<F>>,
+    entries: &mut Entries<F>,
     dropped: usize,
     references: &[usize],
 )
@@ -171,14 +170,14 @@ pub(super) fn lower_uses<F: StoredField>(
 {
     for absolute in references {
         if let Some(position) = position_of(entries, dropped, *absolute) {
-            entries[position].lower_uses();
+            entries.lower_uses(position);
         }
     }
 }
 
 /// Drops the oldest entries, and returns the sum of their sizes.
 pub(super) fn drop_oldest<I: EntryIndex, F: StoredField>(
-    entries: &mut VecDeque<Entry<F>>,
+    entries: &mut Entries<F>,
     index: &mut I,
     vas: &mut VirtualAddressSpace,
     evicted: usize,
@@ -188,7 +187,7 @@ pub(super) fn drop_oldest<I: EntryIndex, F: StoredField>(
     requires index { I.is_index_of index.old vas.old.dropped entries.old.items }
     requires small { total_size (fields_in (entries_of entries.old.items)) < 2 ^ 63 }
     ensures left { entries.new.items ≡ drop evicted entries.old.items }
-    ensures capacity { deque_capacity entries.new ≡ deque_capacity entries.old }
+    ensures memory { (entries.new.room ≡ entries.old.room) × (entries.new.held ≤ entries.old.held) }
     ensures index { I.is_index_of index.new vas.new.dropped entries.new.items }
     ensures room { (key : I.Key) → I.has_room key index.old → I.has_room key index.new }
     ensures own { (key : I.Key) → I.is_own key index.old → I.is_own key index.new }
@@ -210,13 +209,10 @@ pub(super) fn drop_oldest<I: EntryIndex, F: StoredField>(
 }
 
 /// Gives the memory of an empty list and of its index back. One with entries stays as it is.
-pub(super) fn give_back_room<I: EntryIndex, F: StoredField>(
-    entries: &mut VecDeque<Entry<F>>,
-    index: &mut I,
-)
+pub(super) fn give_back_room<I: EntryIndex, F: StoredField>(entries: &mut Entries<F>, index: &mut I)
     ensures items { entries.new.items ≡ entries.old.items }
-    ensures given { length entries.old.items ≡ 0 → deque_capacity entries.new ≡ 0 }
-    ensures kept { 0 < length entries.old.items → deque_capacity entries.new ≡ deque_capacity entries.old }
+    ensures given { length entries.old.items ≡ 0 → entries.new ≡ no_entries }
+    ensures kept { 0 < length entries.old.items → entries.new ≡ entries.old }
     ensures index_given { length entries.old.items ≡ 0 → I.has_no_rows index.new }
     ensures index_kept { 0 < length entries.old.items → index.new ≡ index.old }
     ensures own { (key : I.Key) → I.is_own key index.old → I.is_own key index.new }
@@ -234,7 +230,7 @@ pub(super) fn give_back_room<I: EntryIndex, F: StoredField>(
 /// entry's field.
 #[inline(always)]
 pub(super) fn replace_oldest<I: EntryIndex, F: StoredField>(
-    entries: &mut VecDeque<Entry<F>>,
+    entries: &mut Entries<F>,
     index: &mut I,
     vas: &mut VirtualAddressSpace,
     mem_size: &mut usize,
@@ -260,16 +256,15 @@ pub(super) fn replace_oldest<I: EntryIndex, F: StoredField>(
     ensures same_entries { OnErr result (entries.new.items ≡ entries.old.items) }
     ensures same_space { OnErr result (vas.new ≡ vas.old) }
     ensures index { I.is_index_of index.new vas.new.dropped entries.new.items }
-    ensures still { length entries.old.items + 1 ≤ deque_capacity entries.old
-        → deque_capacity entries.new ≡ deque_capacity entries.old }
-    ensures grown { OnOk result (deque_capacity entries.old ≤ length entries.old.items
-        → deque_capacity entries.new ≡ grown 8 (length entries.old.items)) }
-    ensures capacity { deque_capacity entries.new
-        ≤ max (deque_capacity entries.old) (grown 8 (length entries.old.items)) }
+    ensures still { length entries.old.items + 1 ≤ entries.old.room → entries.new.room ≡ entries.old.room }
+    ensures grown { OnOk result (entries.old.room ≤ length entries.old.items
+        → entries.new.room ≡ grown 8 (length entries.old.items)) }
+    ensures room { entries.new.room ≤ max entries.old.room (grown 8 (length entries.old.items)) }
+    ensures held { entries.new.held ≤ max entries.old.held entries.old.room }
 {
     let size = entry.mem_size();
     let key = index.own_key(key, &entry.as_line());
-    make_room(entries, ENTRIES)?;
+    entries.make_room()?;
     index.reserve(entries, vas.total_dropped(), key)?;
     let freed = drop_oldest(entries, index, vas, evicted);
     *mem_size = *mem_size - freed + size;

@@ -7,12 +7,12 @@ ghost use Rattle.qpack_table.specs.Indexes.{AreSeededHashesOf, HasNoRows, HasRoo
 ghost use Rattle.qpack_table.specs.Tables.{IsIndexOfEntries};
 ghost use Rattle.qpack_table.specs.Entries.{Entry as EntryView};
 
+use crate::dynamic::entries::Entries;
 use crate::dynamic::entry::Entry;
 use crate::dynamic::index::{Index, SeededHashes};
 use qpack_base::field::FieldLine;
 use qpack_base::stored_field::StoredField;
 use std::alloc::AllocError;
-use std::collections::VecDeque;
 
 /// What is kept beside the entries of a [`DynamicTable`](crate::dynamic::DynamicTable), as a map is over its hasher:
 /// [`Index`], by which an encoder finds them, or [`NoIndex`].
@@ -55,7 +55,7 @@ pub trait EntryIndex: Drop {
     /// Makes room for one more entry, with this key. On error the same entries are in.
     fn reserve<F: StoredField>(
         &mut self,
-        entries: &VecDeque<Entry<F>>,
+        entries: &Entries<F>,
         dropped: usize,
         key: Self::Key,
     ) -> Result<(), AllocError>
@@ -66,12 +66,7 @@ pub trait EntryIndex: Drop {
         ensures room { OnOk result (has_room key self.new) };
 
     /// Adds the newest entry, which was pushed after those that are in. There is room.
-    fn enter<F: StoredField>(
-        &mut self,
-        entries: &VecDeque<Entry<F>>,
-        dropped: usize,
-        key: Self::Key,
-    )
+    fn enter<F: StoredField>(&mut self, entries: &Entries<F>, dropped: usize, key: Self::Key)
         requires few { length entries.now.items < 2 ^ 32 }
         requires within { dropped + length entries.now.items ≤ 2 ^ 62 }
         requires pushed { (front : List EntryView) × (newest : EntryView) × (entries.now.items ≡ front ++ newest ∷ [])
@@ -82,7 +77,7 @@ pub trait EntryIndex: Drop {
         ensures own { (other : Self.Key) → is_own other self.old → is_own other self.new };
 
     /// Removes the oldest entry, which is about to be popped. It takes no memory, and the room that was made stays.
-    fn leave<F: StoredField>(&mut self, entries: &VecDeque<Entry<F>>, dropped: usize)
+    fn leave<F: StoredField>(&mut self, entries: &Entries<F>, dropped: usize)
         requires some { 0 < length entries.now.items }
         requires index { is_index_of self.old dropped entries.now.items }
         ensures index { is_index_of self.new (dropped + 1) (drop 1 entries.now.items) }
@@ -119,7 +114,7 @@ impl EntryIndex for Index {
     #[inline(always)]
     fn reserve<F: StoredField>(
         &mut self,
-        entries: &VecDeque<Entry<F>>,
+        entries: &Entries<F>,
         dropped: usize,
         key: SeededHashes,
     ) -> Result<(), AllocError> {
@@ -127,17 +122,12 @@ impl EntryIndex for Index {
     }
 
     #[inline(always)]
-    fn enter<F: StoredField>(
-        &mut self,
-        entries: &VecDeque<Entry<F>>,
-        dropped: usize,
-        key: SeededHashes,
-    ) {
+    fn enter<F: StoredField>(&mut self, entries: &Entries<F>, dropped: usize, key: SeededHashes) {
         Index::enter(self, entries, dropped, dropped + entries.len(), key.hashes);
     }
 
     #[inline(always)]
-    fn leave<F: StoredField>(&mut self, entries: &VecDeque<Entry<F>>, dropped: usize) {
+    fn leave<F: StoredField>(&mut self, entries: &Entries<F>, dropped: usize) {
         Index::leave(self, entries, dropped);
     }
 }
@@ -169,14 +159,14 @@ impl EntryIndex for NoIndex {
 
     fn reserve<F: StoredField>(
         &mut self,
-        _entries: &VecDeque<Entry<F>>,
+        _entries: &Entries<F>,
         _dropped: usize,
         _key: (),
     ) -> Result<(), AllocError> {
         Ok(())
     }
 
-    fn enter<F: StoredField>(&mut self, _entries: &VecDeque<Entry<F>>, _dropped: usize, _key: ()) {}
+    fn enter<F: StoredField>(&mut self, _entries: &Entries<F>, _dropped: usize, _key: ()) {}
 
-    fn leave<F: StoredField>(&mut self, _entries: &VecDeque<Entry<F>>, _dropped: usize) {}
+    fn leave<F: StoredField>(&mut self, _entries: &Entries<F>, _dropped: usize) {}
 }

@@ -17,6 +17,7 @@ mod hash;
 mod row;
 mod rows;
 
+use crate::dynamic::entries::Entries;
 use crate::dynamic::entry::Entry;
 use crate::dynamic::growth::{ROWS, ROWS_OF_NAMES, SLOTS_A_ROW};
 use crate::dynamic::index::hash::hash_name;
@@ -26,7 +27,6 @@ use crate::dynamic::index::rows::Rows;
 use qpack_base::field::FieldLine;
 use qpack_base::stored_field::StoredField;
 use std::alloc::{AllocError, Global};
-use std::collections::VecDeque;
 
 /// A count of the comparisons of a sought field with entries, at most 2^64 - 1.
 #[derive(Debug, Drop)]
@@ -103,7 +103,7 @@ impl Index {
     /// Returns the newest entry with the field. If there is no entry, nothing is hashed.
     pub(super) fn newest_equal<F: StoredField>(
         &self,
-        entries: &VecDeque<Entry<F>>,
+        entries: &Entries<F>,
         dropped: usize,
         field: &FieldLine<'_>,
         steps: &mut Steps,
@@ -124,7 +124,7 @@ impl Index {
     #[inline(always)]
     pub(super) fn newest_hashed<F: StoredField>(
         &self,
-        entries: &VecDeque<Entry<F>>,
+        entries: &Entries<F>,
         dropped: usize,
         field: &FieldLine<'_>,
         hashes: Hashes,
@@ -147,7 +147,7 @@ impl Index {
     /// Returns the newest entry with the name. If there is no entry, nothing is hashed.
     pub(super) fn newest_of_name<F: StoredField>(
         &self,
-        entries: &VecDeque<Entry<F>>,
+        entries: &Entries<F>,
         dropped: usize,
         name: &[u8],
         steps: &mut Steps,
@@ -167,7 +167,7 @@ impl Index {
     /// Returns the newest entry with a name that has this hash.
     pub(super) fn newest_hashed_name<F: StoredField>(
         &self,
-        entries: &VecDeque<Entry<F>>,
+        entries: &Entries<F>,
         dropped: usize,
         name: &[u8],
         hash: u32,
@@ -192,7 +192,7 @@ impl Index {
     #[inline(always)]
     pub(super) fn reserve<F: StoredField>(
         &mut self,
-        entries: &VecDeque<Entry<F>>,
+        entries: &Entries<F>,
         dropped: usize,
         hashes: Hashes,
     ) -> Result<(), AllocError>
@@ -287,7 +287,7 @@ impl Index {
     #[inline(always)]
     pub(super) fn enter<F: StoredField>(
         &mut self,
-        entries: &VecDeque<Entry<F>>,
+        entries: &Entries<F>,
         dropped: usize,
         index: usize,
         hashes: Hashes,
@@ -317,7 +317,7 @@ impl Index {
     }
 
     /// Removes the oldest entry, which is about to be popped. It takes no memory, and the room that was made stays.
-    pub(super) fn leave<F: StoredField>(&mut self, entries: &VecDeque<Entry<F>>, dropped: usize)
+    pub(super) fn leave<F: StoredField>(&mut self, entries: &Entries<F>, dropped: usize)
         requires some { 0 < length entries.now.items }
         requires index { IsIndexOf dropped (live_fields entries.now.items) (length entries.now.items) self.old }
         ensures index { IsIndexOf (dropped + 1) (drop 1 (live_fields entries.now.items))

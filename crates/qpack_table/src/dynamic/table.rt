@@ -25,6 +25,7 @@ ghost use Rattle.qpack_table.specs.declared.dynamic.Error.TheVariants.{MaximumTa
 use crate::dynamic::Error;
 use crate::dynamic::block::make_room;
 use crate::dynamic::capacities::{Capacities, GREATEST_CAPACITY};
+use crate::dynamic::entries::Entries;
 use crate::dynamic::entry::{Entry, drop_oldest, give_back_room, replace_oldest};
 use crate::dynamic::entry_index::{EntryIndex, NoIndex};
 use crate::dynamic::index::{Index, SeededHashes};
@@ -33,7 +34,6 @@ use crate::vas::VirtualAddressSpace;
 use qpack_base::field::{FieldLine, HeaderField};
 use qpack_base::stored_field::{PackedField, StoredField};
 use std::alloc::{AllocError, Global};
-use std::collections::VecDeque;
 use std::marker::Model;
 
 /// The limits of blocked streams that may be set are below this.
@@ -47,7 +47,7 @@ pub(super) const MOST_INSERTIONS: usize = 1 << 62;
 #[derive(Debug, Drop)]
 pub struct DynamicTable<I: EntryIndex = Index, F: StoredField = HeaderField> {
     /// The live entries, the oldest first.
-    pub(super) entries: VecDeque<Entry<F>>,
+    pub(super) entries: Entries<F>,
     pub(super) vas: VirtualAddressSpace,
     /// The sum of the live fields' sizes, in bytes.
     pub(super) mem_size: usize,
@@ -179,7 +179,7 @@ impl<I: EntryIndex, F: StoredField> DynamicTable<I, F> {
         ensures { result ≡ empty_table 0 None 0 }
     {
         DynamicTable {
-            entries: VecDeque::new(alloc),
+            entries: Entries::new(alloc),
             vas: VirtualAddressSpace::default(),
             mem_size: 0,
             capacities: Capacities::default(),

@@ -13,6 +13,7 @@ ghost use Rattle.qpack_table.specs.Rows.{Counts, GrowsSlots, HasFewSpareSlots, g
 ghost use Rattle.qpack_table.specs.Rows.{slots_a_row};
 ghost use Rattle.qpack_table.specs.Tables.{live_fields};
 
+use crate::dynamic::entries::Entries;
 use crate::dynamic::entry::Entry;
 use crate::dynamic::growth::{SLOTS, SLOTS_A_ROW, growth};
 use crate::dynamic::index::Steps;
@@ -22,7 +23,6 @@ use qpack_base::field::FieldLine;
 use qpack_base::stored_field::StoredField;
 use std::alloc::{AllocError, Global};
 use std::cmp::Ordering;
-use std::collections::VecDeque;
 
 /// A row of at most this many slots is searched for an index without a look at an entry.
 const MOST_SCANNED: usize = 16;
@@ -99,7 +99,7 @@ fn compare_bytes(a: &[u8], b: &[u8]) -> Ordering
 fn compare<F: StoredField>(
     sought: &Sought<'_>,
     slot: Slot,
-    entries: &VecDeque<Entry<F>>,
+    entries: &Entries<F>,
     dropped: usize,
     steps: &mut Steps,
 ) -> Ordering
@@ -220,7 +220,7 @@ impl Row {
     /// slots.
     fn search<F: StoredField>(
         &self,
-        entries: &VecDeque<Entry<F>>,
+        entries: &Entries<F>,
         dropped: usize,
         sought: &Sought<'_>,
         steps: &mut Steps,
@@ -247,7 +247,7 @@ impl Row {
     #[inline(always)]
     pub(super) fn find<F: StoredField>(
         &self,
-        entries: &VecDeque<Entry<F>>,
+        entries: &Entries<F>,
         dropped: usize,
         sought: &Sought<'_>,
         steps: &mut Steps,
@@ -268,7 +268,7 @@ impl Row {
     /// Adds a live index, for which there is room: in the slot of the same part, if there is one.
     pub(super) fn enter<F: StoredField>(
         &mut self,
-        entries: &VecDeque<Entry<F>>,
+        entries: &Entries<F>,
         dropped: usize,
         index: usize,
         sought: &Sought<'_>,
@@ -298,7 +298,7 @@ impl Row {
     /// Removes the slot of the oldest entry, if it is there.
     pub(super) fn leave<F: StoredField>(
         &mut self,
-        entries: &VecDeque<Entry<F>>,
+        entries: &Entries<F>,
         dropped: usize,
         sought: &Sought<'_>,
     )
@@ -318,7 +318,7 @@ impl Row {
     /// Returns the position of the oldest entry's slot.
     fn position_of_oldest<F: StoredField>(
         &self,
-        entries: &VecDeque<Entry<F>>,
+        entries: &Entries<F>,
         dropped: usize,
         sought: &Sought<'_>,
     ) -> Option<usize>

@@ -11,6 +11,7 @@ ghost use Rattle.qpack_table.specs.Tables.{live_fields};
 ghost use Rattle.qpack_table.specs.Indexes.{AreRowsOf, AreRows, KeepsEntries, HasRoomFor, FindsNewest, IsSplitOf};
 ghost use Rattle.qpack_table.specs.Indexes.{NeedsRow, GrowsByQuarter, rows_with_split};
 
+use crate::dynamic::entries::Entries;
 use crate::dynamic::entry::Entry;
 use crate::dynamic::growth::growth;
 use crate::dynamic::index::Steps;
@@ -18,7 +19,6 @@ use crate::dynamic::index::hash::{position_of, split_among};
 use crate::dynamic::index::row::{Row, Sought, Split};
 use qpack_base::stored_field::StoredField;
 use std::alloc::{AllocError, Global};
-use std::collections::VecDeque;
 
 /// The newest index of each different part, in the row of the part's hash.
 #[derive(Debug, Drop)]
@@ -169,7 +169,7 @@ impl Rows {
     #[inline(always)]
     pub(super) fn newest<F: StoredField>(
         &self,
-        entries: &VecDeque<Entry<F>>,
+        entries: &Entries<F>,
         dropped: usize,
         sought: &Sought<'_>,
         steps: &mut Steps,
@@ -206,7 +206,7 @@ impl Rows {
     /// Adds the next newer entry after those that are in. There is room.
     pub(super) fn enter<F: StoredField>(
         &mut self,
-        entries: &VecDeque<Entry<F>>,
+        entries: &Entries<F>,
         dropped: usize,
         index: usize,
         sought: &Sought<'_>,
@@ -230,7 +230,7 @@ impl Rows {
     /// Removes the oldest entry, which is about to be popped: its slot, if no newer entry has the same part.
     pub(super) fn leave<F: StoredField>(
         &mut self,
-        entries: &VecDeque<Entry<F>>,
+        entries: &Entries<F>,
         dropped: usize,
         sought: &Sought<'_>,
     )

@@ -1,117 +1,62 @@
-use Rattle.std.proofs.Common.{◌≡◌, ◌+◌, ◌-◌, ◌<◌, ◌∷◌, ◌++◌, [], ℕ, List, length, refl, sym, ap, ◌∙◌, arith}
-use Rattle.std.proofs.lemmas.List.{length-map}
-use Rattle.qpack_spec.specs.Table.{Table, insert_count}
-use Rattle.qpack_table.specs.Tables.{entry_of}
-use Rattle.qpack_table.specs.Entries.{Entry}
-use Rattle.qpack_table.proofs.EvictableEntries.{item_there, read_twice}
+use Rattle.std.proofs.Common.{◌≡◌, ◌∷◌, ◌++◌, [], ℕ, List, false, refl, sym, ap, ◌∙◌, arith}
+use Rattle.qpack_table.specs.Tables.{entries_of}
+use Rattle.qpack_table.specs.Entries.{Entries, Entry}
+use Rattle.qpack_table.proofs.EvictableEntries.{item_there}
 use Rattle.qpack_table.proofs.Kept.{sized_as, indexed_as}
 use Rattle.qpack_table.proofs.InProgress.{referenced_before, referenced_now, uses_fit, references_of_block, flag_tells}
-use Rattle.qpack_table.proofs.InProgress.{same_live}
+use Rattle.qpack_table.proofs.InProgress.{same_live, live_position}
 use Rattle.qpack_table.proofs.dynamic.block.DynamicTable+Index+F.reference.Goals as goal
 
 pub returns-then-is_referenced-clause-ok : goal.returns-then-is_referenced-clause-ok
 returns-then-is_referenced-clause-ok g c =
-    let position : c.args.absolute ≡ c.self.inside.vas.dropped + (c.args.absolute - c.total_dropped.result - 1) + 1 =
-    omega (
-      arith,
-      c.requires.live,
-      ap (λ (t : Table). t.dropped) c.self.view_is,
-      c.total_dropped.ensures.exact,
-    ) in
-    let within : c.args.absolute - c.total_dropped.result - 1 < length c.self.inside.entries.items =
-    omega (
-      arith,
-      c.requires.inserted,
-      ap (λ (t : Table). insert_count t) c.self.view_is,
-      length-map c.self.inside.entries.items entry_of,
-      position,
-    ) in
+    let at = live_position c.self.inside.vas.dropped c.self.inside.entries.items _ _ _ c.args.absolute refl refl
+    c.self.view_is c.total_dropped.ensures.exact c.requires.live c.requires.inserted in
     rw (← c.self.view_is) (referenced_before _ c.args.absolute
-    (flag_tells _ _ _ _ _ _ c.index.result.now _ c.self.invariant.references position within c.index.ensures
+    (flag_tells _ _ _ _ _ _ c.index.result.now _ c.self.invariant.references at.0 at.1 c.index.ensures
     (sym c.is_referenced.ensures ∙ c.if-is_referenced.true)))
 
-pub mark_referenced-requires : goal.mark_referenced-requires
-mark_referenced-requires g c =
-    let position : c.args.absolute ≡ c.self.inside.vas.dropped + (c.args.absolute - c.total_dropped.result - 1) + 1 =
-    omega (
-      arith,
-      c.requires.live,
-      ap (λ (t : Table). t.dropped) c.self.view_is,
-      c.total_dropped.ensures.exact,
-    ) in
-    let within : c.args.absolute - c.total_dropped.result - 1 < length c.self.inside.entries.items =
-    omega (
-      arith,
-      c.requires.inserted,
-      ap (λ (t : Table). insert_count t) c.self.view_is,
-      length-map c.self.inside.entries.items entry_of,
-      position,
-    ) in
-    let same = read_twice _ _ _ _ within c.index_mut.ensures.value c.index.ensures in
-    let unflagged = ap (λ (e : Entry). e.referenced) same ∙ (sym c.is_referenced.ensures ∙ c.if-is_referenced.false) in
-    omega (
-      arith,
-      uses_fit _ _ _ _ _ _ c.self.invariant.references (item_there _ _ _ within c.index_mut.ensures.value)
-          unflagged,
-    )
+pub mark_referenced-requires-clause-within : goal.mark_referenced-requires-clause-within
+mark_referenced-requires-clause-within g c =
+    (live_position c.self.inside.vas.dropped c.self.inside.entries.items _ _ _ c.args.absolute refl refl c.self.view_is
+    c.total_dropped.ensures.exact c.requires.live c.requires.inserted).1
+
+pub mark_referenced-requires-clause-few : goal.mark_referenced-requires-clause-few
+mark_referenced-requires-clause-few g c e there =
+    let at = live_position c.self.inside.vas.dropped c.self.inside.entries.items _ _ _ c.args.absolute refl refl
+    c.self.view_is c.total_dropped.ensures.exact c.requires.live c.requires.inserted in
+    let seen = item_there _ _ _ at.1 c.index.ensures in
+    let same : c.index.result.now ≡ e = cc in
+    let unflagged : e.referenced ≡ false =
+    ap (λ (x : Entry). x.referenced) (sym same) ∙ sym c.is_referenced.ensures ∙ c.if-is_referenced.false in
+    omega (arith, uses_fit _ _ _ _ _ e c.self.invariant.references there unflagged)
 
 pub invariant_of-self-2 : goal.invariant_of-self-2
 invariant_of-self-2 g c =
-    let position : c.args.absolute ≡ c.self.inside.vas.dropped + (c.args.absolute - c.total_dropped.result - 1) + 1 =
-    omega (
-      arith,
-      c.requires.live,
-      ap (λ (t : Table). t.dropped) c.self.view_is,
-      c.total_dropped.ensures.exact,
-    ) in
-    let within : c.args.absolute - c.total_dropped.result - 1 < length c.self.inside.entries.items =
-    omega (
-      arith,
-      c.requires.inserted,
-      ap (λ (t : Table). insert_count t) c.self.view_is,
-      length-map c.self.inside.entries.items entry_of,
-      position,
-    ) in
-    let same = read_twice _ _ _ _ within c.index_mut.ensures.value c.index.ensures in
-    let unflagged = ap (λ (e : Entry). e.referenced) same ∙ (sym c.is_referenced.ensures ∙ c.if-is_referenced.false) in
+    let at = live_position c.self.inside.vas.dropped c.self.inside.entries.items _ _ _ c.args.absolute refl refl
+    c.self.view_is c.total_dropped.ensures.exact c.requires.live c.requires.inserted in
+    let seen = item_there _ _ _ at.1 c.index.ensures in
+    let marked = ap (λ (e : Entries). e.items) (c.mark_referenced.ensures _ seen) in
+    let live = ap (λ (l : List Entry). entries_of l) marked
+    ∙ same_live _ _ c.index.result.now _ at.1 c.index.ensures refl in
     record {
-      sized = sized_as c.self.inside.vas c.self.inside.entries.items _ _ _
-          (same_live _ _ c.index_mut.result.now _ within c.index_mut.ensures.value
-          (ap (λ (e : Entry). entry_of e) c.mark_referenced.ensures))
-          c.self.invariant.sized;
-      references = references_of_block c.self.inside.vas c.self.inside.entries.items _ _ _ _ c.args.absolute
-          (c.args.absolute - c.total_dropped.result - 1) c.index_mut.result.now _ c.self.invariant.references
-          position
-          (omega (arith, position, within, c.self.invariant.sized.counted))
-          (item_there _ _ _ within c.index_mut.ensures.value) unflagged c.mark_referenced.ensures refl
+      sized = sized_as c.self.inside.vas c.self.inside.entries.items _ _ _ live c.self.invariant.sized;
+      references = references_of_block c.self.inside.vas c.self.inside.entries.items _ _ _ _ c.args.absolute _
+          c.index.result.now _ c.self.invariant.references at.0
+          (omega (arith, at, c.self.invariant.sized.counted)) seen
+          (sym c.is_referenced.ensures ∙ c.if-is_referenced.false) refl marked
           (c.push_reserved.ensures.items
           ∙ ap (λ (l : List ℕ). l ++ c.args.absolute ∷ []) c.make_room.ensures.items);
-      indexed = indexed_as c.self.inside.vas.dropped c.self.inside.entries.items _
-          (same_live _ _ c.index_mut.result.now _ within c.index_mut.ensures.value
-          (ap (λ (e : Entry). entry_of e) c.mark_referenced.ensures))
-          c.self.invariant.indexed;
+      indexed = indexed_as c.self.inside.vas.dropped c.self.inside.entries.items _ live c.self.invariant.indexed;
     }
 
 pub returns-clause-ok : goal.returns-clause-ok
 returns-clause-ok g c =
-    let position : c.args.absolute ≡ c.self.inside.vas.dropped + (c.args.absolute - c.total_dropped.result - 1) + 1 =
-    omega (
-      arith,
-      c.requires.live,
-      ap (λ (t : Table). t.dropped) c.self.view_is,
-      c.total_dropped.ensures.exact,
-    ) in
-    let within : c.args.absolute - c.total_dropped.result - 1 < length c.self.inside.entries.items =
-    omega (
-      arith,
-      c.requires.inserted,
-      ap (λ (t : Table). insert_count t) c.self.view_is,
-      length-map c.self.inside.entries.items entry_of,
-      position,
-    ) in
+    let at = live_position c.self.inside.vas.dropped c.self.inside.entries.items _ _ _ c.args.absolute refl refl
+    c.self.view_is c.total_dropped.ensures.exact c.requires.live c.requires.inserted in
+    let seen = item_there _ _ _ at.1 c.index.ensures in
+    let marked = ap (λ (e : Entries). e.items) (c.mark_referenced.ensures _ seen) in
     rw (← c.self.view_is) (referenced_now _ c.args.absolute _ _
-    (flag_tells _ _ _ _ _ _ c.index.result.now _ c.self.invariant.references position within c.index.ensures
+    (flag_tells _ _ _ _ _ _ c.index.result.now _ c.self.invariant.references at.0 at.1 c.index.ensures
     (sym c.is_referenced.ensures ∙ c.if-is_referenced.false))
-    (same_live _ _ c.index_mut.result.now _ within c.index_mut.ensures.value
-    (ap (λ (e : Entry). entry_of e) c.mark_referenced.ensures))
+    (ap (λ (l : List Entry). entries_of l) marked ∙ same_live _ _ c.index.result.now _ at.1 c.index.ensures refl)
     (c.push_reserved.ensures.items ∙ ap (λ (l : List ℕ). l ++ c.args.absolute ∷ []) c.make_room.ensures.items))
