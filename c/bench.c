@@ -1,9 +1,10 @@
 /* bench CORPUS ROUNDS [CAPACITY [UNTIMED [COLD]]]: ns a field across the boundary, this library and nghttp3 in turn in
  * one run over the corpus, the least of so many rounds, less what the clock takes; the same, of a fiftieth of the
  * rounds, with a table of 30,000 entries; and ns of calls that do nothing. Each list is on a stream of its own, and
- * acknowledged. Of both, what is decoded is copied to memory of the caller. With a capacity the lists are timed at that
- * one alone, but for the first of them, as many as UNTIMED says. COLD is how many KiB of other memory are written after
- * each phase, so that the next one finds little in the caches. */
+ * acknowledged. An end receives bytes of a stream where there are any, as in a program. Of both, what is decoded is
+ * copied to memory of the caller. With a capacity the lists are timed at that one alone, but for the first of them, as
+ * many as UNTIMED says. COLD is how many KiB of other memory are written after each phase, so that the next one finds
+ * little in the caches. */
 #include "tests/common.h"
 
 static uint8_t section[1 << 16], stream[1 << 16], bytes[1 << 16];
@@ -75,17 +76,17 @@ static times run_ours(size_t capacity) {
     h3_qpack_encoded a = h3_qpack_encoder_encode(&e, 4 * i, lists[i].nv, lists[i].len, section, sizeof section);
     size_t len = h3_qpack_encoder_write_encoder(&e, stream, sizeof stream);
     end_phase(&t, ENCODE, &since);
-    h3_qpack_received r = h3_qpack_decoder_read_encoder(&d, stream, len);
+    if (len) CHECK(h3_qpack_decoder_read_encoder(&d, stream, len).status == H3_QPACK_OK);
     end_phase(&t, RECEIVE, &since);
     h3_qpack_decoded got = h3_qpack_decoder_decode(&d, 4 * i, section, a.len);
     h3_qpack_written w = h3_qpack_decoder_fields(&d, fields, sizeof fields / sizeof *fields, bytes, sizeof bytes);
     end_phase(&t, DECODE, &since);
-    CHECK(a.status == H3_QPACK_OK && r.status == H3_QPACK_OK && got.status == H3_QPACK_OK && w.status == H3_QPACK_OK);
+    CHECK(a.status == H3_QPACK_OK && got.status == H3_QPACK_OK && w.status == H3_QPACK_OK);
     CHECK(got.fields == lists[i].len);
     t.written += a.len + len;
     since = now();
     len = h3_qpack_decoder_write_decoder(&d, stream, sizeof stream);
-    h3_qpack_encoder_read_decoder(&e, stream, len);
+    if (len) h3_qpack_encoder_read_decoder(&e, stream, len);
     end_phase(&t, HEAR, &since);
   }
   h3_qpack_encoder_del(&e);
@@ -147,7 +148,8 @@ static times run_theirs(size_t capacity) {
     memcpy(section + front, lines.pos, len - front);
     t.written += len + nghttp3_buf_len(&instructions);
     since = now();
-    nghttp3_qpack_decoder_read_encoder(d, instructions.pos, nghttp3_buf_len(&instructions));
+    if (nghttp3_buf_len(&instructions))
+      nghttp3_qpack_decoder_read_encoder(d, instructions.pos, nghttp3_buf_len(&instructions));
     end_phase(&t, RECEIVE, &since);
     size_t count = decode_theirs(d, stream_id, section, len);
     end_phase(&t, DECODE, &since);
@@ -156,7 +158,7 @@ static times run_theirs(size_t capacity) {
     answer.begin = answer.pos = answer.last = stream;
     answer.end = stream + sizeof stream;
     nghttp3_qpack_decoder_write_decoder(d, &answer);
-    nghttp3_qpack_encoder_read_decoder(e, stream, nghttp3_buf_len(&answer));
+    if (nghttp3_buf_len(&answer)) nghttp3_qpack_encoder_read_decoder(e, stream, nghttp3_buf_len(&answer));
     end_phase(&t, HEAR, &since);
   }
   nghttp3_buf_free(&prefix, mem);
