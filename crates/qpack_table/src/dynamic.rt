@@ -14,7 +14,6 @@ mod block;
 mod capacities;
 mod encoder;
 mod entries;
-mod entry;
 mod entry_index;
 mod growth;
 mod index;

@@ -1,19 +1,19 @@
 //! Blocks: what the one in progress references, and its end; and which reference entries until they are acknowledged, or
 //! may be blocked (RFC 9204, section 2.1).
 
-ghost use Rattle.std.specs.Prelude.{◌≡◌, ◌+◌, ◌^◌, ◌<◌, ◌≤◌, [], ◌∷◌, ◌++◌, length, true, if◌then◌else◌, Ok};
-ghost use Rattle.std.specs.Prelude.{OnOk, OnErr, vec_len, vec_capacity};
+ghost use Rattle.std.specs.Prelude.{◌≡◌, ℕ, ◌+◌, ◌^◌, ◌<◌, ◌≤◌, List, [], ◌∷◌, ◌++◌, length, true, if◌then◌else◌, Ok};
+ghost use Rattle.std.specs.Prelude.{IfNone, IfSome, OnOk, OnErr, vec_len, vec_capacity};
 ghost use Rattle.qpack_spec.specs.Instruction.{Acknowledgment, Cancellation, Increment};
 ghost use Rattle.qpack_spec.specs.Reading.{greatest_of};
 ghost use Rattle.qpack_spec.specs.Table.{without_references, with_reference, with_unacknowledged, insert_count};
-ghost use Rattle.qpack_table.specs.Tables.{AreFlagged, Changes, entries_of, oldest_required, uses_of};
+ghost use Rattle.qpack_table.specs.Tables.{AreCounted, AreFlagged, AreUsed, Changes, entries_of, flags_of};
+ghost use Rattle.qpack_table.specs.Tables.{oldest_required, uses_of};
 ghost use Rattle.qpack_table.specs.BlockedBlocks.{BlockedKeys, IsKeptIf, counts_of};
 ghost use Rattle.qpack_spec.specs.Table.{apply_decoder_instruction, commit};
 ghost use Rattle.qpack_table.specs.Handles.{Commits, OpensOrBlocks};
 
 use crate::dynamic::Error;
 use crate::dynamic::entries::Entries;
-use crate::dynamic::entry::{Entry, clear_references, lower_uses};
 use crate::dynamic::index::Index;
 use crate::dynamic::open_blocks::{BlockedBlocks, OpenBlocks};
 use crate::dynamic::table::DynamicTable;
@@ -241,5 +241,63 @@ fn take_back_if(blocked: &mut BlockedBlocks, is_blocked: bool, required: usize)
 {
     if is_blocked {
         blocked.take_back(required);
+    }
+}
+
+/// Returns the position of the live entry with an absolute index.
+fn position_of<F: StoredField>(
+    entries: &Entries<F>,
+    dropped: usize,
+    absolute: usize,
+) -> Option<usize>
+    ensures found { IfSome result (λ position.
+        (absolute ≡ dropped + position + 1) × (position < length entries.now.items)) }
+    ensures none { IfNone result
+        ((position : ℕ) → position < length entries.now.items → absolute ≡ dropped + position + 1 → ⊥) }
+{
+    let position = absolute.checked_sub(dropped)?.checked_sub(1)?;
+    if position < entries.len() {
+        Some(position)
+    } else {
+        None
+    }
+}
+
+/// Clears the marks of the live entries that the block in progress references; these are all of them.
+pub(super) fn clear_references<F: StoredField>(
+    entries: &mut Entries<F>,
+    dropped: usize,
+    references: &[usize],
+)
+    ensures live { entries_of entries.new.items ≡ entries_of entries.old.items }
+    ensures uses { uses_of entries.new.items ≡ uses_of entries.old.items }
+    ensures cleared { AreFlagged dropped entries.old.items references.now
+        → AreFlagged dropped entries.new.items [] }
+{
+    for absolute in references {
+        if let Some(position) = position_of(entries, dropped, *absolute) {
+            entries.clear_mark(position);
+        }
+    }
+}
+
+/// Lowers the uses of each live entry among these by one, for a block that referenced them and is given up.
+pub(super) fn lower_uses<F: StoredField>(
+    entries: &mut Entries<F>,
+    dropped: usize,
+    references: &[usize],
+)
+    requires { AreCounted dropped entries.old.items references.now }
+    ensures live { entries_of entries.new.items ≡ entries_of entries.old.items }
+    ensures flags { flags_of entries.new.items ≡ flags_of entries.old.items }
+    ensures counted { (rest : List ℕ) → AreCounted dropped entries.old.items (references.now ++ rest)
+        → AreCounted dropped entries.new.items rest }
+    ensures lowered { (rest : List ℕ) → AreUsed dropped entries.old.items (references.now ++ rest)
+        → AreUsed dropped entries.new.items rest }
+{
+    for absolute in references {
+        if let Some(position) = position_of(entries, dropped, *absolute) {
+            entries.lower_uses(position);
+        }
     }
 }

@@ -3,13 +3,10 @@
 ghost use Rattle.std.specs.Prelude.{◌≡◌, ℕ, ◌+◌, ◌^◌, ◌<◌, ◌≤◌, ⊤, List, [], ◌∷◌, ◌++◌, OnOk, length, drop};
 ghost use Rattle.qpack_base.specs.HeaderFields.{field_of, line_of};
 ghost use Rattle.qpack_spec.specs.Field.{Field};
-ghost use Rattle.qpack_table.specs.Indexes.{AreSeededHashesOf, HasNoRows, HasRoomForEntry};
-ghost use Rattle.qpack_table.specs.Tables.{IsIndexOfEntries};
 ghost use Rattle.qpack_table.specs.Entries.{Entry as EntryView};
 
 use crate::dynamic::entries::Entries;
-use crate::dynamic::entry::Entry;
-use crate::dynamic::index::{Index, SeededHashes};
+use crate::dynamic::index::Index;
 use qpack_base::field::FieldLine;
 use qpack_base::stored_field::StoredField;
 use std::alloc::AllocError;
@@ -83,53 +80,6 @@ pub trait EntryIndex: Drop {
         ensures index { is_index_of self.new (dropped + 1) (drop 1 entries.now.items) }
         ensures own { (key : Self.Key) → is_own key self.old → is_own key self.new }
         ensures room { (key : Self.Key) → has_room key self.old → has_room key self.new };
-}
-
-impl EntryIndex for Index {
-    type Key = SeededHashes;
-
-    ghost is_index_of = { λ index dropped entries. IsIndexOfEntries index dropped entries };
-
-    ghost is_key_of = { λ known f. AreSeededHashesOf known f };
-
-    ghost is_own = { λ known index. known.seed ≡ index.seed };
-
-    ghost has_no_rows = { λ index. HasNoRows index };
-
-    ghost has_room = { λ known index. HasRoomForEntry known.hashes index };
-
-    fn key_of(&self, field: &FieldLine<'_>) -> SeededHashes {
-        SeededHashes::of(self.seed(), field)
-    }
-
-    #[inline(always)]
-    fn own_key(&self, key: SeededHashes, field: &FieldLine<'_>) -> SeededHashes {
-        key.reseeded(self.seed(), field)
-    }
-
-    fn emptied(&self) -> Index {
-        Index::emptied(self)
-    }
-
-    #[inline(always)]
-    fn reserve<F: StoredField>(
-        &mut self,
-        entries: &Entries<F>,
-        dropped: usize,
-        key: SeededHashes,
-    ) -> Result<(), AllocError> {
-        Index::reserve(self, entries, dropped, key.hashes)
-    }
-
-    #[inline(always)]
-    fn enter<F: StoredField>(&mut self, entries: &Entries<F>, dropped: usize, key: SeededHashes) {
-        Index::enter(self, entries, dropped, dropped + entries.len(), key.hashes);
-    }
-
-    #[inline(always)]
-    fn leave<F: StoredField>(&mut self, entries: &Entries<F>, dropped: usize) {
-        Index::leave(self, entries, dropped);
-    }
 }
 
 /// No index: of a table that only receives, entries are asked for by their places alone.

@@ -6,10 +6,10 @@ ghost use Rattle.std.specs.Prelude.{vec_capacity};
 ghost use Rattle.qpack_base.specs.HeaderFields.{line_of};
 ghost use Rattle.qpack_spec.specs.Field.{is_field, has_name};
 ghost use Rattle.qpack_table.specs.Rows.{field_at, Counts, slots_a_row};
-ghost use Rattle.qpack_table.specs.Tables.{entries_of, live_fields};
+ghost use Rattle.qpack_table.specs.Tables.{IsIndexOfEntries, entries_of, live_fields};
 ghost use Rattle.qpack_table.specs.declared.dynamic.index.hash.Hashes.{Hashes};
 ghost use Rattle.qpack_table.specs.Hashes.{name_hash};
-ghost use Rattle.qpack_table.specs.Indexes.{AreHashesOf, IsIndexOf, HasRoomForEntry, IsNewestIn};
+ghost use Rattle.qpack_table.specs.Indexes.{AreHashesOf, AreSeededHashesOf, IsIndexOf, HasRoomForEntry, IsNewestIn};
 ghost use Rattle.qpack_table.specs.Indexes.{IsIndex, KeepsIndexed, HasNoRows, NeedsRowOfNames};
 ghost use Rattle.qpack_table.specs.Indexes.{GrowsRows, GrowsNames, one_row_more, HasFewSpare};
 
@@ -18,7 +18,7 @@ mod row;
 mod rows;
 
 use crate::dynamic::entries::Entries;
-use crate::dynamic::entry::Entry;
+use crate::dynamic::entry_index::EntryIndex;
 use crate::dynamic::growth::{ROWS, ROWS_OF_NAMES, SLOTS_A_ROW};
 use crate::dynamic::index::hash::hash_name;
 pub(super) use crate::dynamic::index::hash::{Hashes, SeededHashes};
@@ -339,5 +339,52 @@ impl Index {
         };
         self.fields.leave(entries, dropped, &field);
         self.names.leave(entries, dropped, &name);
+    }
+}
+
+impl EntryIndex for Index {
+    type Key = SeededHashes;
+
+    ghost is_index_of = { λ index dropped entries. IsIndexOfEntries index dropped entries };
+
+    ghost is_key_of = { λ known f. AreSeededHashesOf known f };
+
+    ghost is_own = { λ known index. known.seed ≡ index.seed };
+
+    ghost has_no_rows = { λ index. HasNoRows index };
+
+    ghost has_room = { λ known index. HasRoomForEntry known.hashes index };
+
+    fn key_of(&self, field: &FieldLine<'_>) -> SeededHashes {
+        SeededHashes::of(self.seed(), field)
+    }
+
+    #[inline(always)]
+    fn own_key(&self, key: SeededHashes, field: &FieldLine<'_>) -> SeededHashes {
+        key.reseeded(self.seed(), field)
+    }
+
+    fn emptied(&self) -> Index {
+        Index::emptied(self)
+    }
+
+    #[inline(always)]
+    fn reserve<F: StoredField>(
+        &mut self,
+        entries: &Entries<F>,
+        dropped: usize,
+        key: SeededHashes,
+    ) -> Result<(), AllocError> {
+        Index::reserve(self, entries, dropped, key.hashes)
+    }
+
+    #[inline(always)]
+    fn enter<F: StoredField>(&mut self, entries: &Entries<F>, dropped: usize, key: SeededHashes) {
+        Index::enter(self, entries, dropped, dropped + entries.len(), key.hashes);
+    }
+
+    #[inline(always)]
+    fn leave<F: StoredField>(&mut self, entries: &Entries<F>, dropped: usize) {
+        Index::leave(self, entries, dropped);
     }
 }

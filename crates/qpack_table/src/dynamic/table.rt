@@ -25,8 +25,7 @@ ghost use Rattle.qpack_table.specs.declared.dynamic.Error.TheVariants.{MaximumTa
 use crate::dynamic::Error;
 use crate::dynamic::block::make_room;
 use crate::dynamic::capacities::{Capacities, GREATEST_CAPACITY};
-use crate::dynamic::entries::Entries;
-use crate::dynamic::entry::{Entry, drop_oldest, give_back_room, replace_oldest};
+use crate::dynamic::entries::{Entries, Entry, drop_oldest, give_back_room, replace_oldest};
 use crate::dynamic::entry_index::{EntryIndex, NoIndex};
 use crate::dynamic::index::{Index, SeededHashes};
 use crate::dynamic::open_blocks::{BlockedBlocks, OpenBlocks};

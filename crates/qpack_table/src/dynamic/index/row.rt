@@ -13,8 +13,7 @@ ghost use Rattle.qpack_table.specs.Rows.{Counts, GrowsSlots, HasFewSpareSlots, g
 ghost use Rattle.qpack_table.specs.Rows.{slots_a_row};
 ghost use Rattle.qpack_table.specs.Tables.{live_fields};
 
-use crate::dynamic::entries::Entries;
-use crate::dynamic::entry::Entry;
+use crate::dynamic::entries::{Entries, Entry};
 use crate::dynamic::growth::{SLOTS, SLOTS_A_ROW, growth};
 use crate::dynamic::index::Steps;
 use crate::dynamic::index::hash::position_of;

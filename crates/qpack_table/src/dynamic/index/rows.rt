@@ -11,8 +11,7 @@ ghost use Rattle.qpack_table.specs.Tables.{live_fields};
 ghost use Rattle.qpack_table.specs.Indexes.{AreRowsOf, AreRows, KeepsEntries, HasRoomFor, FindsNewest, IsSplitOf};
 ghost use Rattle.qpack_table.specs.Indexes.{NeedsRow, GrowsByQuarter, rows_with_split};
 
-use crate::dynamic::entries::Entries;
-use crate::dynamic::entry::Entry;
+use crate::dynamic::entries::{Entries, Entry};
 use crate::dynamic::growth::growth;
 use crate::dynamic::index::Steps;
 use crate::dynamic::index::hash::{position_of, split_among};

@@ -1,6 +1,6 @@
 use Rattle.std.proofs.Common.{drop}
 use Rattle.qpack_table.proofs.Marks.{Cleared}
-use Rattle.qpack_table.proofs.dynamic.entry.clear_references.Given as goal
+use Rattle.qpack_table.proofs.dynamic.block.clear_references.Given as goal
 
 abbrev pub invariant-loop-absolute : goal.invariant-loop-absolute
 invariant-loop-absolute g l =

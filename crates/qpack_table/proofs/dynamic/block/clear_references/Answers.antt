@@ -1,8 +1,8 @@
 use Rattle.std.proofs.Common.{ap, ◌∙◌, arith}
 use Rattle.qpack_table.specs.Entries.{Entries}
 use Rattle.qpack_table.proofs.Marks.{cleared_more, cleared_other, cleared_all}
-use Rattle.qpack_table.proofs.dynamic.entry.clear_references.Goals.{in-Some, in_default}
-use Rattle.qpack_table.proofs.dynamic.entry.clear_references.Goals as goal
+use Rattle.qpack_table.proofs.dynamic.block.clear_references.Goals.{in-Some, in_default}
+use Rattle.qpack_table.proofs.dynamic.block.clear_references.Goals as goal
 
 pub loop-absolute-preserved : goal.loop-absolute-preserved
 loop-absolute-preserved g c = elim c.match-position_of.branch [

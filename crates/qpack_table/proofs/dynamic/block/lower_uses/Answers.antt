@@ -1,8 +1,8 @@
 use Rattle.std.proofs.Common.{ap, ◌∙◌, arith}
 use Rattle.qpack_table.specs.Entries.{Entries}
 use Rattle.qpack_table.proofs.Marks.{still_used, lowered_more, lowered_other, lowered_all, counted_all}
-use Rattle.qpack_table.proofs.dynamic.entry.lower_uses.Goals.{in-Some, in_default}
-use Rattle.qpack_table.proofs.dynamic.entry.lower_uses.Goals as goal
+use Rattle.qpack_table.proofs.dynamic.block.lower_uses.Goals.{in-Some, in_default}
+use Rattle.qpack_table.proofs.dynamic.block.lower_uses.Goals as goal
 
 pub lower_uses-requires-clause-used : goal.lower_uses-requires-clause-used
 lower_uses-requires-clause-used g c e there =

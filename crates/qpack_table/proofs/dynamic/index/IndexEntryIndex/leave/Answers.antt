@@ -1,5 +1,5 @@
 use Rattle.qpack_table.proofs.WholeIndexes.{index_left}
-use Rattle.qpack_table.proofs.dynamic.entry_index.IndexEntryIndex.leave.Goals as goal
+use Rattle.qpack_table.proofs.dynamic.index.IndexEntryIndex.leave.Goals as goal
 
 pub returns-clause-index : goal.returns-clause-index
 returns-clause-index g c = index_left c.args.dropped c.args.entries.now.items _ c.leave.ensures.index

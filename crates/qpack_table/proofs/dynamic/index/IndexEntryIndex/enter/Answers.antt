@@ -4,7 +4,7 @@ use Rattle.qpack_table.specs.Indexes.{IsIndexOf}
 use Rattle.qpack_table.specs.Tables.{live_fields}
 use Rattle.qpack_table.specs.Entries.{Entry}
 use Rattle.qpack_table.proofs.WholeIndexes.{NewestThere, index_before}
-use Rattle.qpack_table.proofs.dynamic.entry_index.IndexEntryIndex.enter.Goals as goal
+use Rattle.qpack_table.proofs.dynamic.index.IndexEntryIndex.enter.Goals as goal
 
 pub enter-requires-clause-index : goal.enter-requires-clause-index
 enter-requires-clause-index g c =

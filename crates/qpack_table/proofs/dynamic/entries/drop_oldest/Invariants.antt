@@ -2,7 +2,7 @@ use Rattle.std.proofs.Common.{◌≡◌, ◌+◌, ◌≤◌, length, drop}
 use Rattle.qpack_spec.specs.Field.{total_size}
 use Rattle.qpack_spec.specs.Table.{fields_in}
 use Rattle.qpack_table.specs.Tables.{entries_of}
-use Rattle.qpack_table.proofs.dynamic.entry.drop_oldest.Given as goal
+use Rattle.qpack_table.proofs.dynamic.entries.drop_oldest.Given as goal
 
 abbrev pub invariant-loop : goal.invariant-loop
 invariant-loop g l = let then = l.initial.entries in record {

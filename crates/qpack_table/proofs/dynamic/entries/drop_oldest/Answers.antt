@@ -3,7 +3,7 @@ use Rattle.qpack_spec.specs.Field.{field_size}
 use Rattle.qpack_table.specs.Positions.{Positions}
 use Rattle.qpack_table.proofs.Evictions.{shed}
 use Rattle.qpack_table.proofs.WholeIndexes.{dropped_there, entries_shed}
-use Rattle.qpack_table.proofs.dynamic.entry.drop_oldest.Goals as goal
+use Rattle.qpack_table.proofs.dynamic.entries.drop_oldest.Goals as goal
 
 pub overflow_add-freed : goal.overflow_add-freed
 overflow_add-freed g c =

@@ -7,7 +7,7 @@ use Rattle.qpack_table.specs.Tables.{entries_of}
 use Rattle.qpack_table.specs.Entries.{Entries, Entry}
 use Rattle.qpack_table.proofs.Evictions.{left_is}
 use Rattle.qpack_table.proofs.WholeIndexes.{newest_there}
-use Rattle.qpack_table.proofs.dynamic.entry.replace_oldest.Goals as goal
+use Rattle.qpack_table.proofs.dynamic.entries.replace_oldest.Goals as goal
 
 pub enter-requires-clause-few : goal.enter-requires-clause-few
 enter-requires-clause-few g c =
