@@ -5,11 +5,11 @@ use Rattle.qpack_spec.specs.Instruction as instruction
 use Rattle.qpack_spec.specs.Instruction.{EncoderInstruction, InsertStaticName, InsertDynamicName, InsertLiteralName}
 use Rattle.qpack_spec.specs.Instruction.{SetCapacity, DecoderInstruction, Acknowledgment, Cancellation, Increment}
 use Rattle.qpack_wire.specs.Alone.{Kind, ByFlags, ByFirstByte}
-use Rattle.qpack_wire.specs.declared.stream.inserts.InsertWithNameRef.{InsertWithNameRef}
-use Rattle.qpack_wire.specs.declared.stream.inserts.InsertWithNameRef.TheVariants as names
-use Rattle.qpack_wire.specs.declared.stream.inserts.InsertWithoutNameRef.{InsertWithoutNameRef}
-use Rattle.qpack_wire.specs.declared.stream.updates.Duplicate.{Duplicate}
-use Rattle.qpack_wire.specs.declared.stream.updates.DynamicTableSizeUpdate.{DynamicTableSizeUpdate}
+use Rattle.qpack_wire.specs.declared.stream.encoder_instructions.InsertWithNameRef.{InsertWithNameRef}
+use Rattle.qpack_wire.specs.declared.stream.encoder_instructions.InsertWithNameRef.TheVariants as names
+use Rattle.qpack_wire.specs.declared.stream.encoder_instructions.InsertWithoutNameRef.{InsertWithoutNameRef}
+use Rattle.qpack_wire.specs.declared.stream.encoder_instructions.Duplicate.{Duplicate}
+use Rattle.qpack_wire.specs.declared.stream.encoder_instructions.DynamicTableSizeUpdate.{DynamicTableSizeUpdate}
 use Rattle.qpack_wire.specs.declared.stream.decoder_instructions.InsertCountIncrement.{InsertCountIncrement}
 use Rattle.qpack_wire.specs.declared.stream.decoder_instructions.HeaderAck.{HeaderAck}
 use Rattle.qpack_wire.specs.declared.stream.decoder_instructions.StreamCancel.{StreamCancel}

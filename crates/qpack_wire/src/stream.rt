@@ -2,16 +2,16 @@
 
 pub mod decoder_instructions;
 pub mod decoder_stream;
+pub mod encoder_instructions;
 pub mod encoder_stream;
-pub mod inserts;
 pub mod lines;
-pub mod updates;
 
 pub use crate::stream::decoder_instructions::{HeaderAck, InsertCountIncrement, StreamCancel};
 pub use crate::stream::decoder_stream::{DecoderInstruction, DecoderLine};
+pub use crate::stream::encoder_instructions::{
+    Duplicate, DynamicTableSizeUpdate, InsertWithNameRef, InsertWithoutNameRef,
+};
 pub use crate::stream::encoder_stream::{
     EncoderInstruction, EncoderLine, least_field_size, wanted,
 };
-pub use crate::stream::inserts::{InsertWithNameRef, InsertWithoutNameRef};
 pub use crate::stream::lines::{Wire, next_line};
-pub use crate::stream::updates::{Duplicate, DynamicTableSizeUpdate};

@@ -15,11 +15,11 @@ ghost use Rattle.qpack_wire.specs.StreamLines.{encoder_instruction_of_first, enc
 ghost use Rattle.qpack_wire.specs.StreamLines.{encoder_instruction_at};
 
 use crate::form::VALUE_SIZE;
-use crate::stream::inserts::{
-    self, InsertWithNameRef, InsertWithoutNameRef, LITERAL, LITERAL_SIZE, NAMED_DYNAMIC, NAMED_SIZE,
+use crate::stream::encoder_instructions::{
+    self, CAPACITY, CAPACITY_SIZE, Duplicate, DynamicTableSizeUpdate, InsertWithNameRef,
+    InsertWithoutNameRef, LITERAL, LITERAL_SIZE, NAMED_DYNAMIC, NAMED_SIZE,
 };
 use crate::stream::lines::{Wire, or_none};
-use crate::stream::updates::{self, CAPACITY, CAPACITY_SIZE, Duplicate, DynamicTableSizeUpdate};
 use qpack_base::coding::{Cursor, NoMemory};
 use qpack_base::field::ESTIMATED_OVERHEAD_BYTES;
 use qpack_base::parse_error::ParseError;
@@ -147,19 +147,19 @@ fn read_line_of(alloc: Global, first: u8, buf: &mut Cursor) -> Result<EncoderLin
 {
     match EncoderInstruction::decode(first) {
         EncoderInstruction::InsertWithNameRef => {
-            let line = inserts::read_insert_with_name_ref(alloc, buf)?;
+            let line = encoder_instructions::read_insert_with_name_ref(alloc, buf)?;
             Ok(EncoderLine::InsertWithNameRef(line))
         }
         EncoderInstruction::InsertWithoutNameRef => {
-            let line = inserts::read_insert_without_name_ref(alloc, buf)?;
+            let line = encoder_instructions::read_insert_without_name_ref(alloc, buf)?;
             Ok(EncoderLine::InsertWithoutNameRef(line))
         }
         EncoderInstruction::Duplicate => {
-            let line = updates::read_duplicate(buf)?;
+            let line = encoder_instructions::read_duplicate(buf)?;
             Ok(EncoderLine::Duplicate(line))
         }
         EncoderInstruction::DynamicTableSizeUpdate => {
-            let line = updates::read_dynamic_table_size_update(buf)?;
+            let line = encoder_instructions::read_dynamic_table_size_update(buf)?;
             Ok(EncoderLine::DynamicTableSizeUpdate(line))
         }
         EncoderInstruction::Unknown => Err(ParseError::InvalidPrefix(first)),

@@ -3,7 +3,7 @@ use Rattle.qpack_wire.specs.Instructions.{insert_without_name_ref}
 use Rattle.qpack_wire.proofs.Asking.{asks_alone, memory_kept}
 use Rattle.qpack_wire.proofs.StreamReaders.{decodes_instruction}
 use Rattle.qpack_wire.proofs.InstructionForms.{insert_without_name_ref_follows}
-use Rattle.qpack_wire.proofs.stream.inserts.InsertWithoutNameRef.decode.Goals as goal
+use Rattle.qpack_wire.proofs.stream.encoder_instructions.InsertWithoutNameRef.decode.Goals as goal
 
 pub returns-clause-decodes : goal.returns-clause-decodes
 returns-clause-decodes c = decodes_instruction insert_without_name_ref_follows c.read_insert_without_name_ref.result

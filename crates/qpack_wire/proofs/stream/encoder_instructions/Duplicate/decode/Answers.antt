@@ -1,6 +1,6 @@
 use Rattle.qpack_wire.proofs.StreamReaders.{decodes_instruction}
 use Rattle.qpack_wire.proofs.InstructionForms.{duplicate_follows}
-use Rattle.qpack_wire.proofs.stream.updates.Duplicate.decode.Goals as goal
+use Rattle.qpack_wire.proofs.stream.encoder_instructions.Duplicate.decode.Goals as goal
 
 pub returns-clause-decodes : goal.returns-clause-decodes
 returns-clause-decodes c =
