@@ -6,7 +6,7 @@ use Rattle.std.specs.Str.{bytes_eq}
 use Rattle.std.proofs.lemmas.Bool.{ltb-true, leb-true, cases_eq, and_parts}
 use Rattle.std.proofs.lemmas.Slice.Eq.{bytes_eq-Decides}
 use Rattle.qpack_spec.specs.Huffman.{bits_of, bytes_by_length, bytes_of_length, first_code, code_length, code_of}
-use Rattle.qpack_base.specs.declared.prefix_string.encoding_table.TheConstants.{CODES}
+use Rattle.qpack_base.specs.declared.prefix_string.encoding.TheConstants.{CODES}
 use Rattle.qpack_base.specs.HuffmanTables.{BeginsWithCode, IsCodeOf, AreShortCodes, AreCodes}
 
 -- whether each of the k entries from place i on passes the test of its place

@@ -23,9 +23,7 @@ ghost use Rattle.qpack_base.specs.declared.prefix_int.Error.TheVariants.{Overflo
 mod ahead;
 mod bitwin;
 mod decoding;
-mod decoding_tables;
 mod encoding;
-mod encoding_table;
 mod pair_table;
 
 use crate::coding::{Cursor, NoMemory, append_within, make_room, make_room_within};

@@ -8,8 +8,7 @@ ghost use Rattle.qpack_spec.specs.Huffman.{bits_of, bits_of_bytes};
 ghost use Rattle.qpack_base.specs.Payloads.{bits_ahead, IsAhead, BeginsCode, BeginsCodes, PassesCodes, bytes_of_codes};
 ghost use Rattle.qpack_base.specs.Payloads.{FitsAhead, PushesNext};
 
-use crate::prefix_string::decoding::{DecodeIter, long_code};
-use crate::prefix_string::decoding_tables::short_codes;
+use crate::prefix_string::decoding::{DecodeIter, long_code, short_codes};
 use crate::prefix_string::pair_table::pairs;
 use std::alloc::Allocator;
 

@@ -1,5 +1,5 @@
 use Rattle.qpack_base.proofs.CodeTables.{codes_are}
-use Rattle.qpack_base.proofs.prefix_string.encoding_table.codes.Goals as goal
+use Rattle.qpack_base.proofs.prefix_string.encoding.codes.Goals as goal
 
 pub returns : goal.returns
 returns c = codes_are
