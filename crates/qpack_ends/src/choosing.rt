@@ -13,7 +13,7 @@ use qpack_base::field::FieldLine;
 use qpack_base::stored_field::PackedField;
 use qpack_codec::encoder::{Choice, Chooses, Wish};
 use qpack_table::dynamic::{DynamicTableEncoder, SoughtField};
-use std::alloc::{AllocError, Global};
+use std::alloc::Global;
 
 /// After an insertion found no room, draining entries are not referenced for this many sections.
 const SECTIONS_WITHOUT_ROOM: u8 = 16;
@@ -378,16 +378,8 @@ impl History {
     fn fit(&mut self, capacity: usize) {
         let sets = (capacity / (BYTES_A_TAG * WAYS)).clamp(LEAST_SETS, MOST_SETS);
         if self.tags.len() != sets * WAYS {
-            let _ = self.resize(sets * WAYS);
+            let _ = self.tags.resize(sets * WAYS, 0);
         }
-    }
-
-    fn resize(&mut self, len: usize) -> Result<(), AllocError> {
-        self.tags.truncate(len);
-        for _ in self.tags.len()..len {
-            self.tags.push(0)?;
-        }
-        Ok(())
     }
 
     /// Returns whether a field of this hash was seen lately, and keeps that it was seen.
