@@ -61,12 +61,21 @@ static void end(costs *c, int call, size_t number, mark m) {
   if (allocations - m.allocations > c->allocations[call]) c->allocations[call] = allocations - m.allocations;
 }
 
+/* Has malloc merge the small blocks that an earlier connection freed, which else the first call that asks for a large one
+ * does. */
+static void merge_free_blocks(void) {
+  void *large = __real_malloc(100000);
+  CHECK(large);
+  __real_free(large);
+}
+
 static void play(const library *library, size_t capacity, size_t count, costs *c) {
   static wire sent;
   static answer answered;
   h3_qpack_nv nv[FIELDS];
   nghttp3_nv ng[FIELDS];
   list l = {nv, ng, FIELDS, FIELDS};
+  merge_free_blocks();
   void *both = library->open(capacity, 100);
   made = 0;
   seed = 0x9e3779b97f4a7c15u;
