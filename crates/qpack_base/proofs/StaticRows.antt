@@ -8,7 +8,7 @@ use Rattle.std.specs.Prelude.{slice_get, IsSome}
 use Rattle.std.specs.Option.{option_map}
 use Rattle.std.specs.Borrow.{Bor}
 use Rattle.qpack_spec.specs.Field.{Field}
-use Rattle.qpack_spec.specs.StaticTable.{static_table, static_index, static_name_index}
+use Rattle.qpack_spec.specs.StaticTable.{static_table, IsStaticAt, static_index, static_name_index}
 use Rattle.qpack_spec.proofs.Lists.{get_drop}
 use Rattle.qpack_spec.proofs.StaticIndexes.{has_99}
 use Rattle.qpack_base.specs.StaticFields.{field_of_row, fields_at, match_of}
@@ -23,7 +23,7 @@ get_take (suc n) (x ∷ xs) (suc i) h = get_take n xs i (omega arith)
 -- a row of the part of so many rows from `first` on
 pub row_there : (rows : List (Bor (List ℕ) × Bor (List ℕ))) (n first at index : ℕ) (d : Bor (List ℕ) × Bor (List ℕ))
     → fields_at rows ≡ take n (drop first static_table) → first + at ≡ index → at < n → first + n ≤ 99
-    → Some (field_of_row (get_or rows at d)) ≡ slice_get static_table index
+    → IsStaticAt index (field_of_row (get_or rows at d))
 row_there rows n first at index d are is within fits =
     let some : n ≤ length (drop first static_table) = omega (arith, has_99, length-drop first static_table) in
     let all : length rows ≡ n =
@@ -31,21 +31,20 @@ row_there rows n first at index d are is within fits =
     ∙ length-take-le n (drop first static_table) some in
     let there : slice_get rows at ≡ Some (get_or rows at d) =
     slice_get-get_or rows at d (omega (arith, all)) in
-    sym (slice_get-map field_of_row rows at ∙ ap (option_map field_of_row) there)
-    ∙ ap (λ (l : List Field). slice_get l at) are
-    ∙ get_take n (drop first static_table) at within
+    sym (get_take n (drop first static_table) at within
     ∙ get_drop first static_table at
-    ∙ ap (slice_get static_table) is
-
-pub no_row : (index : ℕ) → 99 ≤ index → None ≡ slice_get static_table index
-no_row index past = sym (slice_get_past static_table index (omega (arith, has_99)))
+    ∙ ap (slice_get static_table) is)
+    ∙ ap (λ (l : List Field). slice_get l at) (sym are)
+    ∙ slice_get-map field_of_row rows at
+    ∙ ap (option_map field_of_row) there
 
 -- the index of a row is below 99
 pub row_below : (index : ℕ) → IsSome (slice_get static_table index) → index < 99
 row_below index there =
     elim (cases_lt index 99) [
       | inl below ↦ below
-      | inr past ↦ let none = subst IsSome (sym (no_row index past)) there in absurd cc
+      | inr past ↦
+          let none = subst IsSome (slice_get_past static_table index (omega (arith, has_99))) there in absurd cc
     ]
 
 -- ---- what a look for a field finds

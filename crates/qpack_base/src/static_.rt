@@ -1,7 +1,7 @@
 //! The static table (RFC 9204, Appendix A).
 
-ghost use Rattle.std.specs.Prelude.{◌≡◌, ◌≤◌, IfOk, IfErr, IfSome, IfNone, find, length, option_copied, take, drop};
-ghost use Rattle.std.specs.Prelude.{slice_get};
+ghost use Rattle.std.specs.Prelude.{◌≡◌, ◌<◌, ◌≤◌, IfOk, IfErr, IfSome, IfNone, IsSome, Some, drop, find, length};
+ghost use Rattle.std.specs.Prelude.{option_copied, slice_get, take};
 ghost use Rattle.std.specs.Str.{bytes_eq};
 ghost use Rattle.std.specs.Option.{option_map};
 ghost use Rattle.qpack_spec.specs.StaticTable.{field, static_table, static_index, static_name_index, IsStaticAt};
@@ -44,21 +44,30 @@ impl StaticTable {
         ensures found { IfOk result (λ field. IsStaticAt index (field_of field)) }
         ensures unknown { IfErr result (λ e. (e ≡ Unknown index) × (length static_table ≤ index)) }
     {
-        let Some((name, value)) = row(index) else {
-            return Err(Error::Unknown(index));
-        };
+        let (name, value) = row(index)?;
         Ok(HeaderField {
             name: CowSlice::Borrowed(name),
             value: CowSlice::Borrowed(value),
         })
     }
 
-    /// Returns the name of the field at an index, from 0 to 98. A greater index has none.
-    #[inline(always)]
-    pub fn name(index: usize) -> Option<&'static [u8]>
-        ensures { option_copied result ≡ option_map (λ f. f.name) (slice_get static_table index) }
+    /// Returns the name of the field at an index, from 0 to 98.
+    pub fn name(index: usize) -> Result<&'static [u8], Error>
+        ensures found { IfOk result (λ name.
+            Some name.now ≡ option_map (λ f. f.name) (slice_get static_table index)) }
+        ensures unknown { IfErr result (λ e. (e ≡ Unknown index) × (length static_table ≤ index)) }
     {
-        row(index).map(|row| row.0)
+        Ok(row(index)?.0)
+    }
+
+    /// Returns the name of the field at an index that is known to be in the table.
+    #[inline(always)]
+    #[tactic(auto, using(crate::proofs::StaticRows::row_below))]
+    pub(crate) fn known_name(index: usize) -> &'static [u8]
+        requires { IsSome (slice_get static_table index) }
+        ensures { Some result.now ≡ option_map (λ f. f.name) (slice_get static_table index) }
+    {
+        known_row(index).0
     }
 
     /// Returns the equal field, or else the first one with the name, in one search.
@@ -134,7 +143,7 @@ fn index_of_value(indexes: &[u8], value: &[u8]) -> Option<usize>
 fn has_value(index: usize, value: &[u8]) -> bool
     ensures { result ≡ has_value_at value.now index }
 {
-    row(index).is_some_and(|row| is_value(value, row.1))
+    row(index).is_ok_and(|row| is_value(value, row.1))
 }
 
 /// Returns whether two values are equal. Most differ in length; the comparison of bytes is a call of its own, so that a
@@ -157,27 +166,40 @@ fn same_bytes(value: &[u8], known: &[u8]) -> bool
     same(value, known)
 }
 
+/// How many fields there are.
+const LEN: usize = 99;
+
 /// A name and a value.
 type Row = (&'static [u8], &'static [u8]);
 
-/// Returns the row at an index. The rows are in four parts, since the cost of a check grows faster than the references of
-/// a function.
-fn row(index: usize) -> Option<Row>
-    ensures { option_map field_of_row result ≡ slice_get static_table index }
+/// Returns the row at an index.
+fn row(index: usize) -> Result<Row, Error>
+    ensures found { IfOk result (λ row. IsStaticAt index (field_of_row row)) }
+    ensures unknown { IfErr result (λ e. (e ≡ Unknown index) × (length static_table ≤ index)) }
+{
+    if index < LEN {
+        Ok(known_row(index))
+    } else {
+        Err(Error::Unknown(index))
+    }
+}
+
+/// Returns the row at an index that is known to be in the table. The rows are in four parts, since the cost of a check
+/// grows faster than the references of a function.
+fn known_row(index: usize) -> Row
+    requires { index < 99 }
+    ensures { IsStaticAt index (field_of_row result) }
 {
     if index < 25 {
-        return Some(rows_from_0()[index]);
+        return rows_from_0()[index];
     }
     if index < 50 {
-        return Some(rows_from_25()[index - 25]);
+        return rows_from_25()[index - 25];
     }
     if index < 75 {
-        return Some(rows_from_50()[index - 50]);
+        return rows_from_50()[index - 50];
     }
-    if index < 99 {
-        return Some(rows_from_75()[index - 75]);
-    }
-    None
+    rows_from_75()[index - 75]
 }
 
 /// Returns the rows 0 to 24.

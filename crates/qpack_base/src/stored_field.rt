@@ -79,13 +79,13 @@ impl StoredField for HeaderField {
         line: &FieldLine<'_>,
         static_name: Option<usize>,
     ) -> Result<HeaderField, NoMemory> {
-        match static_name.and_then(StaticTable::name) {
-            Some(name) => Ok(HeaderField {
-                name: CowSlice::Borrowed(name),
-                value: CowSlice::Owned(Vec::from_slice(alloc, line.value)?),
-            }),
-            None => HeaderField::from_pair(alloc, line.name, line.value),
-        }
+        let Some(index) = static_name else {
+            return HeaderField::from_pair(alloc, line.name, line.value);
+        };
+        Ok(HeaderField {
+            name: CowSlice::Borrowed(StaticTable::known_name(index)),
+            value: CowSlice::Owned(Vec::from_slice(alloc, line.value)?),
+        })
     }
 
     fn from_parts(name: Vec<u8>, value: Vec<u8>) -> Result<HeaderField, NoMemory> {
@@ -94,7 +94,7 @@ impl StoredField for HeaderField {
 
     fn with_static_name(index: usize, value: Vec<u8>) -> Result<HeaderField, Error> {
         Ok(HeaderField {
-            name: StaticTable::get(index)?.name,
+            name: CowSlice::Borrowed(StaticTable::name(index)?),
             value: CowSlice::Owned(value),
         })
     }

@@ -96,7 +96,7 @@ impl StoredField for PackedField {
         let bytes = self.bytes.as_slice();
         let (value, own) = bytes.split_at(bytes.len() - self.name_len as usize);
         let name = match self.static_name {
-            Some(index) => StaticTable::name(index as usize).unwrap_or(b""),
+            Some(index) => StaticTable::known_name(index as usize),
             None => own,
         };
         FieldLine::new(name, value)
@@ -125,9 +125,7 @@ impl StoredField for PackedField {
     }
 
     fn with_static_name(index: usize, value: Vec<u8>) -> Result<PackedField, Error> {
-        if StaticTable::name(index).is_none() {
-            return Err(Error::Unknown(index));
-        }
+        StaticTable::name(index)?;
         Ok(PackedField::with_name_at(index, value))
     }
 

@@ -1,26 +1,6 @@
 use Rattle.std.proofs.Common.{arith}
-use Rattle.qpack_base.proofs.StaticRows.{row_there, no_row}
+use Rattle.qpack_spec.proofs.StaticIndexes.{has_99}
 use Rattle.qpack_base.proofs.static_.row.Goals as goal
 
-pub returns-then-index-lt25 : goal.returns-then-index-lt25
-returns-then-index-lt25 c =
-    row_there c.rows_from_0.result.now 25 0 _ c.args.index _ c.rows_from_0.ensures (omega arith) (omega arith)
-    (omega arith)
-
-pub returns-then-index-lt50 : goal.returns-then-index-lt50
-returns-then-index-lt50 c =
-    row_there c.rows_from_25.result.now 25 25 _ c.args.index _ c.rows_from_25.ensures (omega arith) (omega arith)
-    (omega arith)
-
-pub returns-then-index-lt75 : goal.returns-then-index-lt75
-returns-then-index-lt75 c =
-    row_there c.rows_from_50.result.now 25 50 _ c.args.index _ c.rows_from_50.ensures (omega arith) (omega arith)
-    (omega arith)
-
-pub returns-then-index-lt99 : goal.returns-then-index-lt99
-returns-then-index-lt99 c =
-    row_there c.rows_from_75.result.now 24 75 _ c.args.index _ c.rows_from_75.ensures (omega arith) (omega arith)
-    (omega arith)
-
-pub returns : goal.returns
-returns c = no_row c.args.index (omega arith)
+pub returns-else-index-lt-LEN-clause-unknown : goal.returns-else-index-lt-LEN-clause-unknown
+returns-else-index-lt-LEN-clause-unknown c = (cc, omega (arith, has_99))
