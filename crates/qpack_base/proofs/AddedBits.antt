@@ -1,7 +1,6 @@
 -- Bytes that were appended, and the bits that are still to be.
 use Rattle.std.proofs.Common.{◌≡◌, ℕ, ◌+◌, ◌-◌, ◌*◌, ◌/◌, ◌%◌, ◌^◌, ◌<◌, List, [], ◌∷◌, ◌++◌, refl, sym, ap, ◌∙◌}
 use Rattle.std.proofs.Common.{arith, append_assoc, append-nil}
-use Rattle.std.specs.Prelude.{slice_index}
 use Rattle.std.proofs.lemmas.List.Concat.{flat_map-cons}
 use Rattle.std.proofs.lemmas.Grind.{flat_map-append}
 use Rattle.std.proofs.lemmas.Nat.{pow_pos}
@@ -69,20 +68,11 @@ adds_four four bytes old new are is items =
           ∙ ap (bits_of 32) (sym z);
     }
 
--- four bytes, pushed one after the other
-pub pushed_four : (four : ℕ) (bytes old one two three new : List ℕ) → four < 2 ^ 32
+-- the four bytes of a number, appended
+pub four_added : (four : ℕ) (bytes old new : List ℕ) → four < 2 ^ 32
     → bytes ≡ four / 16777216 % 256 ∷ four / 65536 % 256 ∷ four / 256 % 256 ∷ four % 256 ∷ []
-    → one ≡ old ++ slice_index bytes 0 ∷ [] → two ≡ one ++ slice_index bytes 1 ∷ []
-    → three ≡ two ++ slice_index bytes 2 ∷ [] → new ≡ three ++ slice_index bytes 3 ∷ []
-    → AddsBits 32 four old new
-pushed_four four bytes old one two three new fits e a b c d =
-    let a' = a ∙ ap (λ (l : List ℕ). old ++ slice_index l 0 ∷ []) e in
-    let b' = b ∙ ap (λ (l : List ℕ). one ++ slice_index l 1 ∷ []) e in
-    let c' = c ∙ ap (λ (l : List ℕ). two ++ slice_index l 2 ∷ []) e in
-    let d' = d ∙ ap (λ (l : List ℕ). three ++ slice_index l 3 ∷ []) e in
-    let items = d' ∙ ap (λ (l : List ℕ). l ++ four % 256 ∷ []) (c'
-    ∙ ap (λ (l : List ℕ). l ++ four / 256 % 256 ∷ []) (b'
-    ∙ ap (λ (l : List ℕ). l ++ four / 65536 % 256 ∷ []) a')) in
+    → new ≡ old ++ bytes → AddsBits 32 four old new
+four_added four bytes old new fits are appended =
     let is : IsFour (four / 16777216 % 256 ∷ four / 65536 % 256 ∷ four / 256 % 256 ∷ four % 256 ∷ []) four =
     record {
       four = refl;
@@ -94,7 +84,7 @@ pushed_four four bytes old one two three new fits e a b c d =
     } in
     adds_four four (four / 16777216 % 256 ∷ four / 65536 % 256 ∷ four / 256 % 256 ∷ four % 256 ∷ []) old new
     (is.first, (is.second, (is.third, (is.fourth, tt)))) is
-    (items ∙ simp append_assoc)
+    (appended ∙ ap (λ (l : List ℕ). old ++ l) are)
 
 -- two halves of a number
 pub added_halves : (eight : ℕ) (old mid new : List ℕ) → AddsBits 32 (eight / 4294967296) old mid
@@ -109,35 +99,21 @@ added_halves eight old mid new a b = record {
       ∙ sym (bits_append 32 32 64 eight refl);
 }
 
--- eight bytes, pushed one after the other
-pub pushed_eight : (eight : ℕ) (bytes old one two three mid five six seven new : List ℕ) → eight < 2 ^ 64
+-- the eight bytes of a number, appended
+pub eight_added : (eight : ℕ) (bytes old new : List ℕ) → eight < 2 ^ 64
     → bytes ≡ eight / 72057594037927936 % 256 ∷ eight / 281474976710656 % 256 ∷ eight / 1099511627776 % 256 ∷ eight / 4294967296 % 256 ∷ eight / 16777216 % 256 ∷ eight / 65536 % 256 ∷ eight / 256 % 256 ∷ eight % 256 ∷ []
-    → one ≡ old ++ slice_index bytes 0 ∷ []
-    → two ≡ one ++ slice_index bytes 1 ∷ []
-    → three ≡ two ++ slice_index bytes 2 ∷ []
-    → mid ≡ three ++ slice_index bytes 3 ∷ []
-    → five ≡ mid ++ slice_index bytes 4 ∷ []
-    → six ≡ five ++ slice_index bytes 5 ∷ []
-    → seven ≡ six ++ slice_index bytes 6 ∷ []
-    → new ≡ seven ++ slice_index bytes 7 ∷ []
-    → AddsBits 64 eight old new
-pushed_eight eight bytes old one two three mid five six seven new fits e a b c d f g h i =
-    let a' : slice_index bytes 0 ≡ (eight / 4294967296) / 16777216 % 256 = ap (λ (l : List ℕ). slice_index l 0) e ∙ byte_0 in
-    let b' : slice_index bytes 1 ≡ (eight / 4294967296) / 65536 % 256 = ap (λ (l : List ℕ). slice_index l 1) e ∙ byte_1 in
-    let c' : slice_index bytes 2 ≡ (eight / 4294967296) / 256 % 256 = ap (λ (l : List ℕ). slice_index l 2) e ∙ byte_2 in
-    let d' : slice_index bytes 3 ≡ (eight / 4294967296) % 256 = ap (λ (l : List ℕ). slice_index l 3) e ∙ byte_3 in
-    let f' : slice_index bytes 4 ≡ (eight % 4294967296) / 16777216 % 256 = ap (λ (l : List ℕ). slice_index l 4) e ∙ byte_4 in
-    let g' : slice_index bytes 5 ≡ (eight % 4294967296) / 65536 % 256 = ap (λ (l : List ℕ). slice_index l 5) e ∙ byte_5 in
-    let h' : slice_index bytes 6 ≡ (eight % 4294967296) / 256 % 256 = ap (λ (l : List ℕ). slice_index l 6) e ∙ byte_6 in
-    let i' : slice_index bytes 7 ≡ (eight % 4294967296) % 256 = ap (λ (l : List ℕ). slice_index l 7) e ∙ byte_7 in
-    added_halves eight old mid new
-    (pushed_four (eight / 4294967296) ((eight / 4294967296) / 16777216 % 256 ∷ (eight / 4294967296) / 65536 % 256 ∷ (eight / 4294967296) / 256 % 256 ∷ (eight / 4294967296) % 256 ∷ []) old one two three mid (omega (arith, fits)) refl
-    (a ∙ ap (λ (b : ℕ). old ++ b ∷ []) a') (b ∙ ap (λ (b : ℕ). one ++ b ∷ []) b')
-    (c ∙ ap (λ (b : ℕ). two ++ b ∷ []) c') (d ∙ ap (λ (b : ℕ). three ++ b ∷ []) d'))
-    (pushed_four (eight % 4294967296) ((eight % 4294967296) / 16777216 % 256 ∷ (eight % 4294967296) / 65536 % 256 ∷ (eight % 4294967296) / 256 % 256 ∷ (eight % 4294967296) % 256 ∷ []) mid five six seven new (omega arith) refl
-    (f ∙ ap (λ (b : ℕ). mid ++ b ∷ []) f') (g ∙ ap (λ (b : ℕ). five ++ b ∷ []) g')
-    (h ∙ ap (λ (b : ℕ). six ++ b ∷ []) h') (i ∙ ap (λ (b : ℕ). seven ++ b ∷ []) i'))
+    → new ≡ old ++ bytes → AddsBits 64 eight old new
+eight_added eight bytes old new fits are appended =
+    let high : List ℕ = four_of (eight / 4294967296) in
+    let low : List ℕ = four_of (eight % 4294967296) in
+    added_halves eight old (old ++ high) new
+    (four_added (eight / 4294967296) high old (old ++ high) (omega (arith, fits)) refl refl)
+    (four_added (eight % 4294967296) low (old ++ high) new (omega arith) refl
+    (appended ∙ ap (λ (l : List ℕ). old ++ l) (are ∙ in_halves) ∙ sym (append_assoc old high low)))
   where
+    four_of : ℕ → List ℕ
+    four_of n = n / 16777216 % 256 ∷ n / 65536 % 256 ∷ n / 256 % 256 ∷ n % 256 ∷ []
+
     byte_0 : eight / 72057594037927936 % 256 ≡ (eight / 4294967296) / 16777216 % 256
     byte_0 = omega arith
 
@@ -146,9 +122,6 @@ pushed_eight eight bytes old one two three mid five six seven new fits e a b c d
 
     byte_2 : eight / 1099511627776 % 256 ≡ (eight / 4294967296) / 256 % 256
     byte_2 = omega arith
-
-    byte_3 : eight / 4294967296 % 256 ≡ (eight / 4294967296) % 256
-    byte_3 = omega arith
 
     byte_4 : eight / 16777216 % 256 ≡ (eight % 4294967296) / 16777216 % 256
     byte_4 = omega arith
@@ -161,6 +134,10 @@ pushed_eight eight bytes old one two three mid five six seven new fits e a b c d
 
     byte_7 : eight % 256 ≡ (eight % 4294967296) % 256
     byte_7 = omega arith
+
+    in_halves : eight / 72057594037927936 % 256 ∷ eight / 281474976710656 % 256 ∷ eight / 1099511627776 % 256 ∷ eight / 4294967296 % 256 ∷ eight / 16777216 % 256 ∷ eight / 65536 % 256 ∷ eight / 256 % 256 ∷ eight % 256 ∷ []
+        ≡ four_of (eight / 4294967296) ++ four_of (eight % 4294967296)
+    in_halves = rw (byte_0, byte_1, byte_2, byte_4, byte_5, byte_6, byte_7) refl
 
 -- ---- the end
 

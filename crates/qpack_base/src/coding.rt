@@ -190,6 +190,7 @@ impl<A: Allocator> BufMutExt for Vec<u8, A> {
 }
 
 /// Makes room for this many more bytes. If it is free already, nothing changes and no memory is taken.
+#[inline(always)]
 pub fn make_room<A: Allocator>(
     buf: &mut Vec<u8, A>,
     additional: usize,
@@ -204,6 +205,17 @@ pub fn make_room<A: Allocator>(
     if additional <= buf.capacity().saturating_sub(buf.len()) {
         return Ok(());
     }
+    grow(buf, additional)
+}
+
+/// Makes room where there is too little. This is a call of its own, so that a caller that has room saves no registers.
+#[inline(never)]
+fn grow<A: Allocator>(buf: &mut Vec<u8, A>, additional: usize) -> std::result::Result<(), NoMemory>
+    requires { vec_capacity buf.old < vec_len buf.old + additional }
+    ensures items { buf.new.items ≡ buf.old.items }
+    ensures ok { OnOk result (vec_len buf.new + additional ≤ vec_capacity buf.new) }
+    ensures capacity { vec_capacity buf.old ≤ vec_capacity buf.new }
+{
     buf.reserve(additional)?;
     Ok(())
 }
@@ -213,6 +225,7 @@ const LEAST_GROWTH: usize = 4;
 
 /// Makes room for `additional` more elements, of at most `most`. A growth enlarges the capacity by half, but makes no
 /// room past `most` more elements. If the room is free already, nothing changes and no memory is taken.
+#[inline(always)]
 pub fn make_room_within<T, A: Allocator>(
     buf: &mut Vec<T, A>,
     additional: usize,
@@ -227,10 +240,27 @@ pub fn make_room_within<T, A: Allocator>(
     ensures capacity { vec_capacity buf.old ≤ vec_capacity buf.new }
     ensures within { vec_capacity buf.new ≤ max (vec_capacity buf.old) (vec_len buf.old + most) }
 {
-    let free = buf.capacity().saturating_sub(buf.len());
-    if additional <= free {
+    if additional <= buf.capacity().saturating_sub(buf.len()) {
         return Ok(());
     }
+    grow_within(buf, additional, most)
+}
+
+/// Makes room where there is too little, out of line as `grow` is.
+#[inline(never)]
+fn grow_within<T, A: Allocator>(
+    buf: &mut Vec<T, A>,
+    additional: usize,
+    most: usize,
+) -> std::result::Result<(), NoMemory>
+    requires fits { additional ≤ most }
+    requires full { vec_capacity buf.old < vec_len buf.old + additional }
+    ensures items { buf.new.items ≡ buf.old.items }
+    ensures ok { OnOk result (vec_len buf.new + additional ≤ vec_capacity buf.new) }
+    ensures capacity { vec_capacity buf.old ≤ vec_capacity buf.new }
+    ensures within { vec_capacity buf.new ≤ max (vec_capacity buf.old) (vec_len buf.old + most) }
+{
+    let free = buf.capacity().saturating_sub(buf.len());
     let grown = (buf.capacity() / 2).saturating_add(free);
     buf.reserve_exact(grown.max(LEAST_GROWTH).min(most).max(additional))?;
     Ok(())
@@ -238,6 +268,7 @@ pub fn make_room_within<T, A: Allocator>(
 
 /// Appends the bytes if they are at most `most`, and makes no room beyond `most` more. Returns how many they are. On
 /// error the vector is unchanged.
+#[inline(never)]
 pub fn append_within<A: Allocator>(
     bytes: &[u8],
     most: usize,
@@ -261,15 +292,64 @@ pub fn append_within<A: Allocator>(
     Ok(len)
 }
 
-/// Returns the vector with the bytes appended, for which there is room. It is passed by value, so that it stays in
-/// registers.
+/// Returns the vector with the bytes appended, for which there is room: eight at a time, and the last ones four, two and
+/// one at a time. It is passed by value, so that it stays in registers.
 fn extended<A: Allocator>(mut buf: Vec<u8, A>, bytes: &[u8]) -> (Vec<u8, A>, ())
     requires { vec_len buf + length bytes.now ≤ vec_capacity buf }
     ensures items { result.0.items ≡ buf.items ++ bytes.now }
     ensures capacity { vec_capacity result.0 ≡ vec_capacity buf }
 {
-    for byte in bytes {
-        buf.push_reserved(*byte);
+    let mut rest = bytes;
+    while let Some((eight, behind)) = rest.split_first_chunk::<8>() {
+        push_eight(*eight, &mut buf);
+        rest = behind;
+    }
+    if let Some((four, behind)) = rest.split_first_chunk::<4>() {
+        push_four(*four, &mut buf);
+        rest = behind;
+    }
+    if let Some((two, behind)) = rest.split_first_chunk::<2>() {
+        push_two(*two, &mut buf);
+        rest = behind;
+    }
+    if let Some(last) = rest.first() {
+        buf.push_reserved(*last);
     }
     (buf, ())
+}
+
+/// Appends eight bytes into the free room. All are loaded before the first is stored, so it takes one step.
+#[inline(always)]
+pub(crate) fn push_eight<A: Allocator>(eight: [u8; 8], buf: &mut Vec<u8, A>)
+    requires { vec_len buf.old + 8 ≤ vec_capacity buf.old }
+    ensures items { buf.new.items ≡ buf.old.items ++ eight }
+    ensures capacity { vec_capacity buf.new ≡ vec_capacity buf.old }
+{
+    let [first, second, third, fourth, fifth, sixth, seventh, eighth] = eight;
+    push_four([first, second, third, fourth], buf);
+    push_four([fifth, sixth, seventh, eighth], buf);
+}
+
+/// Appends four bytes into the free room, in one step.
+#[inline(always)]
+pub(crate) fn push_four<A: Allocator>(four: [u8; 4], buf: &mut Vec<u8, A>)
+    requires { vec_len buf.old + 4 ≤ vec_capacity buf.old }
+    ensures items { buf.new.items ≡ buf.old.items ++ four }
+    ensures capacity { vec_capacity buf.new ≡ vec_capacity buf.old }
+{
+    let [first, second, third, fourth] = four;
+    push_two([first, second], buf);
+    push_two([third, fourth], buf);
+}
+
+/// Appends two bytes into the free room, in one step.
+#[inline(always)]
+fn push_two<A: Allocator>(two: [u8; 2], buf: &mut Vec<u8, A>)
+    requires { vec_len buf.old + 2 ≤ vec_capacity buf.old }
+    ensures items { buf.new.items ≡ buf.old.items ++ two }
+    ensures capacity { vec_capacity buf.new ≡ vec_capacity buf.old }
+{
+    let [first, second] = two;
+    buf.push_reserved(first);
+    buf.push_reserved(second);
 }

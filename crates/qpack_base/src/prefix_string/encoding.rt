@@ -6,6 +6,7 @@ ghost use Rattle.qpack_spec.specs.Huffman.{bits_of, bits_of_text, code_of, paylo
 ghost use Rattle.qpack_base.specs.HuffmanTables.{AreCodes};
 ghost use Rattle.qpack_base.specs.WrittenPayloads.{AddsBits, AddsLast, AddsCodes, HasAdded};
 
+use crate::coding::{push_eight, push_four};
 use core::mem::replace_with;
 use std::alloc::{AllocError, Allocator};
 use thiserror::Error as ThisError;
@@ -289,15 +290,7 @@ fn put_eight<A: Allocator>(eight: u64, buf: &mut Vec<u8, A>)
     ensures len { vec_len buf.new ≡ vec_len buf.old + 8 }
     ensures capacity { vec_capacity buf.new ≡ vec_capacity buf.old }
 {
-    let [first, second, third, fourth, fifth, sixth, seventh, eighth] = eight.to_be_bytes();
-    buf.push_reserved(first);
-    buf.push_reserved(second);
-    buf.push_reserved(third);
-    buf.push_reserved(fourth);
-    buf.push_reserved(fifth);
-    buf.push_reserved(sixth);
-    buf.push_reserved(seventh);
-    buf.push_reserved(eighth);
+    push_eight(eight.to_be_bytes(), buf);
 }
 
 /// Appends 32 bits into the free room.
@@ -309,11 +302,7 @@ fn put_four<A: Allocator>(four: u64, buf: &mut Vec<u8, A>)
     ensures len { vec_len buf.new ≡ vec_len buf.old + 4 }
     ensures capacity { vec_capacity buf.new ≡ vec_capacity buf.old }
 {
-    let [first, second, third, fourth] = (four as u32).to_be_bytes();
-    buf.push_reserved(first);
-    buf.push_reserved(second);
-    buf.push_reserved(third);
-    buf.push_reserved(fourth);
+    push_four((four as u32).to_be_bytes(), buf);
 }
 
 /// Appends the last bits into the free room, filled up with ones to whole bytes.
