@@ -1,5 +1,4 @@
 pub mod Entries
-pub mod MovedEntries
 pub mod References
 pub mod Evictions
 pub mod EvictableEntries

@@ -9,14 +9,9 @@ use Rattle.std.proofs.lemmas.Option.{slice_get_within}
 use Rattle.qpack_spec.specs.Table.{has_number}
 use Rattle.qpack_table.specs.Tables.{times, entry_of, entries_of, uses_of, flags_of, AreUsed, AreFlagged, AreCounted}
 use Rattle.qpack_table.specs.Entries.{Entry}
+use Rattle.qpack_table.proofs.EvictableEntries.{item_there}
 
 -- ---- one entry is written
-
--- what stands at a position
-item_at : {X : Type 0} (xs : List X) (i : ℕ) → i < length xs → (x : X) × (slice_get xs i ≡ Some x)
-item_at [] i within = absurd (omega (arith, within))
-item_at (x ∷ xs) zero within = (x, refl)
-item_at (x ∷ xs) (suc i) within = item_at xs i (omega (arith, within))
 
 -- at a position the new element, at the others the old ones
 pub data Written {X : Type 0} (xs : List X) (i : ℕ) (new : X) (j : ℕ) (x : X) : Type 0 where
@@ -100,15 +95,13 @@ cleared_past dropped before now x left all k past = record {
 
 -- the next reference is that of a live entry
 pub cleared_more : (dropped : ℕ) (before now next : List Entry) (references all : List ℕ) (i position : ℕ)
-    → Cleared dropped before now (drop i references) all → i < length references
-    → get_or references i 0 ≡ dropped + position + 1 → position < length now
-    → ((e : Entry) → slice_get now position ≡ Some e
-    → next ≡ slice_set now position (record e { referenced = false }))
+    (old new : Entry) → Cleared dropped before now (drop i references) all → i < length references
+    → get_or references i 0 ≡ dropped + position + 1 → position < length now → old ≡ get_or now position old
+    → new ≡ record old { referenced = false } → next ≡ slice_set now position new
     → Cleared dropped before next (drop (i + 1) references) all
-cleared_more dropped before now next references all i position k there is within cleared =
-    let (e, at) = item_at now position within in
-    rw (cleared e at) (cleared_at dropped before now (get_or references i 0) (drop (i + 1) references) all position e _
-    (rw (← drop_more references i 0 there) k) is at refl)
+cleared_more dropped before now next references all i position old new k there is within at same written =
+    rw written (cleared_at dropped before now (get_or references i 0) (drop (i + 1) references) all position old new
+    (rw (← drop_more references i 0 there) k) is (item_there now position old within at) same)
 
 -- the next reference is that of no live entry
 pub cleared_other : (dropped : ℕ) (before now next : List Entry) (references all : List ℕ) (i : ℕ)
@@ -192,20 +185,20 @@ lowered_past dropped before now x left all k past = record {
 }
 
 pub lowered_more : (dropped : ℕ) (before now next : List Entry) (references all : List ℕ) (i position : ℕ)
-    → Lowered dropped before now (drop i references) all → i < length references
-    → get_or references i 0 ≡ dropped + position + 1 → position < length now
-    → ((e : Entry) → slice_get now position ≡ Some e → next ≡ slice_set now position (record e { uses = e.uses - 1 }))
+    (old new : Entry) → Lowered dropped before now (drop i references) all → i < length references
+    → get_or references i 0 ≡ dropped + position + 1 → position < length now → old ≡ get_or now position old
+    → new ≡ record old { uses = old.uses - 1 } → next ≡ slice_set now position new
     → Lowered dropped before next (drop (i + 1) references) all
-lowered_more dropped before now next references all i position k there is within lowered =
-    let (e, at) = item_at now position within in
-    rw (lowered e at) (lowered_at dropped before now (get_or references i 0) (drop (i + 1) references) all position e _
-    (rw (← drop_more references i 0 there) k) is at refl)
+lowered_more dropped before now next references all i position old new k there is within at same written =
+    rw written (lowered_at dropped before now (get_or references i 0) (drop (i + 1) references) all position old new
+    (rw (← drop_more references i 0 there) k) is (item_there now position old within at) same)
 
 -- an entry whose reference is left has a use
 pub still_used : (dropped : ℕ) (before now : List Entry) (references all : List ℕ) (i position : ℕ) (old : Entry)
     → AreCounted dropped before all → Lowered dropped before now (drop i references) all → i < length references
-    → get_or references i 0 ≡ dropped + position + 1 → slice_get now position ≡ Some old → 1 ≤ old.uses
-still_used dropped before now references all i position old start k there is at =
+    → get_or references i 0 ≡ dropped + position + 1 → position < length now → old ≡ get_or now position old
+    → 1 ≤ old.uses
+still_used dropped before now references all i position old start k there is within at =
     let a = dropped + position + 1 in
     let first : times a (get_or references i 0 ∷ drop (i + 1) references)
     ≡ suc (times a (drop (i + 1) references)) = rw is (once_more a (drop (i + 1) references)) in
@@ -215,7 +208,7 @@ still_used dropped before now references all i position old start k there is at 
       arith,
       first,
       ap (λ (l : List ℕ). times a l) (drop_more references i 0 there),
-      counted position old at,
+      counted position old (item_there now position old within at),
     )
 
 pub lowered_other : (dropped : ℕ) (before now next : List Entry) (references all : List ℕ) (i : ℕ)

@@ -34,7 +34,7 @@ impl<F: StoredField> DynamicTable<Index, F> {
         }
         make_room(&mut self.referenced)?;
         self.referenced.push_reserved(absolute);
-        self.entries.mark_referenced(position);
+        self.entries[position].mark_referenced();
         Ok(())
     }
 
@@ -264,11 +264,7 @@ fn position_of<F: StoredField>(
 }
 
 /// Clears the marks of the live entries that the block in progress references; these are all of them.
-pub(super) fn clear_references<F: StoredField>(
-    entries: &mut Entries<F>,
-    dropped: usize,
-    references: &[usize],
-)
+fn clear_references<F: StoredField>(entries: &mut Entries<F>, dropped: usize, references: &[usize])
     ensures live { entries_of entries.new.items ≡ entries_of entries.old.items }
     ensures uses { uses_of entries.new.items ≡ uses_of entries.old.items }
     ensures cleared { AreFlagged dropped entries.old.items references.now
@@ -276,17 +272,13 @@ pub(super) fn clear_references<F: StoredField>(
 {
     for absolute in references {
         if let Some(position) = position_of(entries, dropped, *absolute) {
-            entries.clear_mark(position);
+            entries[position].clear_mark();
         }
     }
 }
 
 /// Lowers the uses of each live entry among these by one, for a block that referenced them and is given up.
-pub(super) fn lower_uses<F: StoredField>(
-    entries: &mut Entries<F>,
-    dropped: usize,
-    references: &[usize],
-)
+fn lower_uses<F: StoredField>(entries: &mut Entries<F>, dropped: usize, references: &[usize])
     requires { AreCounted dropped entries.old.items references.now }
     ensures live { entries_of entries.new.items ≡ entries_of entries.old.items }
     ensures flags { flags_of entries.new.items ≡ flags_of entries.old.items }
@@ -297,7 +289,7 @@ pub(super) fn lower_uses<F: StoredField>(
 {
     for absolute in references {
         if let Some(position) = position_of(entries, dropped, *absolute) {
-            entries.lower_uses(position);
+            entries[position].lower_uses();
         }
     }
 }

@@ -1,33 +1,25 @@
 //! The live entries of a table, in their order, and how a new one replaces the oldest.
 
-ghost use Rattle.std.specs.Prelude.{◌≡◌, ℕ, ◌+◌, ◌-◌, ◌^◌, ◌<◌, ◌≤◌, ◌==◌, ◌↔◌, [], ◌∷◌, ◌++◌, length, drop, IfSome};
-ghost use Rattle.std.specs.Prelude.{IsOk, IsSome, OnOk, OnErr, Some, max, min, false, true, slice_get, slice_set};
-ghost use Rattle.std.specs.Prelude.{slice_index_or};
+ghost use Rattle.std.specs.Prelude.{◌≡◌, ℕ, ◌+◌, ◌-◌, ◌^◌, ◌<◌, ◌≤◌, [], ◌∷◌, ◌++◌, length, drop, max};
+ghost use Rattle.std.specs.Prelude.{OnOk, OnErr, false, min, true};
 ghost use Rattle.std.specs.VecDeque.{deque_capacity};
 ghost use Rattle.qpack_base.specs.HeaderFields.{line_of};
 ghost use Rattle.qpack_spec.specs.Field.{field_size, total_size, unmarked};
 ghost use Rattle.qpack_spec.specs.Table.{fields_in};
-ghost use Rattle.qpack_table.specs.Entries.{Entry as EntryView, no_entries};
 ghost use Rattle.qpack_table.specs.Growth.{grown};
 ghost use Rattle.qpack_table.specs.Tables.{entries_of};
 
 use crate::dynamic::entry_index::EntryIndex;
-use crate::dynamic::growth::{ENTRIES, growth};
+use crate::dynamic::growth::{ENTRIES, make_room};
 use crate::vas::VirtualAddressSpace;
 use qpack_base::field::FieldLine;
 use qpack_base::stored_field::StoredField;
-use std::alloc::{AllocError, Global};
+use std::alloc::AllocError;
 use std::collections::VecDeque;
 use std::marker::Model;
-use std::mem;
-use std::ops::Index;
 
-/// The number of entries up to which all move at once to a larger vector.
-const AT_ONCE: usize = 64;
-
-/// How many of more entries each insertion moves. The larger vector has room for a quarter more, so all have moved
-/// before it is full.
-const MOVED: usize = 5;
+/// The live entries of a table, the oldest first.
+pub type Entries<F> = VecDeque<Entry<F>>;
 
 /// A live entry.
 #[derive(Debug, Drop)]
@@ -128,263 +120,6 @@ impl<F: StoredField> Entry<F> {
     }
 }
 
-/// The live entries of a table, the oldest first. When many of them need a larger vector, each insertion moves some to
-/// it, so that no call moves all.
-#[derive(Debug, Drop)]
-pub struct Entries<F: StoredField> {
-    /// The entries that have not moved yet, which are the oldest.
-    unmoved: VecDeque<Entry<F>>,
-    /// The others, with room for all.
-    moved: VecDeque<Entry<F>>,
-}
-
-impl<F: StoredField> Model for Entries<F> {
-    ghost use Rattle.std.specs.Prelude.{◌++◌, length};
-    ghost use Rattle.std.specs.VecDeque.{deque_capacity};
-    ghost use Rattle.qpack_table.specs.Entries.{Entries, MovesInTime};
-
-    ghost Value = { Entries };
-
-    ghost view = { λ e. record {
-      items = e.unmoved.items ++ e.moved.items;
-      room = deque_capacity e.moved;
-      held = deque_capacity e.unmoved;
-    } };
-
-    ghost invariant = { λ e. MovesInTime (length e.unmoved.items) (length e.moved.items) (deque_capacity e.moved)
-        (deque_capacity e.unmoved) };
-}
-
-impl<F: StoredField> Entries<F> {
-    /// Returns no entries, which hold no memory.
-    pub(super) fn new(alloc: Global) -> Entries<F>
-        ensures { result ≡ no_entries }
-    {
-        Entries {
-            unmoved: VecDeque::from_vec(Vec::new(alloc)),
-            moved: VecDeque::from_vec(Vec::new(alloc)),
-        }
-    }
-
-    /// Returns the allocator.
-    pub(super) fn allocator(&self) -> &Global {
-        self.moved.allocator()
-    }
-
-    /// Returns how many there are.
-    #[inline(always)]
-    pub(super) fn len(&self) -> usize
-        ensures { result ≡ length self.now.items }
-    {
-        self.unmoved.len() + self.moved.len()
-    }
-
-    /// Returns whether there are none.
-    #[inline(always)]
-    pub(super) fn is_empty(&self) -> bool
-        ensures { result ≡ (length self.now.items == 0) }
-    {
-        self.len() == 0
-    }
-
-    /// Borrows the entry at a position, from 0 at the oldest.
-    #[inline(always)]
-    pub(super) fn get(&self, position: usize) -> Option<&Entry<F>>
-        ensures variant { IsSome result ↔ (position < length self.now.items) }
-        ensures lookup { IfSome result (λ e. e.now ≡ slice_index_or self.now.items position e.now) }
-    {
-        if position < self.len() {
-            Some(&self[position])
-        } else {
-            None
-        }
-    }
-
-    /// Marks an entry as referenced by the block in progress, which counts as one more.
-    #[inline(always)]
-    pub(super) fn mark_referenced(&mut self, position: usize)
-        requires within { position < length self.old.items }
-        requires few { (e : EntryView) → slice_get self.old.items position ≡ Some e → e.uses < 2 ^ 64 - 1 }
-        ensures { (e : EntryView) → slice_get self.old.items position ≡ Some e → self.new ≡ record self.old {
-          items = slice_set self.old.items position (record e { referenced = true; uses = e.uses + 1 });
-        } }
-    {
-        let unmoved = self.unmoved.len();
-        if position < unmoved {
-            self.unmoved[position].mark_referenced();
-        } else {
-            self.moved[position - unmoved].mark_referenced();
-        }
-    }
-
-    /// Clears the mark that the block in progress references an entry.
-    #[inline(always)]
-    pub(super) fn clear_mark(&mut self, position: usize)
-        requires within { position < length self.old.items }
-        ensures { (e : EntryView) → slice_get self.old.items position ≡ Some e → self.new ≡ record self.old {
-          items = slice_set self.old.items position (record e { referenced = false });
-        } }
-    {
-        let unmoved = self.unmoved.len();
-        if position < unmoved {
-            self.unmoved[position].clear_mark();
-        } else {
-            self.moved[position - unmoved].clear_mark();
-        }
-    }
-
-    /// Counts one block less that references an entry.
-    #[inline(always)]
-    pub(super) fn lower_uses(&mut self, position: usize)
-        requires within { position < length self.old.items }
-        requires used { (e : EntryView) → slice_get self.old.items position ≡ Some e → 0 < e.uses }
-        ensures { (e : EntryView) → slice_get self.old.items position ≡ Some e → self.new ≡ record self.old {
-          items = slice_set self.old.items position (record e { uses = e.uses - 1 });
-        } }
-    {
-        let unmoved = self.unmoved.len();
-        if position < unmoved {
-            self.unmoved[position].lower_uses();
-        } else {
-            self.moved[position - unmoved].lower_uses();
-        }
-    }
-
-    /// Makes room for one entry more. If there is some already, nothing changes and no memory is taken.
-    #[inline(always)]
-    pub(super) fn make_room(&mut self) -> Result<(), AllocError>
-        ensures items { self.new.items ≡ self.old.items }
-        ensures ok { OnOk result (length self.new.items + 1 ≤ self.new.room) }
-        ensures still { length self.old.items + 1 ≤ self.old.room → IsOk result × (self.new ≡ self.old) }
-        ensures grown { OnOk result (self.old.room ≤ length self.old.items
-            → self.new.room ≡ grown 8 (length self.old.items)) }
-        ensures held { OnOk result (self.new.held ≤ max self.old.held self.old.room) }
-        ensures err { OnErr result (self.new ≡ self.old) }
-    {
-        if self.len() < self.moved.capacity() {
-            return Ok(());
-        }
-        self.grow()
-    }
-
-    /// Makes room where there is none, and so all have moved. This is a call of its own, so that a caller that has room
-    /// saves no registers.
-    #[inline(never)]
-    fn grow(&mut self) -> Result<(), AllocError>
-        requires full { self.old.room ≤ length self.old.items }
-        ensures items { self.new.items ≡ self.old.items }
-        ensures grown { OnOk result (self.new.room ≡ grown 8 (length self.old.items)) }
-        ensures held { OnOk result (self.new.held ≤ self.old.room) }
-        ensures err { OnErr result (self.new ≡ self.old) }
-    {
-        let len = self.moved.len();
-        let more = growth(len, ENTRIES);
-        if len <= AT_ONCE {
-            return self.moved.reserve_exact(more);
-        }
-        let roomy = VecDeque::with_capacity(*self.moved.allocator(), len + more)?;
-        self.unmoved = mem::replace(&mut self.moved, roomy);
-        Ok(())
-    }
-
-    /// Appends an entry, for which there is room.
-    #[inline(always)]
-    pub(super) fn push_back_reserved(&mut self, entry: Entry<F>)
-        requires { length self.old.items < self.old.room }
-        ensures items { self.new.items ≡ self.old.items ++ entry ∷ [] }
-        ensures room { self.new.room ≡ self.old.room }
-        ensures held { self.new.held ≤ self.old.held }
-    {
-        if !self.unmoved.is_empty() {
-            move_some(&mut self.unmoved, &mut self.moved);
-        }
-        self.moved.push_back_reserved(entry);
-    }
-
-    /// Removes the oldest entry.
-    #[inline(always)]
-    pub(super) fn pop_front(&mut self) -> Option<Entry<F>>
-        ensures some { IfSome result (λ e. self.old.items ≡ e ∷ self.new.items) }
-        ensures variant { IsSome result ↔ (0 < length self.old.items) }
-        ensures room { self.new.room ≡ self.old.room }
-        ensures held { self.new.held ≤ self.old.held }
-    {
-        if self.unmoved.is_empty() {
-            return self.moved.pop_front();
-        }
-        pop_unmoved(&mut self.unmoved)
-    }
-
-    /// Gives the memory of no entries back.
-    pub(super) fn shrink_to_fit(&mut self)
-        ensures items { self.new.items ≡ self.old.items }
-        ensures frees { length self.old.items ≡ 0 → self.new ≡ no_entries }
-        ensures kept { 0 < length self.old.items → self.new ≡ self.old }
-    {
-        if self.is_empty() {
-            self.moved.shrink_to_fit();
-        }
-    }
-}
-
-impl<F: StoredField> Index<usize> for Entries<F> {
-    type Output = Entry<F>;
-
-    ghost can_index = { λ entries i. i < length entries.items };
-
-    ghost index_gives = { λ entries i e. e ≡ slice_index_or entries.items i e };
-
-    #[inline(always)]
-    fn index(&self, index: usize) -> &Entry<F>
-        requires { index < length self.now.items }
-        ensures { result.now ≡ slice_index_or self.now.items index result.now }
-    {
-        let unmoved = self.unmoved.len();
-        if index < unmoved {
-            &self.unmoved[index]
-        } else {
-            &self.moved[index - unmoved]
-        }
-    }
-}
-
-/// Moves the newest entries of those that have not moved, five or all, to the front of the others. With the last one
-/// their memory is given back.
-#[inline(never)]
-fn move_some<T>(unmoved: &mut VecDeque<T>, moved: &mut VecDeque<T>)
-    requires room { length unmoved.old.items + length moved.old.items ≤ deque_capacity moved.old }
-    ensures items { unmoved.new.items ++ moved.new.items ≡ unmoved.old.items ++ moved.old.items }
-    ensures left { length unmoved.new.items ≡ length unmoved.old.items - 5 }
-    ensures room { deque_capacity moved.new ≡ deque_capacity moved.old }
-    ensures held { deque_capacity unmoved.new ≤ deque_capacity unmoved.old }
-    ensures given_back { length unmoved.new.items ≡ 0 → deque_capacity unmoved.new ≡ 0 }
-{
-    for _ in 0..MOVED {
-        let Some(entry) = unmoved.pop_back() else {
-            break;
-        };
-        moved.push_front_reserved(entry);
-    }
-    if unmoved.is_empty() {
-        unmoved.shrink_to_fit();
-    }
-}
-
-/// Removes the oldest entry. With the last one the memory is given back.
-#[inline(never)]
-fn pop_unmoved<T>(unmoved: &mut VecDeque<T>) -> Option<T>
-    ensures some { IfSome result (λ e. unmoved.old.items ≡ e ∷ unmoved.new.items) }
-    ensures variant { IsSome result ↔ (0 < length unmoved.old.items) }
-    ensures held { deque_capacity unmoved.new ≤ deque_capacity unmoved.old }
-    ensures given_back { length unmoved.new.items ≡ 0 → 0 < length unmoved.old.items → deque_capacity unmoved.new ≡ 0 }
-{
-    let oldest = unmoved.pop_front();
-    if unmoved.is_empty() {
-        unmoved.shrink_to_fit();
-    }
-    oldest
-}
-
 /// Drops the oldest entries, and returns the sum of their sizes.
 pub(super) fn drop_oldest<I: EntryIndex, F: StoredField>(
     entries: &mut Entries<F>,
@@ -397,7 +132,7 @@ pub(super) fn drop_oldest<I: EntryIndex, F: StoredField>(
     requires index { I.is_index_of index.old vas.old.dropped entries.old.items }
     requires small { total_size (fields_in (entries_of entries.old.items)) < 2 ^ 63 }
     ensures left { entries.new.items ≡ drop evicted entries.old.items }
-    ensures memory { (entries.new.room ≡ entries.old.room) × (entries.new.held ≤ entries.old.held) }
+    ensures capacity { deque_capacity entries.new ≡ deque_capacity entries.old }
     ensures index { I.is_index_of index.new vas.new.dropped entries.new.items }
     ensures room { (key : I.Key) → I.has_room key index.old → I.has_room key index.new }
     ensures own { (key : I.Key) → I.is_own key index.old → I.is_own key index.new }
@@ -421,8 +156,8 @@ pub(super) fn drop_oldest<I: EntryIndex, F: StoredField>(
 /// Gives the memory of an empty list and of its index back. One with entries stays as it is.
 pub(super) fn give_back_room<I: EntryIndex, F: StoredField>(entries: &mut Entries<F>, index: &mut I)
     ensures items { entries.new.items ≡ entries.old.items }
-    ensures given { length entries.old.items ≡ 0 → entries.new ≡ no_entries }
-    ensures kept { 0 < length entries.old.items → entries.new ≡ entries.old }
+    ensures given { length entries.old.items ≡ 0 → deque_capacity entries.new ≡ 0 }
+    ensures kept { 0 < length entries.old.items → deque_capacity entries.new ≡ deque_capacity entries.old }
     ensures index_given { length entries.old.items ≡ 0 → I.has_no_rows index.new }
     ensures index_kept { 0 < length entries.old.items → index.new ≡ index.old }
     ensures own { (key : I.Key) → I.is_own key index.old → I.is_own key index.new }
@@ -466,15 +201,16 @@ pub(super) fn replace_oldest<I: EntryIndex, F: StoredField>(
     ensures same_entries { OnErr result (entries.new.items ≡ entries.old.items) }
     ensures same_space { OnErr result (vas.new ≡ vas.old) }
     ensures index { I.is_index_of index.new vas.new.dropped entries.new.items }
-    ensures still { length entries.old.items + 1 ≤ entries.old.room → entries.new.room ≡ entries.old.room }
-    ensures grown { OnOk result (entries.old.room ≤ length entries.old.items
-        → entries.new.room ≡ grown 8 (length entries.old.items)) }
-    ensures room { entries.new.room ≤ max entries.old.room (grown 8 (length entries.old.items)) }
-    ensures held { entries.new.held ≤ max entries.old.held entries.old.room }
+    ensures still { length entries.old.items + 1 ≤ deque_capacity entries.old
+        → deque_capacity entries.new ≡ deque_capacity entries.old }
+    ensures grown { OnOk result (deque_capacity entries.old ≤ length entries.old.items
+        → deque_capacity entries.new ≡ grown 8 (length entries.old.items)) }
+    ensures capacity { deque_capacity entries.new
+        ≤ max (deque_capacity entries.old) (grown 8 (length entries.old.items)) }
 {
     let size = entry.mem_size();
     let key = index.own_key(key, &entry.as_line());
-    entries.make_room()?;
+    make_room(entries, ENTRIES)?;
     index.reserve(entries, vas.total_dropped(), key)?;
     let freed = drop_oldest(entries, index, vas, evicted);
     *mem_size = *mem_size - freed + size;

@@ -9,7 +9,7 @@ pub overflow_add-freed : goal.overflow_add-freed
 overflow_add-freed g c =
     let one = shed c.args.entries.now.items c.loop.entries.items c.loop.counter _
     (field_size c.in-Some.entry.field) c.in-Some.entry c.pop_front.new.self.items
-    c.loop.invariant.items refl c.in-Some.ensures.some refl in
+    c.loop.invariant.items refl c.in-Some.ensures.items refl in
     omega (arith, one.fits, c.loop.invariant.freed, c.requires.small)
 
 pub loop-preserved : goal.loop-preserved
@@ -17,7 +17,7 @@ loop-preserved g c =
     let i = c.loop.invariant in
     let one = shed c.args.entries.now.items c.loop.entries.items c.loop.counter _
     (field_size c.in-Some.entry.field) c.in-Some.entry c.pop_front.new.self.items i.items refl
-    c.in-Some.ensures.some refl in
+    c.in-Some.ensures.items refl in
     let exact : c.mem_size-freed.result ≡ field_size c.in-Some.entry.field =
     omega (arith, one.fits, i.freed, c.requires.small) in
     let at = dropped_there c.loop.vas.total c.loop.vas.dropped c.args.vas.now.dropped
@@ -27,9 +27,9 @@ loop-preserved g c =
     record {
       few = one.few;
       items = one.items;
-      memory = (c.pop_front.ensures.room ∙ i.memory.0, omega (arith, c.pop_front.ensures.held, i.memory.1));
+      capacity = c.pop_front.ensures.capacity ∙ i.capacity;
       index = entries_shed (g.I.EntryIndex.is_index_of c.leave.new.self) (c.total_inserted.result - c.len.result) _
-          c.loop.entries.items c.pop_front.new.self.items c.in-Some.entry c.leave.ensures.index c.in-Some.ensures.some
+          c.loop.entries.items c.pop_front.new.self.items c.in-Some.entry c.leave.ensures.index c.in-Some.ensures.items
           (ap (λ (p : Positions). p.dropped) c.drop.ensures ∙ ap (λ (n : ℕ). n + 1) (sym at.is));
       room = λ key has. c.leave.ensures.room key (i.room key has);
       own = λ key is. c.leave.ensures.own key (i.own key is);

@@ -1,4 +1,4 @@
-use Rattle.std.proofs.Common.{◌≡◌, ◌+◌, ◌≤◌, length, drop}
+use Rattle.std.proofs.Common.{◌≡◌, ◌+◌, ◌≤◌, length, drop, deque_capacity}
 use Rattle.qpack_spec.specs.Field.{total_size}
 use Rattle.qpack_spec.specs.Table.{fields_in}
 use Rattle.qpack_table.specs.Tables.{entries_of}
@@ -8,7 +8,7 @@ abbrev pub invariant-loop : goal.invariant-loop
 invariant-loop g l = let then = l.initial.entries in record {
   few : l.counter ≤ length then.items;
   items : l.entries.items ≡ drop l.counter then.items;
-  memory : (l.entries.room ≡ then.room) × (l.entries.held ≤ then.held);
+  capacity : deque_capacity l.entries ≡ deque_capacity then;
   freed : l.freed + total_size (drop l.counter (fields_in (entries_of then.items)))
       ≡ total_size (fields_in (entries_of then.items));
   index : g.I.EntryIndex.is_index_of l.index l.vas.dropped l.entries.items;

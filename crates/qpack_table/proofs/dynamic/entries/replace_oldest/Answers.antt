@@ -4,7 +4,7 @@ use Rattle.qpack_spec.specs.Field.{Field, FieldLine, field_size, total_size}
 use Rattle.qpack_spec.specs.Table.{fields_in}
 use Rattle.qpack_table.specs.Positions.{Positions}
 use Rattle.qpack_table.specs.Tables.{entries_of}
-use Rattle.qpack_table.specs.Entries.{Entries, Entry}
+use Rattle.qpack_table.specs.Entries.{Entry}
 use Rattle.qpack_table.proofs.Evictions.{left_is}
 use Rattle.qpack_table.proofs.WholeIndexes.{newest_there}
 use Rattle.qpack_table.proofs.dynamic.entries.replace_oldest.Goals as goal
@@ -70,5 +70,4 @@ returns-clause-sum g c =
 
 pub returns-clause-still : goal.returns-clause-still
 returns-clause-still g c room =
-    c.push_back_reserved.ensures.room ∙ c.drop_oldest-freed.ensures.memory.0
-    ∙ ap (λ (e : Entries). e.room) (c.make_room.ensures.still room).1
+    c.push_back_reserved.ensures.capacity ∙ c.drop_oldest-freed.ensures.capacity ∙ c.make_room.ensures.still room
