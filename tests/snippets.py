@@ -172,7 +172,7 @@ def why_not():
     missing = [it for it in TOOLS if not shutil.which(it)]
     if missing:
         return f"{missing[0]} is not installed"
-    fits = subprocess.run(["bash", "-c", "cd c && . ./archive && fits_dist"], cwd=TOP).returncode == 0
+    fits = subprocess.run([TOP / "dist" / "fits", "h3_qpack_c"]).returncode == 0
     return "" if fits else "dist/ is of other sources"
 
 
