@@ -3,12 +3,13 @@
 # needs a C compiler and make; for Go, go 1.19 or later and pkg-config; for Python, python3 3.8 or later (Debian: gcc, make,
 # golang-go, pkg-config and python3). It installs by apt-get what is not there, which only root can. A language whose
 # tools can't be had is left out, and a line says so. Nothing else is needed, and no network. mypy is used where it is
-# there. The last line is 'N passed, M failed'.
+# there, and setuptools with wheel to look at the Python package. The last line is 'N passed, M failed'.
 set -uo pipefail
 cd "$(dirname "$0")" || exit 1
 script=bindings/check.sh
 . ../c/archive
 . ../tests/counted
+. ../tests/licence
 room=$(mktemp -d) || exit 1
 trap 'rm -rf "$room"' EXIT
 
@@ -48,6 +49,7 @@ check_pointers() {
 test_go() {
     export PKG_CONFIG_PATH=$room/usr/lib/pkgconfig GOPROXY=off GOTOOLCHAIN=local GOCACHE=$room/cache
     check_pointers
+    try "the licence of the module" is_licence LICENSE
     try "gofmt" check_layout
     try "go vet" go vet ./...
     try "go test" run_go
@@ -66,6 +68,25 @@ find_by_linker() {
         grep 'make -C dist install' "$room/refused"
 }
 
+# Prints a python3 that has what builds a wheel. Fails if there is none.
+find_builder() {
+    local python
+    for python in python3 /usr/bin/python3; do
+        ! "$python" -c 'import setuptools.build_meta, wheel' 2>/dev/null || { echo "$python"; return; }
+    done
+    return 1
+}
+
+# Builds the wheel of a copy. It has the licence, and its metadata name it.
+check_wheel() {
+    local builder licence
+    builder=$(find_builder) && cp -R . "$room/source" && mkdir "$room/wheel" || return
+    (cd "$room/source" && "$builder" -c 'from setuptools import build_meta; build_meta.build_wheel("../wheel")') &&
+        python3 -m zipfile -e "$room"/wheel/h3_qpack-*.whl "$room/wheel" &&
+        licence=$(find "$room/wheel" -path '*.dist-info/*' -name LICENSE) && is_licence "$licence" &&
+        grep -xE 'License(-Expression)?: MIT' "$room"/wheel/h3_qpack-*.dist-info/METADATA
+}
+
 # The version of the package is that of the library.
 check_version() {
     [ "$(sed -n 's/^version = "\(.*\)"/\1/p' pyproject.toml)" = "$(sed -n 's/^version //p' ../../dist/SUMS)" ]
@@ -77,6 +98,11 @@ test_python() {
     echo "$script: Python: $(sed -n 's/^Ran \([0-9]*\) tests.*/\1/p' "$room/told") tests, with $(python3 --version)"
     try "the library is found, or an error says how to install it" find_by_linker
     try "the version in pyproject.toml" check_version
+    if find_builder >/dev/null; then
+        try "the licence in the wheel" check_wheel
+    else
+        echo "$script: left out, without setuptools and wheel: the licence in the wheel"
+    fi
     if command -v mypy >/dev/null; then
         try "mypy" mypy --strict --cache-dir "$room/mypy" h3_qpack tests
     fi
@@ -84,6 +110,7 @@ test_python() {
 
 # shellcheck disable=SC2046 # words
 install_packages $(list_lacking cc make go pkg-config python3) || true
+find_builder >/dev/null || install_packages python3-setuptools python3-wheel || true
 export LD_LIBRARY_PATH=$room/usr/lib
 if has_tools Go cc make go pkg-config && build_library; then cd go && test_go; cd ..; fi
 if has_tools Python cc make python3 && build_library; then cd python && test_python; fi

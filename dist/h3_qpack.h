@@ -34,6 +34,10 @@
 #include <stddef.h>
 #include <stdint.h>
 
+#if SIZE_MAX != UINT64_MAX
+#error "h3_qpack needs a size_t of 8 bytes: compile for a processor of 64 bits, without -m32 and -mx32"
+#endif
+
 /* Each call is a function of the library. C99, later C and C++ also see its body, at the end of this header, and can
  * inline it. Define H3_QPACK_NO_INLINE for prototypes alone, for example to generate bindings. */
 #ifdef H3_QPACK_INLINE /* defined by c/h3_qpack.c, which defines the library's functions */

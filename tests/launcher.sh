@@ -197,8 +197,7 @@ try_generated() {
     chmod +x "$room/failing" "$room/rt/rt"
     PATH=$without_rt
     command -v rt >/dev/null && { complain "rt is in $without_rt, so nothing is tried without it"; return; }
-    [ "$("$copy/dist/sources" qpk_program)" = "$(sed -n 's/^sources qpk_program //p' "$copy/dist/SUMS")" ] ||
-        { complain "dist/ was not generated from these sources; dist/generate does it"; return; }
+    "$copy/dist/fits" qpk_program || { complain "dist/ was not generated from these sources; dist/generate does it"; return; }
     try_cache
     try_choices
     (cd "$copy" && echo 0000d1 | ./qpk decode 42) >/dev/null 2>&1

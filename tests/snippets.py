@@ -30,7 +30,7 @@ NOT_RUN = {
     "./test": "runs this script, and is the first stage of .ci/run",
     "c/check.sh": "./test runs it, as c",
     "rust/check.sh": "./test runs it, as rust",
-    "go mod edit -require h3qpack@v0.0.0 -replace h3qpack=../h3_qpack/bindings/go && go build": (
+    "go mod edit -require h3qpack@v0.2.0 -replace h3qpack=../h3_qpack/bindings/go && go build": (
         "bindings/check.sh, in the gate, runs the package's tests and examples, with its own module file"
     ),
     "pip install ./bindings/python": "needs pip's build packages; bindings/check.sh, in the gate, runs the package's tests",
@@ -172,7 +172,7 @@ def why_not():
     missing = [it for it in TOOLS if not shutil.which(it)]
     if missing:
         return f"{missing[0]} is not installed"
-    fits = subprocess.run(["bash", "-c", "cd c && . ./archive && fits_dist"], cwd=TOP).returncode == 0
+    fits = subprocess.run([TOP / "dist" / "fits", "h3_qpack_c"]).returncode == 0
     return "" if fits else "dist/ is of other sources"
 
 

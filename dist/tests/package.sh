@@ -8,6 +8,7 @@ set -uo pipefail
 cd "$(dirname "$0")" || exit 1
 script=dist/tests/package.sh
 . ../../tests/counted
+. ../../tests/licence
 room=$(mktemp -d) || exit 1
 trap 'rm -rf --one-file-system "$room"' EXIT
 root=$room/root
@@ -80,6 +81,12 @@ check_files() {
         cmp "$share/zsh/vendor-completions/_qpk" ../completions/_qpk
 }
 
+# The copyright of each package has the notices of the licence.
+check_copyright() {
+    local package
+    for package in libh3-qpack0 libh3-qpack-dev qpk; do has_notices "$root/usr/share/doc/$package/copyright" || return; done
+}
+
 # Runs lintian, which finds no error and nothing to warn of.
 run_lintian() {
     lintian --allow-root --fail-on error,warning "$room"/packages/*.changes
@@ -112,4 +119,5 @@ try "a program over the shared library" try_program
 try "a program over the static library" try_statically
 try "qpk" try_qpk
 try "the manual page and the completions" check_files
+try "the copyright of each package" check_copyright
 tell_count
