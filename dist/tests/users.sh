@@ -33,7 +33,7 @@ has_licence() {
 
 # Builds by make with more words, and runs what it checks.
 build_make() {
-    make -s -C "$dist" BUILD="$room/flags.build" "$@" clean && make -s -C "$dist" BUILD="$room/flags.build" "$@" check
+    make -s -C "$dist" BUILD="$room/flags.build" clean && make -s -j 4 -C "$dist" BUILD="$room/flags.build" "$@" check
 }
 
 # Whether a command fails, and says why in one line that matches. The lines that make and cmake add are left out.
