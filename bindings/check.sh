@@ -87,17 +87,11 @@ check_wheel() {
         grep -xE 'License(-Expression)?: MIT' "$room"/wheel/h3_qpack-*.dist-info/METADATA
 }
 
-# The version of the package is that of the library.
-check_version() {
-    [ "$(sed -n 's/^version = "\(.*\)"/\1/p' pyproject.toml)" = "$(sed -n 's/^version //p' ../../dist/SUMS)" ]
-}
-
 test_python() {
     export H3_QPACK_LIBRARY=$room/usr/lib/libh3_qpack.so.0 PYTHONDONTWRITEBYTECODE=1
     try "python3 -m unittest" run_python
     echo "$script: Python: $(sed -n 's/^Ran \([0-9]*\) tests.*/\1/p' "$room/told") tests, with $(python3 --version)"
     try "the library is found, or an error says how to install it" find_by_linker
-    try "the version in pyproject.toml" check_version
     if find_builder >/dev/null; then
         try "the licence in the wheel" check_wheel
     else

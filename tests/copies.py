@@ -4,8 +4,8 @@
     tests/copies.py           checks, and names each copy that differs
     tests/copies.py --write   makes the copies again
 
-A file stands twice where what is packaged or served has to hold it: the Rust crate, the packages for Go and Python, and the
-page of the example server. dist/fits compares the copies in dist/. rt ci takes no repository with symbolic links. The exit status is 1 if a copy differs or there is a link.
+A file stands twice where what is packaged or served has to hold it: each package, and the page of the example server.
+rt ci takes no repository with symbolic links. The exit status is 1 if a copy differs or there is a link.
 """
 import os
 import shutil
@@ -17,9 +17,9 @@ TOP = Path(__file__).resolve().parent.parent
 MADE = {".git", "out", "build", "__pycache__"}
 # Where copies stand, where they are copied from, and what is copied.
 COPIES = [
-    ("rust/h3_qpack", "", ["LICENSE"]),
-    ("bindings/go", "", ["LICENSE"]),
-    ("bindings/python", "", ["LICENSE"]),
+    ("rust/h3_qpack", ".", ["LICENSE"]),
+    ("bindings/go", ".", ["LICENSE"]),
+    ("bindings/python", ".", ["LICENSE"]),
     ("rust/h3_qpack/generated", "dist", ["x86_64-elf.s", "aarch64-elf.s", "heap-x86_64-elf.s", "heap-aarch64-elf.s"]),
     ("rust/h3_qpack/tests", "c/tests", ["layout.txt"]),
     ("rust/h3_qpack/tests/data", "crates/qpack_tests/data", ["corpus.qif", "nghttp3_*.txt", "stateless_h3.tsv"]),

@@ -3,8 +3,8 @@
 
     tests/versions.py
 
-There is one version, of the library, its interface and each package. A place is a file with a pattern, which must be there.
-Some places have the whole version, some its first two numbers or its first one, and some the two in one number, as
+There is one version, of the library, its interface and each package. A place is a file with a pattern, which must be
+there. Some places have the whole version, some its first two numbers or its first one, and some the two in one number, as
 H3_QPACK_VERSION has them. No symbol of the Debian package may have a later version. It prints each other version with
 its file and line. The exit status is 1 if there is one.
 """

@@ -1,8 +1,9 @@
 #!/usr/bin/env bash
 # Plants faults in a copy of dist/ and of its sources, and has dist/check find each: it names the file, and its status is
 # not 0. Each fault has its sum in SUMS. The copy has stand-ins for the objects that were proved: what the kit's clang
-# makes of the assembly before the fault. It needs the kit; without it, nothing but the missing kit is tested, and a line
-# says so. The last line is 'N passed, M failed'.
+# makes of the assembly before the fault. Without the kit nothing is tested, and a line says so. The last line is
+# 'N passed, M failed'.
+# shellcheck disable=SC2046,SC2086 # the names of files are words
 set -uo pipefail
 cd "$(dirname "$0")/../.." || exit 1
 script=dist/tests/check.sh
@@ -15,8 +16,8 @@ top=$room/tree
 # Copies what dist/check reads, without what is built.
 copy_tree() {
     mkdir "$top" "$top/c" &&
-        tar --exclude=out --exclude=must-fail --exclude=dist/build -cf - crates.txt LICENSE crates dist include .ci c/h3_qpack.c \
-            c/examples | tar -xf - -C "$top"
+        tar --exclude=out --exclude=must-fail --exclude=dist/build -cf - \
+            crates.txt LICENSE crates dist include .ci c/h3_qpack.c c/examples | tar -xf - -C "$top"
 }
 
 # Writes SUMS of the files, the sources and the kit that are here.
@@ -148,13 +149,15 @@ if ! command -v rt >/dev/null; then
 fi
 kit_here=$(rt version)
 texts=$(list_texts | cut -d ' ' -f 1)
+heaps=$(list_made | grep '^heap-')
+copies='LICENSE h3_qpack.c h3_qpack.h roundtrip.c'
 try "copy dist/ and its sources" copy_tree && try "make the copy equal" make_equal && try "nothing differs" expect 0 ||
     { tell_count; exit 1; }
 cp "$top/dist/SUMS" "$room/SUMS"
 # A fault that is not found stays, and the tests after it would fail for it: the first one ends the script.
 try "another constant in each file of assembly" refuse_constants $texts &&
-    try "a blank in each other file" refuse_blanks $(list_made | grep -vxE "$(echo $texts | tr ' ' '|')|heap\.c|os\.c") &&
-    try "another body in heap.c" refuse dist/heap.c 's/malloc(len ? len : align)/malloc(len)/' $(list_made | grep '^heap-') &&
+    try "a blank in each other file" refuse_blanks $heaps $copies &&
+    try "another body in heap.c" refuse dist/heap.c 's/malloc(len ? len : align)/malloc(len)/' $heaps &&
     try "os.c that is not there, and heap.c without a sum" refuse_lost os.c heap.c &&
     try "objects that are not there, or older" skip_objects &&
     try "no kit, and another kit" skip_made &&

@@ -1,7 +1,7 @@
 #!/usr/bin/env bash
-# Builds and runs the small projects of users/, each of which uses the library as its build system does: by pkg-config after
-# make install, by CMake and by Meson, installed or in the project's tree, static and shared. Each install has the licence.
-# Also builds with flags that change what is built, and where it can't be, looks for the one line that says why. A build
+# Builds and runs the small projects of users/, each of which uses the library as its build system does: by pkg-config
+# after make install, by CMake and by Meson, installed or in the project's tree, static and shared. Each install has the
+# licence. Also builds with flags that change what is built, and where it can't be, looks for the one line that says why. A build
 # system that is not there is left out, and a line says so. The last line is 'N passed, M failed'.
 set -uo pipefail
 cd "$(dirname "$0")" || exit 1
@@ -33,7 +33,7 @@ has_licence() {
 
 # Builds by make with more words, and runs what it checks.
 build_make() {
-    make -s -C "$dist" BUILD="$room/flags.build" "$@" clean && make -s -C "$dist" BUILD="$room/flags.build" "$@" check
+    make -s -C "$dist" BUILD="$room/flags.build" clean && make -s -j 4 -C "$dist" BUILD="$room/flags.build" "$@" check
 }
 
 # Whether a command fails, and says why in one line that matches. The lines that make and cmake add are left out.
