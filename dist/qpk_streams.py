@@ -2,7 +2,10 @@
 
 from dataclasses import dataclass, field
 from heapq import heappop, heappush
-from typing import Dict, Iterator, List, Optional, Tuple
+from io import BytesIO, TextIOWrapper
+from typing import Dict, Iterable, Iterator, List, Optional, Tuple
+
+from qpk_main import Refusal, printable
 
 HEADERS, SETTINGS, PUSH_PROMISE = 1, 4, 5  # types of frames (RFC 9114, section 7.2)
 # Types of unidirectional streams (RFC 9114, section 6.2; RFC 9204, section 4.2).
@@ -14,8 +17,18 @@ MOST_PAYLOAD = 1 << 20  # bytes of a frame that is read; a longer one is left ou
 MOST_WAITING = 1 << 24  # bytes of a stream that are kept after a gap; with more, the stream ends at the gap
 
 
-class SourceError(Exception):
+class SourceError(Refusal):
     """A capture or a trace can't be read, for this reason."""
+
+
+def to_bytes(text: str) -> bytes:
+    """Returns the bytes of a text. Those that were not UTF-8 are as they were."""
+    return text.encode("utf-8", "surrogateescape")
+
+
+def to_text(data: bytes) -> str:
+    """Returns the text of bytes."""
+    return data.decode("utf-8", "surrogateescape")
 
 
 class NotWhole(Exception):
@@ -209,9 +222,18 @@ class Connection:
 
     number: int
     about: Dict[str, str]  # its ends, or what the trace is called; empty for a recording
-    lines: List[str]
+    lines: List[str] = field(default_factory=list)
     missing: List[str] = field(default_factory=list)
+    data: Optional[bytes] = None  # of a recording, which has its lines
 
     def name(self) -> str:
         """Returns its number and its ends."""
-        return f"connection {self.number}, {' > '.join(self.about.values())}"
+        return printable(f"connection {self.number}, {' > '.join(self.about.values())}")
+
+    def recording(self) -> bytes:
+        """Returns the recording that qpk reads."""
+        return to_bytes("".join(f"{it}\n" for it in self.lines)) if self.data is None else self.data
+
+    def all_lines(self) -> Iterable[str]:
+        """Returns the lines of the recording."""
+        return self.lines if self.data is None else TextIOWrapper(BytesIO(self.data), "utf-8", "surrogateescape", "\n")

@@ -156,10 +156,11 @@ def test_one_stream():
         "  2 static 17, :method: GET\n0.3 > section 44: blocked until insertion 1\n0.4 < decoder 0: acknowledge stream 4\n"
         "0.5 < decoder 1: cancel stream 44\n0.6 < stream 4: given up\n"
     )
-    kept = capture.of_stream(text, 4).splitlines()
+    kept = b"".join(capture.of_stream(io.BytesIO(text.encode()), 4)).decode().splitlines()
     assert [it[:12] for it in kept] == ["0.2 > sectio", "  2 static 1", "0.4 < decode", "0.6 < stream"]
     objects = '{"line":1,"section":4}\n{"line":2,"encoder":0}\n{"line":3,"decoder":0,"stream":4}\n{"line":4,"section":44}\n'
-    assert capture.of_stream(objects, 4) == '{"line":1,"section":4}\n{"line":3,"decoder":0,"stream":4}\n'
+    kept = b"".join(capture.of_stream(io.BytesIO(objects.encode()), 4)).decode()
+    assert kept == '{"line":1,"section":4}\n{"line":3,"decoder":0,"stream":4}\n'
 
 
 def run(*words):
