@@ -21,10 +21,10 @@ def printable(text: str) -> str:
     return "".join(it if it.isprintable() else it.encode("unicode_escape").decode() for it in text)
 
 
-def complain(name: str, reason: str) -> None:
-    """Reports a reason in a line on standard error, if that is open."""
+def complain(line: str) -> None:
+    """Writes a line on standard error, if that is open."""
     if sys.stderr is not None:
-        print(f"{name}: {printable(reason)}", file=sys.stderr)
+        print(printable(line), file=sys.stderr)
 
 
 def reason_of(error: BaseException) -> str:
@@ -68,7 +68,7 @@ def run(name: str, answer: Callable[[], int]) -> int:
     # Here the memory of what failed is free again.
     drop_output()
     if reason:
-        complain(name, reason)
+        complain(f"{name}: {reason}")
     if end is not None:
         signal.signal(end, signal.SIG_DFL)
         os.kill(os.getpid(), end)

@@ -83,7 +83,7 @@ class Parser(argparse.ArgumentParser):
 
     def error(self, message: str) -> NoReturn:
         print(self.usage, file=sys.stderr)
-        complain("qpk", message)
+        complain(f"qpk: {message}")
         sys.exit(1)
 
 
