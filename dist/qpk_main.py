@@ -52,7 +52,8 @@ def run(name: str, answer: Callable[[], int]) -> int:
 
     No input has a traceback: what an input may cause is a line on standard error.
     """
-    reason, end = "", None  # type: Tuple[str, Optional[signal.Signals]]
+    reason = ""
+    end: Optional[signal.Signals] = None
     try:
         if sys.stdout is None:
             raise Refusal("refused: output: standard output is closed")
