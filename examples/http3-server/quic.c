@@ -193,17 +193,6 @@ static int on_reset(ngtcp2_conn *quic, int64_t id, uint64_t size, uint64_t code,
   return 0;
 }
 
-static int on_stop(ngtcp2_conn *quic, int64_t id, uint64_t code, void *user, void *stream_user) {
-  connection *c = user;
-  stream *s = stream_of(c, id);
-  (void)quic, (void)code, (void)stream_user;
-  if (!s) return 0;
-  unqueue(c, s);
-  close_answer(s);
-  s->is_shut = 1;
-  return 0;
-}
-
 static const ngtcp2_callbacks callbacks = {
     .recv_client_initial = ngtcp2_crypto_recv_client_initial_cb,
     .recv_crypto_data = ngtcp2_crypto_recv_crypto_data_cb,
@@ -214,7 +203,6 @@ static const ngtcp2_callbacks callbacks = {
     .acked_stream_data_offset = on_acknowledged,
     .stream_close = on_close,
     .stream_reset = on_reset,
-    .stream_stop_sending = on_stop,
     .rand = fill,
     .get_new_connection_id = make_id,
     .update_key = ngtcp2_crypto_update_key_cb,
@@ -398,7 +386,8 @@ static void write_packets(connection *c) {
     if (len == NGTCP2_ERR_STREAM_DATA_BLOCKED) {
       s->is_full = 1;
     } else if (len == NGTCP2_ERR_STREAM_SHUT_WR || len == NGTCP2_ERR_STREAM_NOT_FOUND) {
-      unqueue(c, s);
+      unqueue(c, s); /* the peer takes no more of it */
+      close_answer(s);
       s->is_shut = 1;
     } else if (len < 0) {
       fail_quic(c, (int)len);
