@@ -30,6 +30,27 @@ check_layout() {
     [ -z "$(gofmt -l . | tee /dev/stderr)" ]
 }
 
+# go vet reports each copy of an end, in a program beside the package.
+check_copies() {
+    local program=$room/copies
+    mkdir -p "$program" && cat >"$program/main.go" <<'PROGRAM' || return
+package main
+
+import "h3qpack"
+
+func main() {
+	encoder, _ := h3qpack.NewEncoder(h3qpack.EncoderSettings{})
+	decoder, _ := h3qpack.NewDecoder(h3qpack.DecoderSettings{})
+	anEncoder, aDecoder := *encoder, *decoder
+	_, _ = anEncoder.Close(), aDecoder.Close()
+}
+PROGRAM
+    printf 'module copies\n\ngo 1.19\n\nrequire h3qpack v0.0.0\n\nreplace h3qpack => %s\n' "$PWD" >"$program/go.mod"
+    ! (cd "$program" && go vet .) >"$room/vetted" 2>&1
+    cat "$room/vetted"
+    grep -q 'copies lock value.*Encoder' "$room/vetted" && grep -q 'copies lock value.*Decoder' "$room/vetted"
+}
+
 # Runs the tests and the examples, with more words for go. There must be some.
 run_go() {
     go test -count=1 -v "$@" ./... && grep -q '^--- PASS: Example' "$room/told"
@@ -50,6 +71,7 @@ test_go() {
     check_pointers
     try "gofmt" check_layout
     try "go vet" go vet ./...
+    try "go vet of a program that copies ends" check_copies
     try "go test" run_go
     try "go test -race" run_go -race
     echo "$script: Go: $(grep -c '^--- PASS' "$room/told") tests and examples, with $(go version | cut -d ' ' -f 3)"
