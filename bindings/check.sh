@@ -1,9 +1,9 @@
 #!/usr/bin/env bash
 # Tests the bindings for Go and Python, over the library that make builds of dist/ and installs in a folder of its own. It
-# needs a C compiler and make; for Go, go 1.19 or later and pkg-config; for Python, python3 3.8 or later (Debian: gcc, make,
-# golang-go, pkg-config and python3). It installs by apt-get what is not there, which only root can. A language whose
-# tools can't be had is left out, and a line says so. Nothing else is needed, and no network. mypy is used where it is
-# there. The last line is 'N passed, M failed'.
+# needs a C compiler and make; for Go, go 1.19 or later and pkg-config; for Python, python3 3.8 or later, and to install the
+# package by pip, venv and flit_core (Debian: gcc, make, golang-go, pkg-config, python3, python3-venv and flit). It installs
+# by apt-get what is not there, which only root can. A language whose tools can't be had is left out, and a line says so.
+# Nothing else is needed, and no network. mypy is used where it is there. The last line is 'N passed, M failed'.
 set -uo pipefail
 cd "$(dirname "$0")" || exit 1
 script=bindings/check.sh
@@ -88,6 +88,32 @@ find_by_linker() {
         grep 'make -C dist install' "$room/refused"
 }
 
+# Prints the folder of flit_core, which is that of Debian if another python3 comes first in PATH.
+find_flit_core() {
+    local python
+    for python in python3 /usr/bin/python3; do
+        "$python" -c 'import flit_core, os; print(os.path.dirname(flit_core.__file__))' 2>/dev/null && return
+    done
+    return 1
+}
+
+# Prints the packages of Debian that pip needs, without a network, and that are not there.
+list_lacking_for_pip() {
+    python3 -c 'import ensurepip' 2>/dev/null || echo python3-venv
+    find_flit_core >"$room/flit_core" || echo flit
+}
+
+# The package installs by pip in a folder of its own, leaves nothing where its sources are, and finds the library.
+install_by_pip() {
+    mkdir "$room/packages" && ln -s "$(find_flit_core)" "$room/packages/" && cp -r . "$room/source" || return
+    (cd "$room/source" && find . | sort) >"$room/before"
+    python3 -m venv "$room/venv" &&
+        PYTHONPATH=$room/packages PIP_NO_INDEX=1 PIP_NO_BUILD_ISOLATION=false \
+            "$room/venv/bin/pip" install "$room/source" || return
+    (cd "$room/source" && find . | sort) | diff "$room/before" - || return
+    (cd "$room" && venv/bin/python -c 'import h3_qpack; print(h3_qpack.__file__)') | grep "^$room/venv/"
+}
+
 # The version of the package is that of the library.
 check_version() {
     [ "$(sed -n 's/^version = "\(.*\)"/\1/p' pyproject.toml)" = "$(sed -n 's/^version //p' ../../dist/SUMS)" ]
@@ -99,13 +125,18 @@ test_python() {
     echo "$script: Python: $(sed -n 's/^Ran \([0-9]*\) tests.*/\1/p' "$room/told") tests, with $(python3 --version)"
     try "the library is found, or an error says how to install it" find_by_linker
     try "the version in pyproject.toml" check_version
+    if [ -z "$(list_lacking_for_pip)" ]; then
+        try "pip install" install_by_pip
+    else
+        echo "$script: pip install was not tested, without" $(list_lacking_for_pip)
+    fi
     if command -v mypy >/dev/null; then
         try "mypy" mypy --strict --cache-dir "$room/mypy" h3_qpack tests
     fi
 }
 
 # shellcheck disable=SC2046 # words
-install_packages $(list_lacking cc make go pkg-config python3) || true
+install_packages $(list_lacking cc make go pkg-config python3) $(list_lacking_for_pip) || true
 export LD_LIBRARY_PATH=$room/usr/lib
 if has_tools Go cc make go pkg-config && build_library; then cd go && test_go; cd ..; fi
 if has_tools Python cc make python3 && build_library; then cd python && test_python; fi
