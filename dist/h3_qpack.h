@@ -346,6 +346,12 @@ H3_QPACK_INLINE void h3_qpack_decoder_del(h3_qpack_decoder *decoder);
 H3_QPACK_INLINE h3_qpack_received h3_qpack_decoder_read_encoder(h3_qpack_decoder *decoder, const uint8_t *src,
                                                                 size_t srclen);
 
+/* Returns the length, in bytes, of the longest section whose fields can be within |max_section_size|; at most SIZE_MAX. A
+ * decoder refuses a longer one unread: H3_QPACK_ERR_TOO_LARGE, with |number| 0. So a buffer for a HEADERS frame needs no
+ * more room. A macro: it evaluates |max_section_size| twice. */
+#define h3_qpack_longest_section(max_section_size) \
+  ((uint64_t)(max_section_size) > ((size_t)-1 - 20) / 4 ? (size_t)-1 : 4 * (size_t)(max_section_size) + 20)
+
 /* Decodes a field section, |srclen| bytes at |src|, of the stream |stream_id|, below 2^62 (section 2.2). Pass the
  * sections of a stream in order. Get the fields from h3_qpack_decoder_fields or h3_qpack_decoder_field: they are kept
  * until the next decode.

@@ -19,7 +19,6 @@ WHOLE = [
     ("README.md", r"^\*\*Status:\*\* ([\d.]+),"),
     ("README.md", r"h3qpack@v([\d.]+) "),
     ("bindings/README.md", r"h3qpack@v([\d.]+) "),
-    ("tests/snippets.py", r"h3qpack@v([\d.]+) "),
     ("bindings/python/pyproject.toml", r'^version = "([\d.]+)"'),
     ("rust/h3_qpack/Cargo.toml", r'^version = "([\d.]+)"'),
     ("rust/h3_qpack/Cargo.lock", r'^name = "h3_qpack"\nversion = "([\d.]+)"'),

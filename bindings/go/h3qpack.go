@@ -33,6 +33,18 @@ func Version() (major, minor int) {
 	return version >> 16, version & 0xffff
 }
 
+// LongestSection returns the length, in bytes, of the longest section whose fields can be within a MaxSectionSize. A
+// decoder refuses a longer one unread, with ErrTooLarge, so a buffer for a HEADERS frame needs no more room.
+func LongestSection(maxSectionSize uint64) uint64 {
+	return uint64(C.h3qpack_longest_section(C.uint64_t(maxSectionSize)))
+}
+
+// noCopy has go vet report copies of a struct that has it: vet takes it for a lock.
+type noCopy struct{}
+
+func (*noCopy) Lock()   {}
+func (*noCopy) Unlock() {}
+
 // firstByte returns a pointer to the bytes, or nil if there are none.
 func firstByte(bytes []byte) *C.uint8_t {
 	if len(bytes) == 0 {
