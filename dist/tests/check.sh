@@ -1,7 +1,7 @@
 #!/usr/bin/env bash
 # Plants faults in a copy of dist/ and of its sources, and has dist/check find each: it names the file, and its status is
 # not 0. Each fault has its sum in SUMS. The copy has stand-ins for the objects that were proved: what the kit's clang
-# makes of the assembly before the fault. Without the kit nothing is tested, and a line says so. The last line is
+# makes of the assembly before the fault. Without the kit nothing is shown, and a line says so. The last line is
 # 'N passed, M failed'.
 # shellcheck disable=SC2046,SC2086 # the names of files are words
 set -uo pipefail
@@ -143,7 +143,7 @@ skip_made() {
 }
 
 if ! command -v rt >/dev/null; then
-    echo "$script: nothing was tested, as rt, the command of the kit, is not in PATH"
+    not_shown "what dist/check finds" "without rt, the command of the kit"
     tell_count
     exit
 fi

@@ -94,7 +94,7 @@ run_lintian() {
 
 missing=$(list_missing dpkg-buildpackage dh cc pkg-config | paste -s -d ' ')
 if [ -n "$missing" ]; then
-    echo "$script: nothing was tested, without $missing"
+    not_shown "the Debian packages" "without $missing"
     tell_count
     exit
 fi
@@ -103,7 +103,7 @@ try "build the packages" ../package "$room/packages" || { tell_count; exit; }
 if [ -z "$(list_missing lintian)" ]; then
     try "lintian" run_lintian
 else
-    echo "$script: left out, as it is not installed: lintian"
+    not_shown "what lintian says of the Debian packages" "without lintian"
 fi
 libraries=$root/usr/lib/$(dpkg-architecture -qDEB_HOST_MULTIARCH)
 if make_system; then

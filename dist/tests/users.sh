@@ -17,7 +17,7 @@ top=$(cd ../.. && pwd)
 has() {
     local name
     for name in "$@"; do
-        command -v "$name" >/dev/null || { echo "$script: left out, as $name is not installed: $*"; return 1; }
+        command -v "$name" >/dev/null || { not_shown "projects that use $*" "without $name"; return 1; }
     done
 }
 
