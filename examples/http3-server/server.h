@@ -13,7 +13,7 @@
 #include <stdio.h>
 #include "frames.h"
 
-/* ---- Bounds. What they allow is the most that a peer can have this server keep; a peer that asks for more is refused */
+/* ---- Bounds: the most that a peer can have this server keep. A peer that asks for more is refused. */
 
 enum {
   MOST_CONNECTIONS = 32,      /* a further one is refused */
@@ -25,7 +25,7 @@ enum {
   MOST_BODY = 65536,          /* bytes of a request's body; else 413 */
   MOST_EVENTS = 4 << 20,      /* bytes of a connection's events; later ones are in the log alone */
   ANSWER_PIECE = 16384,       /* bytes of a file, or of events, that are read before the peer takes them */
-  MOST_QUEUED = 1 << 20,      /* bytes of answers that a connection has not sent; else 503 */
+  MOST_QUEUED = 4 << 20,      /* bytes of answers that the peer has not acknowledged, more than a piece of each; else 503 */
   MOST_INSTRUCTIONS = 1 << 20 /* bytes of an instruction stream that the peer does not read; else the connection ends */
 };
 

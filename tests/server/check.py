@@ -317,7 +317,7 @@ def run_refused(folder, program, client):
 
 def run_crowd(folder, program, client):
     """Opens more connections than the server takes: it refuses the rest, and takes others later."""
-    script = ['pause 4000', *CASES['a page'][0]]
+    script = ['pause 8000', *CASES['a page'][0]]
     with serve(program, folder) as (server, port), ThreadPoolExecutor(MOST_CONNECTIONS + 8) as pool:
         said = list(pool.map(lambda it: run_client(client, port, 1 << 24, script), range(MOST_CONNECTIONS + 8)))
         check(server, run_client(client, port, 1 << 24, CASES['a page'][0]), CASES['a page'][1])

@@ -9,9 +9,9 @@
  *     pause MS         the next line is taken that much later
  *
  * Streams are opened in the order of their numbers. WINDOW is how much of each stream the server may send, in bytes; the
- * client extends no window. It ends when the connection does, or a second after its script and the last packet, or
- * if the handshake takes four seconds. Then it closes the connection, and prints a line for each stream of its own, and
- * how the connection ended. It is a test's client: a mistake ends it. */
+ * client extends no window. It ends when the connection does, or a second after its script and the last packet, five while
+ * a request has no whole answer, or if the handshake takes eight seconds. Then it closes the connection, and
+ * prints a line for each stream of its own, and how the connection ended. It is a test's client: a mistake ends it. */
 #include <arpa/inet.h>
 #include <errno.h>
 #include <gnutls/crypto.h>
@@ -30,7 +30,7 @@
 
 #define CHECK(x) ((x) ? (void)0 : stop_at(__LINE__, #x))
 
-enum { MOST_STREAMS = 512, KEPT = 1 << 16, ID_LENGTH = 16, QUIET = 1000 }; /* QUIET in milliseconds */
+enum { MOST_STREAMS = 512, KEPT = 1 << 16, ID_LENGTH = 16, QUIET = 1000, PATIENCE = 5000 }; /* milliseconds */
 
 typedef struct stream {
   int is_used, is_open, ends, has_ended;
@@ -146,7 +146,7 @@ static void open_quic(uint64_t window) {
   fill(own.data, own.datalen, NULL);
   ngtcp2_settings_default(&settings);
   settings.initial_ts = now();
-  settings.handshake_timeout = 4 * NGTCP2_SECONDS;
+  settings.handshake_timeout = 8 * NGTCP2_SECONDS;
   ngtcp2_transport_params_default(&parameters);
   parameters.initial_max_streams_uni = 3;
   parameters.initial_max_data = 1 << 30;
@@ -334,6 +334,15 @@ static void print_all(int is_alive) {
   else printf("connection closed %#llx\n", (unsigned long long)error.error_code);
 }
 
+/* Returns for how many milliseconds nothing may arrive until the client ends. */
+static uint64_t patience(void) {
+  for (int64_t id = 0; id < MOST_STREAMS; id += 4) {
+    const stream *s = &streams[id];
+    if (s->is_used && !s->has_ended && s->reset < 0 && s->stopped < 0) return PATIENCE;
+  }
+  return QUIET;
+}
+
 int main(int argc, char **argv) {
   int is_alive = 1, has_more = 1;
   CHECK(argc == 3);
@@ -343,7 +352,7 @@ int main(int argc, char **argv) {
   open_quic(strtoull(argv[2], NULL, 10));
   open_tls();
   last_packet = now();
-  while (is_alive && (has_more || now() < last_packet + QUIET * NGTCP2_MILLISECONDS)) {
+  while (is_alive && (has_more || now() < last_packet + patience() * NGTCP2_MILLISECONDS)) {
     if (ngtcp2_conn_get_handshake_completed(quic)) has_more = has_more && take_lines(), open_streams();
     write_packets();
     poll(&(struct pollfd){udp, POLLIN, 0}, 1, 10);
