@@ -1,23 +1,32 @@
 //! A recorded connection, judged: a finding for each thing that a strict end refuses, and for what its end leaves open.
 
+ghost use Rattle.std.specs.Prelude.{◌≡◌, false, true, IfErr, IfOk, IsUtf8, string_bytes};
+ghost use Rattle.qpk_view.specs.Faults.{IsFaultOfRecording};
+ghost use Rattle.qpk_view.specs.Findings.{AreVerdict, finding_front, nothing_found};
+ghost use Rattle.qpk_view.specs.Texts.{Appends, BeginsWith};
+ghost use Rattle.qpk_view.specs.declared.fault.Fault.TheVariants.{Memory};
+
 use crate::events::{End, Settings};
 use crate::fault::Fault;
 use crate::findings::{
-    self, Code, Rule, Subject, push_finding, push_finding_object, rule_of_bytes, rule_of_hearing,
-    rule_of_instruction, rule_of_line, rule_of_prefix,
+    self, Code, Rule, Subject, push_finding, push_finding_object, push_rule, push_rule_members,
+    rule_of_bytes, rule_of_hearing, rule_of_instruction, rule_of_line, rule_of_prefix,
 };
 use crate::place::Place;
 use crate::reasons;
 use crate::show::{View, read_recording};
+use crate::text::Text;
 use crate::watch::{Sight, Watcher, watch};
 use qpack_base::parse_error::ParseError;
+use qpack_codec::DecoderError;
 use qpack_table::dynamic::ReceivedTable;
-use qpack_wire::stream::{DecoderLine, HeaderAck, StreamCancel};
+use qpack_wire::stream::{DecoderLine, EncoderLine, HeaderAck, StreamCancel};
 use qpk_show::awaited::HearingFault;
-use qpk_show::section::Reading;
+use qpk_show::section::{Reading, Stop};
 use qpk_show::shown::Shown;
 use qpk_show::stream::Cut;
 use std::alloc::{AllocError, Global};
+use std::marker::Model;
 
 /// How a recording is read, and how findings are printed.
 #[derive(Clone, Copy)]
@@ -32,49 +41,136 @@ pub struct CheckOptions {
 
 /// Judges a recording: a finding a line, or one line that says that there is none. Fails if the maximum capacity is
 /// 2^30 or more, or if the input is no recording.
-pub fn check(alloc: Global, options: CheckOptions, input: &[u8]) -> Result<View, Fault> {
+pub fn check(alloc: Global, options: CheckOptions, input: &[u8]) -> Result<View, Fault>
+    ensures verdict { IfOk result (λ view. AreVerdict options.json view.has_found (string_bytes view.text)) }
+    ensures fault { IfErr result IsFaultOfRecording }
+    ensures text { options.qif ≡ false → IfOk result (λ _. IsUtf8 input.now) }
+{
     let recording = read_recording(alloc, options.qif, input)?;
     let mut judge = Judge {
-        report: Report {
-            text: String::new(alloc),
-            json: options.json,
-            has_found: false,
-        },
-        alloc,
+        report: Report::new(alloc, options.json),
         client: Judged::new(alloc),
         server: Judged::new(alloc),
     };
     watch(alloc, &recording, options.settings, &mut judge)?;
-    judge.end()?;
-    Ok(View {
-        text: judge.report.text,
-        has_found: judge.report.has_found,
-    })
+    judge.end()
 }
 
 /// The findings so far.
 #[derive(Drop)]
 struct Report {
-    text: String,
+    text: Text,
     json: bool,
     has_found: bool,
 }
 
+impl Model for Report {
+    ghost use Rattle.std.specs.Prelude.{◌≡◌, false};
+    ghost use Rattle.qpk_view.specs.Findings.{AreFindings, Findings};
+
+    ghost Value = { Findings };
+
+    ghost view = { λ r. record { text = r.text; json = r.json; has_found = r.has_found } };
+
+    ghost invariant = { λ r. r.text.lacks_memory ≡ false → AreFindings r.json r.has_found r.text.bytes };
+}
+
 impl Report {
-    /// Adds a finding.
-    fn add(
-        &mut self,
-        place: Place<'_>,
-        subject: Subject,
-        reason: &str,
-        rule: Rule,
-    ) -> Result<(), AllocError> {
-        self.has_found = true;
-        if self.json {
-            return push_finding_object(&mut self.text, place, subject, reason, rule);
+    /// Returns a report without a finding.
+    fn new(alloc: Global, json: bool) -> Report
+        ensures { result.json ≡ json }
+    {
+        Report {
+            text: Text::new(alloc),
+            json,
+            has_found: false,
         }
-        push_finding(&mut self.text, place, subject, reason, rule)
     }
+
+    /// Begins a finding. Its reason comes next.
+    #[tactic(auto, using(crate::proofs::Reports::begun))]
+    fn begin(&mut self, place: Place<'_>, subject: Subject)
+        ensures json { self.new.json ≡ self.old.json }
+        ensures found { self.new.has_found ≡ true }
+    {
+        push_front(&mut self.text, self.json, place, subject);
+        self.has_found = true;
+    }
+
+    /// Ends a finding, after its reason.
+    fn end(&mut self, rule: Rule)
+        requires { self.old.has_found ≡ true }
+        ensures json { self.new.json ≡ self.old.json }
+        ensures found { self.new.has_found ≡ true }
+    {
+        if self.json {
+            push_rule_members(&mut self.text, rule);
+        } else {
+            push_rule(&mut self.text, rule);
+        }
+    }
+
+    /// Returns what is printed. Where nothing was found, that is how many sections and instructions there were.
+    fn finish(self, counts: Counts) -> Result<View, Fault>
+        ensures memory { IfErr result (λ fault. fault ≡ Memory) }
+        ensures verdict { IfOk result (λ view. AreVerdict self.json view.has_found (string_bytes view.text)) }
+    {
+        let Report {
+            mut text,
+            json,
+            has_found,
+        } = self;
+        if !has_found {
+            push_nothing_found(&mut text, json, counts);
+        }
+        View::new(text, has_found)
+    }
+}
+
+/// Appends the front of a finding, before the reason, as a line or as an object of JSON.
+fn push_front(text: &mut Text, json: bool, place: Place<'_>, subject: Subject)
+    ensures { BeginsWith (finding_front json) text.old text.new }
+{
+    if json {
+        return push_finding_object(text, place, subject);
+    }
+    push_finding(text, place, subject);
+}
+
+/// How many sections and instructions there were.
+#[derive(Clone, Copy)]
+struct Counts {
+    sections: usize,
+    encoder: usize,
+    decoder: usize,
+}
+
+/// Appends that nothing was found.
+fn push_nothing_found(text: &mut Text, json: bool, counts: Counts)
+    ensures { Appends text.old text.new (nothing_found json counts.sections counts.encoder counts.decoder) }
+{
+    if json {
+        return push_counts_object(text, counts);
+    }
+    push_counts(text, counts);
+}
+
+/// Appends that nothing was found, as an object of JSON.
+fn push_counts_object(text: &mut Text, counts: Counts)
+    ensures { Appends text.old text.new (nothing_found true counts.sections counts.encoder counts.decoder) }
+{
+    text.push_value("{\"findings\":0,\"sections\":", &counts.sections);
+    text.push_value(",\"encoder_instructions\":", &counts.encoder);
+    text.push_between(",\"decoder_instructions\":", &counts.decoder, "}\n");
+}
+
+/// Appends that nothing was found, as a line.
+fn push_counts(text: &mut Text, counts: Counts)
+    ensures { Appends text.old text.new (nothing_found false counts.sections counts.encoder counts.decoder) }
+{
+    text.push_value("nothing found: sections ", &counts.sections);
+    text.push_value(", encoder instructions ", &counts.encoder);
+    text.push_between(", decoder instructions ", &counts.decoder, "\n");
 }
 
 /// A section that waits.
@@ -136,13 +232,13 @@ impl Judged {
     }
 
     /// Notes that a section begins to wait.
-    fn wait(&mut self, place: Place<'_>, stream: u64, required: usize) -> Result<(), AllocError> {
-        self.waiting.push(Waiting {
-            stream,
-            required,
-            line: place.line,
-            end: place.end,
-        })?;
+    fn wait(&mut self, waiting: Waiting) -> Result<(), AllocError> {
+        self.waiting.push(waiting)?;
+        self.refer(waiting.stream)
+    }
+
+    /// Notes that a stream had a section with a required insert count.
+    fn refer(&mut self, stream: u64) -> Result<(), AllocError> {
         self.referencing.push(stream)?;
         Ok(())
     }
@@ -161,7 +257,7 @@ impl Judged {
 
     /// Returns whether a stream had a section with a required insert count.
     fn had_section(&self, stream: u64) -> bool {
-        self.referencing.iter().any(|s| *s == stream)
+        self.referencing.contains(&stream)
     }
 }
 
@@ -169,118 +265,93 @@ impl Judged {
 #[derive(Drop)]
 struct Judge {
     report: Report,
-    alloc: Global,
     client: Judged,
     server: Judged,
 }
 
 impl Watcher for Judge {
-    fn see(&mut self, place: Place<'_>, encoder: End, sight: Sight<'_>) -> Result<(), Fault> {
-        let alloc = self.alloc;
+    ghost json = { λ judge. judge.report.json };
+
+    fn see(&mut self, place: Place<'_>, encoder: End, sight: Sight<'_>) {
         match encoder {
-            End::Client => judge_sight(alloc, &mut self.client, &mut self.report, place, sight)?,
-            End::Server => judge_sight(alloc, &mut self.server, &mut self.report, place, sight)?,
+            End::Client => judge_sight(&mut self.client, &mut self.report, place, sight),
+            End::Server => judge_sight(&mut self.server, &mut self.report, place, sight),
         }
-        Ok(())
     }
 }
 
 impl Judge {
     /// Ends the report: sections that still wait, and, if nothing was found, what was looked at.
-    fn end(&mut self) -> Result<(), AllocError> {
-        judge_waiting(self.alloc, &self.client, &mut self.report)?;
-        judge_waiting(self.alloc, &self.server, &mut self.report)?;
-        if self.report.has_found {
-            return Ok(());
-        }
-        let sections = self.client.sections.saturating_add(self.server.sections);
-        let encoder = self
-            .client
+    fn end(self) -> Result<View, Fault>
+        ensures memory { IfErr result (λ fault. fault ≡ Memory) }
+        ensures verdict { IfOk result (λ view. AreVerdict self.report.json view.has_found (string_bytes view.text)) }
+    {
+        let Judge {
+            mut report,
+            client,
+            server,
+        } = self;
+        judge_waiting(&client, &mut report);
+        judge_waiting(&server, &mut report);
+        report.finish(counts_of(&client, &server))
+    }
+}
+
+/// Returns how many sections and instructions were seen.
+fn counts_of(client: &Judged, server: &Judged) -> Counts {
+    Counts {
+        sections: client.sections.saturating_add(server.sections),
+        encoder: client
             .encoder_instructions
-            .saturating_add(self.server.encoder_instructions);
-        let decoder = self
-            .client
+            .saturating_add(server.encoder_instructions),
+        decoder: client
             .decoder_instructions
-            .saturating_add(self.server.decoder_instructions);
-        if self.report.json {
-            return writeln!(
-                self.report.text,
-                "{{\"findings\":0,\"sections\":{sections},\"encoder_instructions\":{encoder},\
-                 \"decoder_instructions\":{decoder}}}"
-            );
-        }
-        writeln!(
-            self.report.text,
-            "nothing found: sections {sections}, encoder instructions {encoder}, decoder instructions {decoder}"
-        )
+            .saturating_add(server.decoder_instructions),
     }
 }
 
 /// Judges what is seen of an encoder and of its decoder.
-fn judge_sight(
-    alloc: Global,
-    judged: &mut Judged,
-    report: &mut Report,
-    place: Place<'_>,
-    sight: Sight<'_>,
-) -> Result<(), AllocError> {
+fn judge_sight(judged: &mut Judged, report: &mut Report, place: Place<'_>, sight: Sight<'_>)
+    ensures { report.new.json ≡ report.old.json }
+{
     match sight {
-        Sight::Shown(shown, table) => judge_shown(alloc, judged, report, place, shown, table),
-        Sight::GivenUp(stream) => {
-            judged.give_up(stream);
-            Ok(())
-        }
+        Sight::Shown(shown, table) => judge_shown(judged, report, place, shown, table),
+        Sight::GivenUp(stream) => judged.give_up(stream),
         Sight::Cut(name, cut) => judge_cut(judged, report, place, name, cut),
-        Sight::Settings(_) | Sight::HalfByte => Ok(()),
+        Sight::Settings(_) | Sight::HalfByte => {}
     }
 }
 
 /// Judges an instruction or a section.
 fn judge_shown(
-    alloc: Global,
     judged: &mut Judged,
     report: &mut Report,
     place: Place<'_>,
     shown: &Shown,
     table: &ReceivedTable,
-) -> Result<(), AllocError> {
+)
+    ensures { report.new.json ≡ report.old.json }
+{
     match shown {
         Shown::Applied { .. } => {
             judged.count_encoder();
-            Ok(())
         }
         Shown::NotApplied {
             offset,
             line,
             error,
-        } => {
-            let subject = Subject::Encoder(*offset, judged.count_encoder());
-            judged.is_broken = true;
-            let mut reason = String::new(alloc);
-            reasons::push_not_applied(&mut reason, line, error, table)?;
-            let rule = rule_of_instruction(*offset, line, error, table);
-            report.add(place, subject, reason.as_str(), rule)
-        }
+        } => judge_not_applied(judged, report, place, *offset, line, error, table),
         Shown::NoEncoderInstruction { offset, error } => {
-            let subject = Subject::Encoder(*offset, judged.count_encoder());
-            judged.is_broken = true;
-            judge_bytes(alloc, report, place, subject, Code::EncoderStream, *error)
+            judge_encoder_bytes(judged, report, place, *offset, *error)
         }
-        Shown::Told { line, .. } => {
-            judged.count_decoder();
-            if let DecoderLine::StreamCancel(StreamCancel(stream)) = line {
-                judged.give_up(*stream);
-            }
-            Ok(())
-        }
+        Shown::Told { line, .. } => judge_told(judged, line),
         Shown::NotTold {
             offset,
             line,
             fault,
-        } => judge_hearing(alloc, judged, report, place, (*offset, line, *fault), table),
+        } => judge_hearing(judged, report, place, *offset, line, *fault, table),
         Shown::NoDecoderInstruction { offset, error } => {
-            let subject = Subject::Decoder(*offset, judged.count_decoder());
-            judge_bytes(alloc, report, place, subject, Code::DecoderStream, *error)
+            judge_decoder_bytes(judged, report, place, *offset, *error)
         }
         Shown::Section {
             stream,
@@ -288,69 +359,145 @@ fn judge_shown(
             reading,
         } => {
             judged.count_section(*stream, *was_blocked);
-            judge_reading(alloc, judged, report, place, *stream, reading)
+            judge_reading(judged, report, place, *stream, reading);
         }
         Shown::BlockedUntil { stream, required } => {
-            judged.count_section(*stream, false);
-            judged.wait(place, *stream, *required)
+            judge_blocked(judged, report, place, *stream, *required)
         }
         Shown::TooManyBlocked { stream, required } => {
-            judged.count_section(*stream, false);
-            judge_too_many_blocked(alloc, judged, report, place, *stream, *required)
+            judge_too_many_blocked(judged, report, place, *stream, *required)
         }
     }
 }
 
+/// Judges an encoder instruction at an offset that the table refuses.
+fn judge_not_applied(
+    judged: &mut Judged,
+    report: &mut Report,
+    place: Place<'_>,
+    offset: usize,
+    line: &EncoderLine,
+    error: &DecoderError,
+    table: &ReceivedTable,
+)
+    ensures { report.new.json ≡ report.old.json }
+{
+    judged.is_broken = true;
+    report.begin(place, Subject::Encoder(offset, judged.count_encoder()));
+    reasons::push_not_applied(&mut report.text, line, error, table);
+    report.end(rule_of_instruction(offset, line, error, table));
+}
+
+/// Judges bytes of an encoder stream at an offset that are no instruction.
+fn judge_encoder_bytes(
+    judged: &mut Judged,
+    report: &mut Report,
+    place: Place<'_>,
+    offset: usize,
+    error: ParseError,
+)
+    ensures { report.new.json ≡ report.old.json }
+{
+    judged.is_broken = true;
+    let subject = Subject::Encoder(offset, judged.count_encoder());
+    judge_bytes(report, place, subject, Code::EncoderStream, error);
+}
+
+/// Judges bytes of a decoder stream at an offset that are no instruction.
+fn judge_decoder_bytes(
+    judged: &mut Judged,
+    report: &mut Report,
+    place: Place<'_>,
+    offset: usize,
+    error: ParseError,
+)
+    ensures { report.new.json ≡ report.old.json }
+{
+    let subject = Subject::Decoder(offset, judged.count_decoder());
+    judge_bytes(report, place, subject, Code::DecoderStream, error);
+}
+
 /// Judges bytes of a stream that are no instruction.
 fn judge_bytes(
-    alloc: Global,
     report: &mut Report,
     place: Place<'_>,
     subject: Subject,
     code: Code,
     error: ParseError,
-) -> Result<(), AllocError> {
-    let mut reason = String::new(alloc);
-    reasons::push_unreadable(&mut reason, error)?;
-    report.add(place, subject, reason.as_str(), rule_of_bytes(code, error))
+)
+    ensures { report.new.json ≡ report.old.json }
+{
+    report.begin(place, subject);
+    reasons::push_unreadable(&mut report.text, error);
+    report.end(rule_of_bytes(code, error));
+}
+
+/// Judges a decoder instruction that is not refused.
+fn judge_told(judged: &mut Judged, line: &DecoderLine) {
+    judged.count_decoder();
+    if let DecoderLine::StreamCancel(StreamCancel(stream)) = line {
+        judged.give_up(*stream);
+    }
 }
 
 /// Judges a decoder instruction at an offset that is refused for a fault.
 fn judge_hearing(
-    alloc: Global,
     judged: &mut Judged,
     report: &mut Report,
     place: Place<'_>,
-    (offset, line, fault): (usize, &DecoderLine, HearingFault),
+    offset: usize,
+    line: &DecoderLine,
+    fault: HearingFault,
     table: &ReceivedTable,
-) -> Result<(), AllocError> {
+)
+    ensures { report.new.json ≡ report.old.json }
+{
     let subject = Subject::Decoder(offset, judged.count_decoder());
     if follows(judged, fault) {
-        return Ok(());
+        return;
     }
-    let mut reason = String::new(alloc);
-    reasons::push_hearing(&mut reason, fault, table)?;
-    let rule = rule_of_hearing(offset, line, fault, had_section(judged, line));
-    report.add(place, subject, reason.as_str(), rule)
+    report.begin(place, subject);
+    reasons::push_hearing(&mut report.text, fault, table);
+    report.end(rule_of_hearing(offset, line, fault, had_section(judged, line)));
 }
 
-/// Judges a section that would be blocked if more streams might be.
-fn judge_too_many_blocked(
-    alloc: Global,
+/// Judges a section that is blocked.
+fn judge_blocked(
     judged: &mut Judged,
     report: &mut Report,
     place: Place<'_>,
     stream: u64,
     required: usize,
-) -> Result<(), AllocError> {
-    judged.referencing.push(stream)?;
+)
+    ensures { report.new.json ≡ report.old.json }
+{
+    judged.count_section(stream, false);
+    report.text.note(judged.wait(Waiting {
+        stream,
+        required,
+        line: place.line,
+        end: place.end,
+    }));
+}
+
+/// Judges a section that would be blocked if more streams might be.
+fn judge_too_many_blocked(
+    judged: &mut Judged,
+    report: &mut Report,
+    place: Place<'_>,
+    stream: u64,
+    required: usize,
+)
+    ensures { report.new.json ≡ report.old.json }
+{
+    judged.count_section(stream, false);
+    report.text.note(judged.refer(stream));
     if judged.is_broken {
-        return Ok(());
+        return;
     }
-    let mut reason = String::new(alloc);
-    reasons::push_too_many_blocked(&mut reason, required)?;
-    let subject = Subject::Section(stream, 0);
-    report.add(place, subject, reason.as_str(), findings::TOO_MANY_BLOCKED)
+    report.begin(place, Subject::Section(stream, 0));
+    reasons::push_too_many_blocked(&mut report.text, required);
+    report.end(findings::TOO_MANY_BLOCKED);
 }
 
 /// Returns whether a refusal follows from an encoder stream that was refused.
@@ -371,73 +518,81 @@ fn had_section(judged: &Judged, line: &DecoderLine) -> bool {
 
 /// Judges a section that was read.
 fn judge_reading(
-    alloc: Global,
     judged: &mut Judged,
     report: &mut Report,
     place: Place<'_>,
     stream: u64,
     reading: &Reading,
-) -> Result<(), AllocError> {
-    if reading.required() > 0 {
-        judged.referencing.push(stream)?;
+)
+    ensures { report.new.json ≡ report.old.json }
+{
+    let required = reading.required();
+    if required > 0 {
+        report.text.note(judged.refer(stream));
     }
-    let mut reason = String::new(alloc);
     match reading {
         Reading::Lines {
             stop: Some(stop),
             ..
-        } => {
-            reasons::push_line_fault(&mut reason, &stop.fault)?;
-            let subject = Subject::Section(stream, stop.offset);
-            let rule = rule_of_line(&stop.fault, reading.required());
-            report.add(place, subject, reason.as_str(), rule)
-        }
+        } => judge_stop(report, place, stream, required, stop),
         Reading::Refused(refusal) => {
-            reasons::push_prefix_refusal(&mut reason, refusal)?;
-            let subject = Subject::Section(stream, 0);
-            report.add(place, subject, reason.as_str(), rule_of_prefix(refusal))
+            report.begin(place, Subject::Section(stream, 0));
+            reasons::push_prefix_refusal(&mut report.text, refusal);
+            report.end(rule_of_prefix(refusal));
         }
-        _ => Ok(()),
+        _ => {}
     }
+}
+
+/// Judges the line at which a section with this required insert count ends early.
+fn judge_stop(report: &mut Report, place: Place<'_>, stream: u64, required: usize, stop: &Stop)
+    ensures { report.new.json ≡ report.old.json }
+{
+    report.begin(place, Subject::Section(stream, stop.offset));
+    reasons::push_line_fault(&mut report.text, &stop.fault);
+    report.end(rule_of_line(&stop.fault, required));
 }
 
 /// Judges what the end of the input cuts.
-fn judge_cut(
-    judged: &Judged,
-    report: &mut Report,
-    place: Place<'_>,
-    name: &str,
-    cut: Cut,
-) -> Result<(), AllocError> {
-    let subject = if name == "encoder" {
-        Subject::Encoder(cut.offset, judged.encoder_instructions.saturating_add(1))
-    } else if name == "decoder" {
-        Subject::Decoder(cut.offset, judged.decoder_instructions.saturating_add(1))
-    } else {
-        Subject::Record(cut.offset)
-    };
-    report.add(
-        place,
-        subject,
-        "cut at the end of the recording",
-        findings::CUT,
-    )
+fn judge_cut(judged: &Judged, report: &mut Report, place: Place<'_>, name: &str, cut: Cut)
+    ensures { report.new.json ≡ report.old.json }
+{
+    report.begin(place, subject_of_cut(judged, name, cut.offset));
+    report.text.push_str("cut at the end of the recording");
+    report.end(findings::CUT);
+}
+
+/// Returns what the end of the input cuts, at an offset: an instruction of a stream of this name, or a record.
+fn subject_of_cut(judged: &Judged, name: &str, offset: usize) -> Subject {
+    match name {
+        "encoder" => Subject::Encoder(offset, judged.encoder_instructions.saturating_add(1)),
+        "decoder" => Subject::Decoder(offset, judged.decoder_instructions.saturating_add(1)),
+        _ => Subject::Record(offset),
+    }
 }
 
 /// Judges sections that wait to the end. That is to be expected after an encoder stream that was rejected.
-fn judge_waiting(alloc: Global, judged: &Judged, report: &mut Report) -> Result<(), AllocError> {
+fn judge_waiting(judged: &Judged, report: &mut Report)
+    ensures { report.new.json ≡ report.old.json }
+{
     if judged.is_broken {
-        return Ok(());
+        return;
     }
     for waiting in &judged.waiting {
-        let place = Place {
-            line: waiting.line,
-            time: "",
-            end: waiting.end,
-        };
-        let reason = format!(in alloc; "blocked until insertion {} to the end", waiting.required)?;
-        let subject = Subject::Section(waiting.stream, 0);
-        report.add(place, subject, reason.as_str(), findings::NEVER_UNBLOCKED)?;
+        judge_wait(report, waiting);
     }
-    Ok(())
+}
+
+/// Judges a section that waits to the end.
+fn judge_wait(report: &mut Report, waiting: &Waiting)
+    ensures { report.new.json ≡ report.old.json }
+{
+    let place = Place {
+        line: waiting.line,
+        time: "",
+        end: waiting.end,
+    };
+    report.begin(place, Subject::Section(waiting.stream, 0));
+    report.text.push_between("blocked until insertion ", &waiting.required, " to the end");
+    report.end(findings::NEVER_UNBLOCKED);
 }

@@ -1,5 +1,8 @@
 //! Hexadecimal as people have it: in words, with colons, and with `0x` before a word.
 
+ghost use Rattle.std.specs.Prelude.{◌≡◌, IfErr};
+ghost use Rattle.qpk_view.specs.declared.fault.Fault.TheVariants.{Memory};
+
 use crate::fault::Fault;
 use hex::FromHexError;
 use std::alloc::Global;
@@ -13,7 +16,9 @@ pub(crate) struct Digits {
 
 /// Reads the bytes of words in hexadecimal; a byte may begin in one word and end in the next. Returns `None` if a word
 /// has anything except digits and colons after its `0x`.
-pub(crate) fn read_digits(alloc: Global, words: &[&str]) -> Result<Option<Digits>, Fault> {
+pub(crate) fn read_digits(alloc: Global, words: &[&str]) -> Result<Option<Digits>, Fault>
+    ensures { IfErr result (λ fault. fault ≡ Memory) }
+{
     let mut digits = Vec::new(alloc);
     for word in words {
         if !push_digits(&mut digits, without_mark(word.as_bytes()))? {
@@ -39,7 +44,9 @@ fn without_mark(word: &[u8]) -> &[u8] {
 }
 
 /// Appends the digits of a word. Returns false if it has anything except digits and colons.
-fn push_digits(digits: &mut Vec<u8>, word: &[u8]) -> Result<bool, Fault> {
+fn push_digits(digits: &mut Vec<u8>, word: &[u8]) -> Result<bool, Fault>
+    ensures { IfErr result (λ fault. fault ≡ Memory) }
+{
     for byte in word {
         if byte.is_ascii_hexdigit() {
             digits.push(*byte)?;

@@ -1,5 +1,9 @@
 //! The lines of a recording: what came on a connection, or what an end of it did.
 
+ghost use Rattle.std.specs.Prelude.{◌≡◌, IfErr};
+ghost use Rattle.qpk_view.specs.Faults.{IsFaultOfLine};
+ghost use Rattle.qpk_view.specs.declared.fault.Fault.TheVariants.{Memory};
+
 use crate::digits::read_digits;
 use crate::fault::Fault;
 use std::alloc::Global;
@@ -57,33 +61,42 @@ pub(crate) fn read_event<'a>(
     line: usize,
     text: &'a str,
     is_cut: bool,
-) -> Result<Option<Event<'a>>, Fault> {
+) -> Result<Option<Event<'a>>, Fault>
+    ensures { IfErr result IsFaultOfLine }
+{
     let words = words_of(alloc, text)?;
     if is_left_out(&words) {
         return Ok(None);
     }
-    let (time, rest) = split_time(alloc, line, &words)?;
+    Ok(Some(read_words(alloc, line, &words, is_cut)?))
+}
+
+/// Reads the words of a line of this number, whose end may be cut.
+fn read_words<'a>(
+    alloc: Global,
+    line: usize,
+    words: &[&'a str],
+    is_cut: bool,
+) -> Result<Event<'a>, Fault>
+    ensures { IfErr result IsFaultOfLine }
+{
+    let (time, rest) = split_time(alloc, line, words)?;
     let (end, name, rest) = split_end(rest);
-    let (act, has_half) = read_act(alloc, line, name, rest)?;
-    if has_half && !is_cut {
-        return Err(half_a_byte(alloc, line)?);
-    }
-    Ok(Some(Event {
+    let (act, has_half) = read_act(alloc, line, name, rest, is_cut)?;
+    Ok(Event {
         line,
         time,
         end,
         act,
         has_half,
-    }))
+    })
 }
 
-/// Returns the words of a line.
-fn words_of<'a>(alloc: Global, text: &'a str) -> Result<Vec<&'a str>, Fault> {
-    let mut words = Vec::new(alloc);
-    for word in text.split_whitespace() {
-        words.push(word)?;
-    }
-    Ok(words)
+/// Returns the words of a text.
+pub(crate) fn words_of<'a>(alloc: Global, text: &'a str) -> Result<Vec<&'a str>, Fault>
+    ensures { IfErr result (λ fault. fault ≡ Memory) }
+{
+    Ok(text.split_whitespace().collect(alloc)?)
 }
 
 /// Returns whether these words are none, or a comment.
@@ -99,18 +112,21 @@ fn split_time<'a, 'b>(
     alloc: Global,
     line: usize,
     words: &'b [&'a str],
-) -> Result<(&'a str, &'b [&'a str]), Fault> {
+) -> Result<(&'a str, &'b [&'a str]), Fault>
+    ensures { IfErr result IsFaultOfLine }
+{
     let Some((first, rest)) = words.split_first() else {
         return Ok(("", words));
     };
     match first.strip_prefix("@") {
         Some(time) if is_printed_as_it_is(time) => Ok((time, rest)),
-        Some(_) => Err(Fault::Input(format!(in alloc;
-            "line {line}: its time has a quotation mark, a backslash or a control character"
-        )?)),
+        Some(_) => Err(Fault::of_line(alloc, line, BAD_TIME)),
         None => Ok(("", words)),
     }
 }
+
+/// What is said of a time that is not printed as it is.
+const BAD_TIME: &str = "its time has a quotation mark, a backslash or a control character";
 
 /// Returns whether a string of JSON has this text without an escape, and a terminal shows it.
 fn is_printed_as_it_is(text: &str) -> bool {
@@ -149,48 +165,79 @@ fn split_name<'a, 'b>(words: &'b [&'a str]) -> (&'a str, &'b [&'a str]) {
     }
 }
 
-/// Reads what came, and whether half a byte is left.
-fn read_act(alloc: Global, line: usize, name: &str, rest: &[&str]) -> Result<(Act, bool), Fault> {
+/// Reads what came, whose end may be cut, and whether half a byte is left.
+fn read_act(
+    alloc: Global,
+    line: usize,
+    name: &str,
+    rest: &[&str],
+    is_cut: bool,
+) -> Result<(Act, bool), Fault>
+    ensures { IfErr result IsFaultOfLine }
+{
     match name {
-        "e" => read_encoder(alloc, line, rest),
-        "d" => read_decoder(alloc, line, rest),
-        "b" => read_section(alloc, line, rest),
+        "e" => read_encoder(alloc, line, rest, is_cut),
+        "d" => read_decoder(alloc, line, rest, is_cut),
+        "b" => read_section(alloc, line, rest, is_cut),
         "c" => read_given_up(alloc, line, rest),
         "s" => read_settings(alloc, line, rest),
-        _ => Err(Fault::Input(format!(in alloc;
-            "line {line}: \"{name}\" is not one of e, d, b, c and s"
-        )?)),
+        _ => Err(Fault::of_word(alloc, line, name, "is not one of e, d, b, c and s")),
     }
 }
 
 /// Reads bytes of the encoder stream.
-fn read_encoder(alloc: Global, line: usize, words: &[&str]) -> Result<(Act, bool), Fault> {
-    let (bytes, has_half) = read_bytes(alloc, line, words)?;
+fn read_encoder(
+    alloc: Global,
+    line: usize,
+    words: &[&str],
+    is_cut: bool,
+) -> Result<(Act, bool), Fault>
+    ensures { IfErr result IsFaultOfLine }
+{
+    let (bytes, has_half) = read_bytes(alloc, line, words, is_cut)?;
     Ok((Act::Encoder(bytes), has_half))
 }
 
 /// Reads bytes of the decoder stream.
-fn read_decoder(alloc: Global, line: usize, words: &[&str]) -> Result<(Act, bool), Fault> {
-    let (bytes, has_half) = read_bytes(alloc, line, words)?;
+fn read_decoder(
+    alloc: Global,
+    line: usize,
+    words: &[&str],
+    is_cut: bool,
+) -> Result<(Act, bool), Fault>
+    ensures { IfErr result IsFaultOfLine }
+{
+    let (bytes, has_half) = read_bytes(alloc, line, words, is_cut)?;
     Ok((Act::Decoder(bytes), has_half))
 }
 
 /// Reads a section and its stream.
-fn read_section(alloc: Global, line: usize, words: &[&str]) -> Result<(Act, bool), Fault> {
+fn read_section(
+    alloc: Global,
+    line: usize,
+    words: &[&str],
+    is_cut: bool,
+) -> Result<(Act, bool), Fault>
+    ensures { IfErr result IsFaultOfLine }
+{
     let (stream, rest) = split_number(alloc, line, words)?;
-    let (bytes, has_half) = read_bytes(alloc, line, rest)?;
+    let (bytes, has_half) = read_bytes(alloc, line, rest, is_cut)?;
     Ok((Act::Section(stream, bytes), has_half))
 }
 
 /// Reads a stream that is read no further.
-fn read_given_up(alloc: Global, line: usize, words: &[&str]) -> Result<(Act, bool), Fault> {
+fn read_given_up(alloc: Global, line: usize, words: &[&str]) -> Result<(Act, bool), Fault>
+    ensures { IfErr result IsFaultOfLine }
+{
     let (stream, rest) = split_number(alloc, line, words)?;
     no_more(alloc, line, rest)?;
     Ok((Act::GivenUp(stream), false))
 }
 
 /// Reads SETTINGS: the maximum capacity, and how many streams may be blocked.
-fn read_settings(alloc: Global, line: usize, words: &[&str]) -> Result<(Act, bool), Fault> {
+fn read_settings(alloc: Global, line: usize, words: &[&str]) -> Result<(Act, bool), Fault>
+    ensures { IfErr result IsFaultOfLine }
+{
     let (max_capacity, rest) = split_number(alloc, line, words)?;
     let (max_blocked, rest) = split_number(alloc, line, rest)?;
     no_more(alloc, line, rest)?;
@@ -206,35 +253,40 @@ fn split_number<'a, 'b>(
     alloc: Global,
     line: usize,
     words: &'b [&'a str],
-) -> Result<(u64, &'b [&'a str]), Fault> {
+) -> Result<(u64, &'b [&'a str]), Fault>
+    ensures { IfErr result IsFaultOfLine }
+{
     let (word, rest) = split_name(words);
     match word.parse::<u64>() {
         Ok(number) => Ok((number, rest)),
-        Err(_) => Err(Fault::Input(format!(in alloc;
-            "line {line}: \"{word}\" is not a whole number below 2^64"
-        )?)),
+        Err(_) => Err(Fault::of_word(alloc, line, word, "is not a whole number below 2^64")),
     }
 }
 
 /// Rejects words if there should be none.
-fn no_more(alloc: Global, line: usize, words: &[&str]) -> Result<(), Fault> {
+fn no_more(alloc: Global, line: usize, words: &[&str]) -> Result<(), Fault>
+    ensures { IfErr result IsFaultOfLine }
+{
     match words.first() {
         None => Ok(()),
-        Some(word) => Err(Fault::Input(format!(in alloc;
-            "line {line}: \"{word}\" is one word too many"
-        )?)),
+        Some(word) => Err(Fault::of_word(alloc, line, *word, "is one word too many")),
     }
 }
 
-/// Reads bytes in hexadecimal, and whether half a byte is left.
-fn read_bytes(alloc: Global, line: usize, words: &[&str]) -> Result<(Vec<u8>, bool), Fault> {
+/// Reads bytes in hexadecimal, whose end may be cut, and whether half a byte is left.
+fn read_bytes(
+    alloc: Global,
+    line: usize,
+    words: &[&str],
+    is_cut: bool,
+) -> Result<(Vec<u8>, bool), Fault>
+    ensures { IfErr result IsFaultOfLine }
+{
     match read_digits(alloc, words)? {
+        Some(digits) if digits.has_half && !is_cut => {
+            Err(Fault::of_line(alloc, line, "its last byte has one digit"))
+        }
         Some(digits) => Ok((digits.bytes, digits.has_half)),
-        None => Err(Fault::Input(format!(in alloc; "line {line}: its bytes are not hexadecimal")?)),
+        None => Err(Fault::of_line(alloc, line, "its bytes are not hexadecimal")),
     }
-}
-
-/// Returns the fault of half a byte within the input.
-fn half_a_byte(alloc: Global, line: usize) -> Result<Fault, Fault> {
-    Ok(Fault::Input(format!(in alloc; "line {line}: its last byte has one digit")?))
 }

@@ -1,11 +1,16 @@
 //! Bytes of QPACK, each with its bits and what they mean, without a connection (RFC 9204, sections 4.3 to 4.5).
 
+ghost use Rattle.std.specs.Prelude.{IfErr, IfOk, IsUtf8};
+ghost use Rattle.qpk_view.specs.Faults.{IsFaultOfDigits};
+
 use crate::bits::Rows;
 use crate::digits::read_digits;
+use crate::events::words_of;
 use crate::fault::Fault;
 use crate::fields::{push_field, push_name};
 use crate::reasons::push_unreadable;
 use crate::show::View;
+use crate::text::Text;
 use qpack_base::coding::Cursor;
 use qpack_base::parse_error::ParseError;
 use qpack_base::prefix_int;
@@ -14,7 +19,7 @@ use qpack_wire::block::{
     BlockLine, HeaderPrefix, Indexed, Literal, LiteralWithNameRef, is_never_indexed,
 };
 use qpack_wire::stream::{DecoderLine, EncoderLine, InsertWithNameRef, next_line};
-use std::alloc::{AllocError, Global};
+use std::alloc::Global;
 use std::str;
 
 /// What the bytes are.
@@ -38,172 +43,200 @@ pub struct ExplainOptions {
 }
 
 /// Explains bytes in hexadecimal: a row a byte. Fails if the text is not hexadecimal.
-pub fn explain(alloc: Global, options: ExplainOptions, text: &[u8]) -> Result<View, Fault> {
+pub fn explain(alloc: Global, options: ExplainOptions, text: &[u8]) -> Result<View, Fault>
+    ensures fault { IfErr result IsFaultOfDigits }
+    ensures text { IfOk result (λ _. IsUtf8 text.now) }
+{
     let bytes = read_text(alloc, text)?;
     let mut rows = Rows::new(alloc, &bytes);
-    let is_whole = match options.kind {
-        Kind::Section => explain_section(&mut rows, options.max_capacity)?,
-        Kind::EncoderStream => explain_encoder_stream(&mut rows)?,
-        Kind::DecoderStream => explain_decoder_stream(&mut rows)?,
-    };
-    Ok(View {
-        text: rows.text,
-        has_found: rows.has_fault || !is_whole,
-    })
+    match options.kind {
+        Kind::Section => explain_section(&mut rows, options.max_capacity),
+        Kind::EncoderStream => explain_encoder_stream(&mut rows),
+        Kind::DecoderStream => explain_decoder_stream(&mut rows),
+    }
+    View::new(rows.text, rows.has_fault)
 }
+
+/// What is said of a text that is not hexadecimal.
+const NO_DIGITS: &str = "the bytes are not hexadecimal";
+
+/// What is said of half a byte.
+const HALF_A_BYTE: &str = "the last byte has one digit";
 
 /// Reads the bytes of a text in hexadecimal.
-fn read_text(alloc: Global, text: &[u8]) -> Result<Vec<u8>, Fault> {
+#[tactic(auto, using(crate::proofs::Faults::no_digits_of_digits, crate::proofs::Faults::half_of_digits))]
+fn read_text(alloc: Global, text: &[u8]) -> Result<Vec<u8>, Fault>
+    ensures fault { IfErr result IsFaultOfDigits }
+    ensures text { IfOk result (λ _. IsUtf8 text.now) }
+{
     let Ok(text) = str::from_utf8(text) else {
-        return Err(no_digits(alloc)?);
+        return Err(Fault::in_words(alloc, NO_DIGITS));
     };
-    let mut words = Vec::new(alloc);
-    for word in text.split_whitespace() {
-        words.push(word)?;
-    }
+    let words = words_of(alloc, text)?;
     match read_digits(alloc, &words)? {
-        Some(digits) if digits.has_half => {
-            Err(Fault::Input(String::from_str(alloc, "the last byte has one digit")?))
-        }
+        Some(digits) if digits.has_half => { Err(Fault::in_words(alloc, HALF_A_BYTE)) }
         Some(digits) => Ok(digits.bytes),
-        None => Err(no_digits(alloc)?),
+        None => Err(Fault::in_words(alloc, NO_DIGITS)),
     }
 }
 
-/// Returns the fault of a text that is not hexadecimal.
-fn no_digits(alloc: Global) -> Result<Fault, Fault> {
-    Ok(Fault::Input(String::from_str(alloc, "the bytes are not hexadecimal")?))
-}
-
-/// Adds the rows of what can't be read, and returns that something can't.
-fn push_fault(rows: &mut Rows<'_>, error: ParseError) -> Result<bool, Fault> {
+/// Adds the rows of what can't be read.
+fn push_fault(rows: &mut Rows<'_>, error: ParseError) {
     if let ParseError::Memory = error {
-        return Err(Fault::Memory);
+        rows.text.lack_memory();
     }
-    let mut reason = String::from_str(rows.alloc, "not read: ")?;
-    push_unreadable(&mut reason, error)?;
-    rows.push_unread(reason.as_str())?;
-    Ok(false)
+    rows.begin_unread();
+    push_unreadable(&mut rows.text, error);
+    rows.end_unread();
 }
 
-/// Explains a section. Returns whether all of it can be read.
-fn explain_section(rows: &mut Rows<'_>, max_capacity: usize) -> Result<bool, Fault> {
-    let prefix = match HeaderPrefix::decode(&mut Cursor::new(rows.rest())) {
-        Ok(prefix) => prefix,
-        Err(e) => return push_fault(rows, e),
-    };
-    explain_prefix(rows, prefix.encoded_insert_count(), max_capacity)?;
+/// Adds the rows of an instruction that is cut.
+fn push_cut(rows: &mut Rows<'_>) {
+    rows.begin_unread();
+    rows.text.push_str("the bytes end within the instruction");
+    rows.end_unread();
+}
+
+/// Explains a section.
+fn explain_section(rows: &mut Rows<'_>, max_capacity: usize) {
+    match HeaderPrefix::decode(&mut Cursor::new(rows.rest())) {
+        Ok(prefix) => {
+            explain_count(rows, prefix.encoded_insert_count(), max_capacity);
+            explain_base(rows);
+            explain_lines(rows);
+        }
+        Err(e) => push_fault(rows, e),
+    }
+}
+
+/// Explains the lines of a section.
+fn explain_lines(rows: &mut Rows<'_>) {
     for _ in 0..u64::MAX {
         if rows.rest().is_empty() {
-            break;
+            return;
         }
-        match BlockLine::decode(rows.alloc, &mut Cursor::new(rows.rest())) {
-            Ok(line) => explain_line(rows, &line)?,
+        match BlockLine::decode(rows.text.allocator(), &mut Cursor::new(rows.rest())) {
+            Ok(line) => explain_line(rows, &line),
             Err(e) => return push_fault(rows, e),
         }
     }
-    Ok(true)
 }
 
-/// Explains a prefix with this encoded required insert count.
-fn explain_prefix(rows: &mut Rows<'_>, encoded: usize, max_capacity: usize) -> Result<(), Fault> {
-    let meaning = count_meaning(rows.alloc, encoded, max_capacity)?;
-    rows.push_integer(8, 0, meaning.as_str())?;
+/// Explains an encoded required insert count (RFC 9204, section 4.5.1.1).
+fn explain_count(rows: &mut Rows<'_>, encoded: usize, max_capacity: usize) {
+    let len = rows.begin_integer(8, 0);
+    push_count(&mut rows.text, encoded, max_capacity);
+    rows.end_integer(len);
+}
+
+/// Appends what an encoded required insert count means under a maximum capacity (RFC 9204, section 4.5.1.1).
+fn push_count(text: &mut Text, encoded: usize, max_capacity: usize) {
+    if encoded == 0 {
+        text.push_str("required insert count: 0, so no line references the dynamic table");
+        return;
+    }
+    let range = (max_capacity / 32).saturating_mul(2);
+    text.push_value("required insert count: encoded ", &encoded);
+    if encoded > range {
+        text.push_str(", which can't be");
+    } else {
+        text.push_value(", so ", &(encoded - 1));
+        text.push_between(", or more by a multiple of ", &range, ",");
+    }
+    text.push_value(" at maximum capacity ", &max_capacity);
+}
+
+/// Explains a base (RFC 9204, section 4.5.1.2).
+fn explain_base(rows: &mut Rows<'_>) {
     let (sign, delta) = match prefix_int::decode(7, &mut Cursor::new(rows.rest())) {
         Ok(read) => read,
         Err(_) => (0, 0),
     };
-    let meaning = if sign % 2 == 0 {
-        format!(in rows.alloc; "base: sign 0, delta {delta}: required insert count + {delta}")?
-    } else {
-        format!(in rows.alloc; "base: sign 1, delta {delta}: required insert count - {delta} - 1")?
-    };
-    rows.push_integer(7, 0b1000_0000, meaning.as_str())?;
-    Ok(())
+    let len = rows.begin_integer(7, 0b1000_0000);
+    push_base(&mut rows.text, sign % 2 == 1, delta);
+    rows.end_integer(len);
 }
 
-/// Returns what an encoded required insert count means under a maximum capacity (RFC 9204, section 4.5.1.1).
-fn count_meaning(alloc: Global, encoded: usize, max_capacity: usize) -> Result<String, Fault> {
-    let range = (max_capacity / 32).saturating_mul(2);
-    if encoded == 0 {
-        return Ok(String::from_str(
-            alloc,
-            "required insert count: 0, so no line references the dynamic table",
-        )?);
+/// Appends what a sign and a delta mean for the base.
+fn push_base(text: &mut Text, is_below: bool, delta: u64) {
+    if is_below {
+        text.push_value("base: sign 1, delta ", &delta);
+        text.push_between(": required insert count - ", &delta, " - 1");
+    } else {
+        text.push_value("base: sign 0, delta ", &delta);
+        text.push_value(": required insert count + ", &delta);
     }
-    if encoded > range {
-        return Ok(format!(in alloc;
-            "required insert count: encoded {encoded}, which can't be at maximum capacity {max_capacity}"
-        )?);
-    }
-    let least = encoded - 1;
-    Ok(format!(in alloc;
-        "required insert count: encoded {encoded}, so {least}, or more by a multiple of {range}, at maximum capacity {max_capacity}"
-    )?)
 }
 
 /// Explains a field line.
-fn explain_line(rows: &mut Rows<'_>, line: &BlockLine) -> Result<(), Fault> {
+fn explain_line(rows: &mut Rows<'_>, line: &BlockLine) {
     match line {
         BlockLine::Indexed(line) => explain_indexed(rows, line),
-        BlockLine::IndexedWithPostBase(line) => {
-            let meaning = post_base(rows.alloc, "indexed, ", line.0)?;
-            Ok(rows.push_integer(4, 0b0001_0000, meaning.as_str())?)
-        }
+        BlockLine::IndexedWithPostBase(line) => explain_indexed_with_post_base(rows, line.0),
         BlockLine::LiteralWithNameRef(line) => explain_literal_with_name_ref(rows, line),
         BlockLine::LiteralWithPostBaseNameRef(line) => {
-            let literal = literal(rows);
-            let meaning = post_base(rows.alloc, literal, line.index)?;
-            rows.push_integer(3, 0b0001_1000, meaning.as_str())?;
-            push_value(rows, &line.value)
+            explain_literal_with_post_base(rows, line.index, &line.value)
         }
         BlockLine::Literal(line) => explain_literal(rows, line),
     }
 }
 
 /// Explains an indexed field line.
-fn explain_indexed(rows: &mut Rows<'_>, line: &Indexed) -> Result<(), Fault> {
-    let meaning = match line {
-        Indexed::Static(index) => static_field(rows, *index)?,
-        Indexed::Dynamic(index) => dynamic(rows.alloc, "indexed, ", *index)?,
-    };
-    Ok(rows.push_integer(6, 0b1100_0000, meaning.as_str())?)
+fn explain_indexed(rows: &mut Rows<'_>, line: &Indexed) {
+    let len = rows.begin_integer(6, 0b1100_0000);
+    match line {
+        Indexed::Static(index) => push_static_field(rows, *index),
+        Indexed::Dynamic(index) => push_dynamic(&mut rows.text, "indexed, ", *index),
+    }
+    rows.end_integer(len);
+}
+
+/// Explains an indexed field line with a post-base index.
+fn explain_indexed_with_post_base(rows: &mut Rows<'_>, index: usize) {
+    let len = rows.begin_integer(4, 0b0001_0000);
+    push_post_base(&mut rows.text, "indexed, ", index);
+    rows.end_integer(len);
 }
 
 /// Explains a literal field line with a name reference.
-fn explain_literal_with_name_ref(
-    rows: &mut Rows<'_>,
-    line: &LiteralWithNameRef,
-) -> Result<(), Fault> {
+fn explain_literal_with_name_ref(rows: &mut Rows<'_>, line: &LiteralWithNameRef) {
     let literal = literal(rows);
+    let len = rows.begin_integer(4, 0b0111_0000);
     match line {
         LiteralWithNameRef::Static { index, value } => {
-            let meaning = static_name(rows, literal, *index)?;
-            rows.push_integer(4, 0b0111_0000, meaning.as_str())?;
-            push_value(rows, value)
+            push_static_name(rows, literal, *index);
+            push_value(rows, len, value);
         }
         LiteralWithNameRef::Dynamic { index, value } => {
-            let meaning = dynamic(rows.alloc, literal, *index)?;
-            rows.push_integer(4, 0b0111_0000, meaning.as_str())?;
-            push_value(rows, value)
+            push_dynamic(&mut rows.text, literal, *index);
+            push_value(rows, len, value);
         }
     }
 }
 
+/// Explains a literal field line with a post-base name reference.
+fn explain_literal_with_post_base(rows: &mut Rows<'_>, index: usize, value: &[u8]) {
+    let literal = literal(rows);
+    let len = rows.begin_integer(3, 0b0001_1000);
+    push_post_base(&mut rows.text, literal, index);
+    push_value(rows, len, value);
+}
+
 /// Explains a literal field line.
-fn explain_literal(rows: &mut Rows<'_>, line: &Literal) -> Result<(), Fault> {
+fn explain_literal(rows: &mut Rows<'_>, line: &Literal) {
     let name = if is_marked(rows) {
         "literal never indexed; name"
     } else {
         "literal; name"
     };
-    rows.push_string(4, 0b0011_1000, name, &line.name)?;
-    push_value(rows, &line.value)
+    rows.push_string(4, 0b0011_1000, name, &line.name);
+    rows.push_value(&line.value);
 }
 
-/// Adds the rows of a value.
-fn push_value(rows: &mut Rows<'_>, value: &[u8]) -> Result<(), Fault> {
-    rows.push_string(8, 0b1000_0000, "value", value)
+/// Ends the row of a name reference that has this many bytes, and adds the rows of a value.
+fn push_value(rows: &mut Rows<'_>, len: usize, value: &[u8]) {
+    rows.end_integer(len);
+    rows.push_value(value);
 }
 
 /// Returns whether the line that has the next row asks that its field stay a literal.
@@ -223,136 +256,154 @@ fn literal(rows: &Rows<'_>) -> &'static str {
     }
 }
 
-/// Returns what a relative index of a section means, after a text.
-fn dynamic(alloc: Global, before: &str, index: usize) -> Result<String, AllocError> {
-    format!(in alloc; "{before}dynamic {index}: entry base - {index}")
+/// Appends what a relative index of a section means, after a text.
+fn push_dynamic(text: &mut Text, front: &str, index: usize) {
+    text.push_str(front);
+    text.push_value("dynamic ", &index);
+    text.push_value(": entry base - ", &index);
 }
 
-/// Returns what a post-base index means, after a text.
-fn post_base(alloc: Global, before: &str, index: usize) -> Result<String, AllocError> {
-    format!(in alloc; "{before}post-base {index}: entry base + {index} + 1")
+/// Appends what a post-base index means, after a text.
+fn push_post_base(text: &mut Text, front: &str, index: usize) {
+    text.push_str(front);
+    text.push_value("post-base ", &index);
+    text.push_between(": entry base + ", &index, " + 1");
 }
 
-/// Returns what an index of the static table means in an indexed field line. An index past it is a fault.
-fn static_field(rows: &mut Rows<'_>, index: usize) -> Result<String, Fault> {
-    let mut text = format!(in rows.alloc; "indexed, static {index}: ")?;
+/// Appends what an index of the static table means in an indexed field line. An index past it is a fault.
+fn push_static_field(rows: &mut Rows<'_>, index: usize) {
+    rows.text.push_between("indexed, static ", &index, ": ");
     match StaticTable::get(index) {
-        Ok(field) => push_field(&mut text, &field)?,
-        Err(_) => push_past_static(rows, &mut text)?,
+        Ok(field) => push_field(&mut rows.text, &field),
+        Err(_) => push_past_static(rows),
     }
-    Ok(text)
 }
 
-/// Returns what an index of the static table that has the name means, after a text. An index past it is a fault.
-fn static_name(rows: &mut Rows<'_>, before: &str, index: usize) -> Result<String, Fault> {
-    let mut text = format!(in rows.alloc; "{before}static {index}: ")?;
+/// Appends what an index of the static table that has the name means, after a text. An index past it is a fault.
+fn push_static_name(rows: &mut Rows<'_>, front: &str, index: usize) {
+    rows.text.push_str(front);
+    rows.text.push_between("static ", &index, ": ");
     match StaticTable::get(index) {
-        Ok(field) => push_name(&mut text, &field)?,
-        Err(_) => push_past_static(rows, &mut text)?,
+        Ok(field) => push_name(&mut rows.text, &field),
+        Err(_) => push_past_static(rows),
     }
-    Ok(text)
 }
 
 /// Appends that no field of the static table has an index, and keeps that this is a fault.
-fn push_past_static(rows: &mut Rows<'_>, text: &mut String) -> Result<(), AllocError> {
+fn push_past_static(rows: &mut Rows<'_>) {
     rows.has_fault = true;
-    text.push_str("past the static table, which ends at 98")
+    rows.text
+        .push_str("past the static table, which ends at 98");
 }
 
-/// Explains bytes of an encoder stream. Returns whether all of them can be read.
-fn explain_encoder_stream(rows: &mut Rows<'_>) -> Result<bool, Fault> {
+/// Explains bytes of an encoder stream.
+fn explain_encoder_stream(rows: &mut Rows<'_>) {
     for _ in 0..u64::MAX {
         if rows.rest().is_empty() {
-            break;
+            return;
         }
-        match next_line::<EncoderLine>(rows.alloc, &mut Cursor::new(rows.rest())) {
-            Ok(Some(line)) => explain_instruction(rows, &line)?,
+        match next_line::<EncoderLine>(rows.text.allocator(), &mut Cursor::new(rows.rest())) {
+            Ok(Some(line)) => explain_instruction(rows, &line),
             Ok(None) => return push_cut(rows),
             Err(e) => return push_fault(rows, e),
         }
     }
-    Ok(true)
-}
-
-/// Adds the rows of an instruction that is cut, and returns that something can't be read.
-fn push_cut(rows: &mut Rows<'_>) -> Result<bool, Fault> {
-    rows.push_unread("not read: the bytes end within the instruction")?;
-    Ok(false)
 }
 
 /// Explains an encoder instruction.
-fn explain_instruction(rows: &mut Rows<'_>, line: &EncoderLine) -> Result<(), Fault> {
+fn explain_instruction(rows: &mut Rows<'_>, line: &EncoderLine) {
     match line {
-        EncoderLine::DynamicTableSizeUpdate(size) => {
-            let meaning = format!(in rows.alloc; "set capacity {}", size.0)?;
-            Ok(rows.push_integer(5, 0b0010_0000, meaning.as_str())?)
-        }
-        EncoderLine::Duplicate(index) => {
-            let meaning = newest(rows.alloc, "duplicate", index.0)?;
-            Ok(rows.push_integer(5, 0b0010_0000, meaning.as_str())?)
-        }
+        EncoderLine::DynamicTableSizeUpdate(size) => explain_capacity(rows, size.0),
+        EncoderLine::Duplicate(index) => explain_duplicate(rows, index.0),
         EncoderLine::InsertWithNameRef(line) => explain_insert(rows, line),
         EncoderLine::InsertWithoutNameRef(line) => {
-            rows.push_string(6, 0b0110_0000, "insert; name", &line.name)?;
-            push_value(rows, &line.value)
+            rows.push_string(6, 0b0110_0000, "insert; name", &line.name);
+            rows.push_value(&line.value);
         }
     }
+}
+
+/// Explains a change of the capacity.
+fn explain_capacity(rows: &mut Rows<'_>, size: usize) {
+    let len = rows.begin_integer(5, 0b0010_0000);
+    rows.text.push_value("set capacity ", &size);
+    rows.end_integer(len);
+}
+
+/// Explains a duplicate.
+fn explain_duplicate(rows: &mut Rows<'_>, index: usize) {
+    let len = rows.begin_integer(5, 0b0010_0000);
+    push_newest(&mut rows.text, "duplicate ", index);
+    rows.end_integer(len);
 }
 
 /// Explains an insertion with a name reference.
-fn explain_insert(rows: &mut Rows<'_>, line: &InsertWithNameRef) -> Result<(), Fault> {
+fn explain_insert(rows: &mut Rows<'_>, line: &InsertWithNameRef) {
+    let len = rows.begin_integer(6, 0b1100_0000);
     match line {
         InsertWithNameRef::Static { index, value } => {
-            let meaning = static_name(rows, "insert with the name of ", *index)?;
-            rows.push_integer(6, 0b1100_0000, meaning.as_str())?;
-            push_value(rows, value)
+            push_static_name(rows, "insert with the name of ", *index);
+            push_value(rows, len, value);
         }
         InsertWithNameRef::Dynamic { index, value } => {
-            let meaning = newest(rows.alloc, "insert with the name of dynamic", *index)?;
-            rows.push_integer(6, 0b1100_0000, meaning.as_str())?;
-            push_value(rows, value)
+            push_newest(&mut rows.text, "insert with the name of dynamic ", *index);
+            push_value(rows, len, value);
         }
     }
 }
 
-/// Returns which entry a relative index of an instruction references, after a text.
-fn newest(alloc: Global, before: &str, index: usize) -> Result<String, AllocError> {
+/// Appends which entry a relative index of an instruction references, after a text.
+fn push_newest(text: &mut Text, front: &str, index: usize) {
+    text.push_value(front, &index);
     if index == 0 {
-        return format!(in alloc; "{before} 0: the newest entry");
+        text.push_str(": the newest entry");
+    } else {
+        text.push_between(": the entry ", &index, " before the newest");
     }
-    format!(in alloc; "{before} {index}: the entry {index} before the newest")
 }
 
-/// Explains bytes of a decoder stream. Returns whether all of them can be read.
-fn explain_decoder_stream(rows: &mut Rows<'_>) -> Result<bool, Fault> {
+/// Explains bytes of a decoder stream.
+fn explain_decoder_stream(rows: &mut Rows<'_>) {
     for _ in 0..u64::MAX {
         if rows.rest().is_empty() {
-            break;
+            return;
         }
-        match next_line::<DecoderLine>(rows.alloc, &mut Cursor::new(rows.rest())) {
-            Ok(Some(line)) => explain_told(rows, &line)?,
+        match next_line::<DecoderLine>(rows.text.allocator(), &mut Cursor::new(rows.rest())) {
+            Ok(Some(line)) => explain_told(rows, &line),
             Ok(None) => return push_cut(rows),
             Err(e) => return push_fault(rows, e),
         }
     }
-    Ok(true)
 }
 
 /// Explains a decoder instruction.
-fn explain_told(rows: &mut Rows<'_>, line: &DecoderLine) -> Result<(), Fault> {
-    let alloc = rows.alloc;
+fn explain_told(rows: &mut Rows<'_>, line: &DecoderLine) {
     match line {
-        DecoderLine::HeaderAck(stream) => {
-            let meaning = format!(in alloc; "acknowledge a section of stream {}", stream.0)?;
-            Ok(rows.push_integer(7, 0b1000_0000, meaning.as_str())?)
-        }
-        DecoderLine::StreamCancel(stream) => {
-            let meaning = format!(in alloc; "cancel stream {}", stream.0)?;
-            Ok(rows.push_integer(6, 0b0100_0000, meaning.as_str())?)
-        }
-        DecoderLine::InsertCountIncrement(by) => {
-            let meaning = format!(in alloc; "{} more insertions were received", by.0)?;
-            Ok(rows.push_integer(6, 0b0100_0000, meaning.as_str())?)
-        }
+        DecoderLine::HeaderAck(stream) => explain_acknowledgment(rows, stream.0),
+        DecoderLine::StreamCancel(stream) => explain_cancellation(rows, stream.0),
+        DecoderLine::InsertCountIncrement(by) => explain_increment(rows, by.0),
     }
+}
+
+/// Explains an acknowledgment of a section.
+fn explain_acknowledgment(rows: &mut Rows<'_>, stream: u64) {
+    let len = rows.begin_integer(7, 0b1000_0000);
+    rows.text
+        .push_value("acknowledge a section of stream ", &stream);
+    rows.end_integer(len);
+}
+
+/// Explains a cancellation of a stream.
+fn explain_cancellation(rows: &mut Rows<'_>, stream: u64) {
+    let len = rows.begin_integer(6, 0b0100_0000);
+    rows.text.push_value("cancel stream ", &stream);
+    rows.end_integer(len);
+}
+
+/// Explains an increment.
+fn explain_increment(rows: &mut Rows<'_>, by: usize) {
+    let len = rows.begin_integer(6, 0b0100_0000);
+    rows.text
+        .push_between("", &by, " more insertions were received");
+    rows.end_integer(len);
 }

@@ -2,37 +2,46 @@
 //! printable character of ASCII, and in a name a blank too, is written as `\x` and two digits. So the first colon with
 //! a blank after it separates name and value.
 
+ghost use Rattle.qpk_view.specs.Texts.{Extends};
+
+use crate::text::Text;
 use qpack_base::field::HeaderField;
-use std::alloc::AllocError;
 
 /// Appends a field.
-pub(crate) fn push_field(text: &mut String, field: &HeaderField) -> Result<(), AllocError> {
-    push_name(text, field)?;
-    text.push_str(": ")?;
-    push_bytes(text, field.value.as_slice(), b' ')
+pub(crate) fn push_field(text: &mut Text, field: &HeaderField)
+    ensures { Extends text.old text.new }
+{
+    push_name(text, field);
+    text.push_str(": ");
+    push_bytes(text, field.value.as_slice(), b' ');
 }
 
 /// Appends the name of a field.
-pub(crate) fn push_name(text: &mut String, field: &HeaderField) -> Result<(), AllocError> {
-    push_bytes(text, field.name.as_slice(), b'!')
+pub(crate) fn push_name(text: &mut Text, field: &HeaderField)
+    ensures { Extends text.old text.new }
+{
+    push_bytes(text, field.name.as_slice(), b'!');
 }
 
 /// Appends bytes; those from `least` to the tilde, except the backslash, as they are.
-pub(crate) fn push_bytes(text: &mut String, bytes: &[u8], least: u8) -> Result<(), AllocError> {
+pub(crate) fn push_bytes(text: &mut Text, bytes: &[u8], least: u8)
+    ensures { Extends text.old text.new }
+{
     for byte in bytes {
-        push_byte(text, *byte, least)?;
+        push_byte(text, *byte, least);
     }
-    Ok(())
 }
 
 /// Appends a byte.
-fn push_byte(text: &mut String, byte: u8, least: u8) -> Result<(), AllocError> {
+fn push_byte(text: &mut Text, byte: u8, least: u8)
+    ensures { Extends text.old text.new }
+{
     if byte == b'\\' {
-        return text.push_str("\\\\");
+        text.push_str("\\\\");
+    } else if byte < least || byte > b'~' {
+        text.push_str("\\x");
+        text.push_digits(byte);
+    } else {
+        text.push(char::from(byte));
     }
-    if byte < least || byte > b'~' {
-        write!(text, "\\x{byte:02x}")?;
-        return Ok(());
-    }
-    text.push(char::from(byte))
 }

@@ -1,8 +1,13 @@
 //! A finding: where, what is wrong, the section of RFC 9204 that says so, the code that ends the connection, and a cause.
 
+ghost use Rattle.std.specs.Prelude.{false, true};
+ghost use Rattle.qpk_view.specs.Findings.{finding_front};
+ghost use Rattle.qpk_view.specs.Texts.{BeginsWith, Extends};
+
 use crate::causes;
 use crate::place::Place;
 use crate::reasons::{is_decoder_type, is_encoder_type};
+use crate::text::Text;
 use qpack_base::parse_error::ParseError;
 use qpack_base::{prefix_int, prefix_string};
 use qpack_codec::DecoderError;
@@ -10,7 +15,6 @@ use qpack_table::dynamic::{self, ReceivedTable};
 use qpack_wire::stream::{DecoderLine, EncoderLine};
 use qpk_show::awaited::HearingFault;
 use qpk_show::section::{LineFault, PrefixRefusal};
-use std::alloc::AllocError;
 
 /// What a finding is about.
 #[derive(Clone, Copy)]
@@ -196,93 +200,108 @@ fn cause_of_no_reference(required: usize) -> &'static str {
     }
 }
 
-/// Appends a finding as a line.
-pub(crate) fn push_finding(
-    text: &mut String,
-    place: Place<'_>,
-    subject: Subject,
-    reason: &str,
-    rule: Rule,
-) -> Result<(), AllocError> {
-    write!(text, "line {}: ", place.line)?;
-    place.push(text)?;
-    push_subject(text, subject)?;
-    write!(text, ": {reason} [RFC 9204, section {}", rule.section)?;
-    push_code(text, rule.code)?;
-    writeln!(text, "]; likely cause: {}", rule.cause)
+/// Appends the front of a finding as a line, before the reason.
+pub(crate) fn push_finding(text: &mut Text, place: Place<'_>, subject: Subject)
+    ensures { BeginsWith (finding_front false) text.old text.new }
+{
+    text.push_between("line ", &place.line, ": ");
+    place.push(text);
+    push_subject(text, subject);
+    text.push_str(": ");
 }
 
-/// Appends the code that ends the connection, if one does.
-fn push_code(text: &mut String, code: Code) -> Result<(), AllocError> {
-    match name_of(code) {
-        Some((code, name)) => write!(text, "; 0x{code:04x} {name}"),
-        None => Ok(()),
+/// Appends the end of a finding as a line.
+pub(crate) fn push_rule(text: &mut Text, rule: Rule)
+    ensures { Extends text.old text.new }
+{
+    text.push_str(" [RFC 9204, section ");
+    text.push_str(rule.section);
+    text.push_str(words_of(rule.code));
+    text.push_str("]; likely cause: ");
+    text.push_str(rule.cause);
+    text.push_str("\n");
+}
+
+/// Returns the words for the code that ends the connection, if one does.
+fn words_of(code: Code) -> &'static str {
+    match code {
+        Code::Decompression => "; 0x0200 QPACK_DECOMPRESSION_FAILED",
+        Code::EncoderStream => "; 0x0201 QPACK_ENCODER_STREAM_ERROR",
+        Code::DecoderStream => "; 0x0202 QPACK_DECODER_STREAM_ERROR",
+        Code::None => "",
     }
 }
 
 /// Appends what a finding is about.
-fn push_subject(text: &mut String, subject: Subject) -> Result<(), AllocError> {
+fn push_subject(text: &mut Text, subject: Subject)
+    ensures { Extends text.old text.new }
+{
     match subject {
         Subject::Encoder(offset, number) => {
-            write!(text, "encoder stream, byte {offset}, instruction {number}")
+            text.push_value("encoder stream, byte ", &offset);
+            text.push_value(", instruction ", &number);
         }
         Subject::Decoder(offset, number) => {
-            write!(text, "decoder stream, byte {offset}, instruction {number}")
+            text.push_value("decoder stream, byte ", &offset);
+            text.push_value(", instruction ", &number);
         }
-        Subject::Section(stream, offset) => write!(
-            text,
-            "section of stream {stream}, byte {offset}"
-        ),
-        Subject::Record(offset) => write!(text, "record at byte {offset}"),
+        Subject::Section(stream, offset) => {
+            text.push_value("section of stream ", &stream);
+            text.push_value(", byte ", &offset);
+        }
+        Subject::Record(offset) => text.push_value("record at byte ", &offset),
     }
 }
 
-/// Appends a finding as an object of JSON.
-pub(crate) fn push_finding_object(
-    text: &mut String,
-    place: Place<'_>,
-    subject: Subject,
-    reason: &str,
-    rule: Rule,
-) -> Result<(), AllocError> {
-    place.push_members(text)?;
-    push_subject_members(text, subject)?;
-    let section = rule.section;
-    write!(text, ",\"fault\":\"{reason}\",\"rfc9204\":\"{section}\"")?;
-    push_code_members(text, rule.code)?;
-    writeln!(text, ",\"cause\":\"{}\"}}", rule.cause)
+/// Appends the front of a finding as an object of JSON, before the reason.
+pub(crate) fn push_finding_object(text: &mut Text, place: Place<'_>, subject: Subject)
+    ensures { BeginsWith (finding_front true) text.old text.new }
+{
+    place.push_members(text);
+    push_subject_members(text, subject);
+    text.push_str(",\"fault\":\"");
+}
+
+/// Appends the end of a finding as an object of JSON.
+pub(crate) fn push_rule_members(text: &mut Text, rule: Rule)
+    ensures { Extends text.old text.new }
+{
+    text.push_str("\",\"rfc9204\":\"");
+    text.push_str(rule.section);
+    text.push_str("\"");
+    text.push_str(members_of(rule.code));
+    text.push_str(",\"cause\":\"");
+    text.push_str(rule.cause);
+    text.push_str("\"}\n");
+}
+
+/// Returns the members of the code that ends the connection, if one does.
+fn members_of(code: Code) -> &'static str {
+    match code {
+        Code::Decompression => ",\"code\":512,\"code_name\":\"QPACK_DECOMPRESSION_FAILED\"",
+        Code::EncoderStream => ",\"code\":513,\"code_name\":\"QPACK_ENCODER_STREAM_ERROR\"",
+        Code::DecoderStream => ",\"code\":514,\"code_name\":\"QPACK_DECODER_STREAM_ERROR\"",
+        Code::None => "",
+    }
 }
 
 /// Appends the members of what a finding is about.
-fn push_subject_members(text: &mut String, subject: Subject) -> Result<(), AllocError> {
+fn push_subject_members(text: &mut Text, subject: Subject)
+    ensures { Extends text.old text.new }
+{
     match subject {
         Subject::Encoder(offset, number) => {
-            write!(text, "\"encoder\":{offset},\"instruction_number\":{number}")
+            text.push_value("\"encoder\":", &offset);
+            text.push_value(",\"instruction_number\":", &number);
         }
         Subject::Decoder(offset, number) => {
-            write!(text, "\"decoder\":{offset},\"instruction_number\":{number}")
+            text.push_value("\"decoder\":", &offset);
+            text.push_value(",\"instruction_number\":", &number);
         }
         Subject::Section(stream, offset) => {
-            write!(text, "\"section\":{stream},\"offset\":{offset}")
+            text.push_value("\"section\":", &stream);
+            text.push_value(",\"offset\":", &offset);
         }
-        Subject::Record(offset) => write!(text, "\"record\":{offset}"),
-    }
-}
-
-/// Appends the members of the code that ends the connection, if one does.
-fn push_code_members(text: &mut String, code: Code) -> Result<(), AllocError> {
-    match name_of(code) {
-        Some((code, name)) => write!(text, ",\"code\":{code},\"code_name\":\"{name}\""),
-        None => Ok(()),
-    }
-}
-
-/// Returns a code and its name.
-fn name_of(code: Code) -> Option<(u64, &'static str)> {
-    match code {
-        Code::Decompression => Some((0x200, "QPACK_DECOMPRESSION_FAILED")),
-        Code::EncoderStream => Some((0x201, "QPACK_ENCODER_STREAM_ERROR")),
-        Code::DecoderStream => Some((0x202, "QPACK_DECODER_STREAM_ERROR")),
-        Code::None => None,
+        Subject::Record(offset) => text.push_value("\"record\":", &offset),
     }
 }

@@ -18,4 +18,5 @@ mod printing;
 mod reasons;
 mod recording;
 pub mod show;
+pub mod text;
 mod watch;

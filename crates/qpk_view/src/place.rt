@@ -1,7 +1,11 @@
 //! Where something came from: the line of the recording, its time, and the end that sent it.
 
+ghost use Rattle.std.specs.Prelude.{true};
+ghost use Rattle.qpk_view.specs.Findings.{finding_front};
+ghost use Rattle.qpk_view.specs.Texts.{BeginsWith, Extends};
+
 use crate::events::End;
-use std::alloc::AllocError;
+use crate::text::Text;
 
 /// Where something came from.
 #[derive(Clone, Copy)]
@@ -16,27 +20,34 @@ pub(crate) struct Place<'a> {
 
 impl Place<'_> {
     /// Appends the time and the mark of the end, if they are known.
-    pub(crate) fn push(&self, text: &mut String) -> Result<(), AllocError> {
+    pub(crate) fn push(&self, text: &mut Text)
+        ensures { Extends text.old text.new }
+    {
         if !self.time.is_empty() {
-            write!(text, "{} ", self.time)?;
+            text.push_str(self.time);
+            text.push_str(" ");
         }
-        match self.end {
-            Some(End::Client) => text.push_str("> "),
-            Some(End::Server) => text.push_str("< "),
-            None => Ok(()),
-        }
+        text.push_str(match self.end {
+            Some(End::Client) => "> ",
+            Some(End::Server) => "< ",
+            None => "",
+        });
     }
 
     /// Appends the first members of an object: the line, and the time and the end, if they are known.
-    pub(crate) fn push_members(&self, text: &mut String) -> Result<(), AllocError> {
-        write!(text, "{{\"line\":{},", self.line)?;
+    pub(crate) fn push_members(&self, text: &mut Text)
+        ensures { BeginsWith (finding_front true) text.old text.new }
+    {
+        text.push_between("{\"line\":", &self.line, ",");
         if !self.time.is_empty() {
-            write!(text, "\"time\":\"{}\",", self.time)?;
+            text.push_str("\"time\":\"");
+            text.push_str(self.time);
+            text.push_str("\",");
         }
-        match self.end {
-            Some(End::Client) => text.push_str("\"from\":\"client\","),
-            Some(End::Server) => text.push_str("\"from\":\"server\","),
-            None => Ok(()),
-        }
+        text.push_str(match self.end {
+            Some(End::Client) => "\"from\":\"client\",",
+            Some(End::Server) => "\"from\":\"server\",",
+            None => "",
+        });
     }
 }

@@ -1,6 +1,9 @@
 //! Why something is refused, in words.
 
+ghost use Rattle.qpk_view.specs.Texts.{Extends};
+
 use crate::entries::live_entries;
+use crate::text::Text;
 use qpack_base::parse_error::ParseError;
 use qpack_base::prefix_string::{self, HuffmanDecodingError};
 use qpack_codec::DecoderError;
@@ -10,29 +13,37 @@ use qpack_wire::stream::{
 };
 use qpk_show::awaited::HearingFault;
 use qpk_show::section::{LineFault, PrefixRefusal};
-use std::alloc::AllocError;
 
 /// Appends why an encoder instruction is refused; the table is as it was before it.
 pub(crate) fn push_not_applied(
-    text: &mut String,
+    text: &mut Text,
     line: &EncoderLine,
     error: &DecoderError,
     table: &ReceivedTable,
-) -> Result<(), AllocError> {
-    match (line, error) {
-        (EncoderLine::DynamicTableSizeUpdate(DynamicTableSizeUpdate(size)), _) => write!(
-            text,
-            "a capacity of {size} is above the maximum, {}",
-            table.agreed_max()
-        ),
-        (_, DecoderError::DynamicTable(dynamic::Error::MaxTableSizeReached)) => {
+)
+    ensures { Extends text.old text.new }
+{
+    if let EncoderLine::DynamicTableSizeUpdate(DynamicTableSizeUpdate(size)) = line {
+        push_above_maximum(text, *size, table);
+        return;
+    }
+    match error {
+        DecoderError::DynamicTable(dynamic::Error::MaxTableSizeReached) => {
             push_no_room(text, table)
         }
-        (_, DecoderError::DynamicTable(dynamic::Error::BadRelativeIndex(index))) => {
+        DecoderError::DynamicTable(dynamic::Error::BadRelativeIndex(index)) => {
             push_no_entry(text, *index, table)
         }
         _ => push_error(text, error),
     }
+}
+
+/// Appends that a capacity is above the maximum.
+fn push_above_maximum(text: &mut Text, size: usize, table: &ReceivedTable)
+    ensures { Extends text.old text.new }
+{
+    text.push_value("a capacity of ", &size);
+    text.push_value(" is above the maximum, ", &table.agreed_max());
 }
 
 /// Returns whether an encoder instruction at an offset is what the type of its stream, left in, would be.
@@ -50,90 +61,83 @@ pub(crate) fn is_decoder_type(offset: usize, line: &DecoderLine) -> bool {
 }
 
 /// Appends that the encoder stream may begin with its type, if its first instruction is what that would be.
-pub(crate) fn push_encoder_hint(
-    text: &mut String,
-    offset: usize,
-    line: &EncoderLine,
-) -> Result<(), AllocError> {
+pub(crate) fn push_encoder_hint(text: &mut Text, offset: usize, line: &EncoderLine)
+    ensures { Extends text.old text.new }
+{
     if is_encoder_type(offset, line) {
-        text.push_str("; does the stream begin with its type, the byte 0x02?")?;
+        text.push_str("; does the stream begin with its type, the byte 0x02?");
     }
-    Ok(())
 }
 
 /// Appends that the decoder stream may begin with its type, if its first instruction is what that would be.
-pub(crate) fn push_decoder_hint(
-    text: &mut String,
-    offset: usize,
-    line: &DecoderLine,
-) -> Result<(), AllocError> {
+pub(crate) fn push_decoder_hint(text: &mut Text, offset: usize, line: &DecoderLine)
+    ensures { Extends text.old text.new }
+{
     if is_decoder_type(offset, line) {
-        text.push_str("; does the stream begin with its type, the byte 0x03?")?;
+        text.push_str("; does the stream begin with its type, the byte 0x03?");
     }
-    Ok(())
 }
 
 /// Appends why there is no room for an insertion.
-fn push_no_room(text: &mut String, table: &ReceivedTable) -> Result<(), AllocError> {
-    if table.max_mem_size() > 0 {
-        return write!(
-            text,
-            "the entry is larger than the capacity, {}",
-            table.max_mem_size()
-        );
+fn push_no_room(text: &mut Text, table: &ReceivedTable)
+    ensures { Extends text.old text.new }
+{
+    let capacity = table.max_mem_size();
+    if capacity > 0 {
+        text.push_value("the entry is larger than the capacity, ", &capacity);
+        return;
     }
-    text.push_str("insertion while the capacity is 0")?;
+    text.push_str("insertion while the capacity is 0");
     if table.total_inserted() == 0 {
-        text.push_str(": no Set Dynamic Table Capacity came before it")?;
+        text.push_str(": no Set Dynamic Table Capacity came before it");
     }
-    Ok(())
 }
 
 /// Appends that a relative index of an instruction references no entry.
-fn push_no_entry(text: &mut String, index: usize, table: &ReceivedTable) -> Result<(), AllocError> {
-    let live = live_entries(table).count();
-    write!(
-        text,
-        "index {index} is past the table: live entries {live}, insertions {}",
-        table.total_inserted()
-    )
+fn push_no_entry(text: &mut Text, index: usize, table: &ReceivedTable)
+    ensures { Extends text.old text.new }
+{
+    text.push_value("index ", &index);
+    text.push_value(
+        " is past the table: live entries ",
+        &live_entries(table).count(),
+    );
+    text.push_value(", insertions ", &table.total_inserted());
 }
 
 /// Appends why a decoder instruction is refused; the table has had its insertions.
-pub(crate) fn push_hearing(
-    text: &mut String,
-    fault: HearingFault,
-    table: &ReceivedTable,
-) -> Result<(), AllocError> {
+pub(crate) fn push_hearing(text: &mut Text, fault: HearingFault, table: &ReceivedTable)
+    ensures { Extends text.old text.new }
+{
     match fault {
         HearingFault::ZeroIncrement => text.push_str("an increment of 0"),
-        HearingFault::PastInsertions(_) => write!(
-            text,
-            "it tells of more insertions than the {} that were made",
-            table.total_inserted()
+        HearingFault::PastInsertions(_) => text.push_between(
+            "it tells of more insertions than the ",
+            &table.total_inserted(),
+            " that were made",
         ),
-        HearingFault::UnknownStream(stream) => write!(
-            text,
-            "no section of stream {stream} waits for an acknowledgment"
+        HearingFault::UnknownStream(stream) => text.push_between(
+            "no section of stream ",
+            &stream,
+            " waits for an acknowledgment",
         ),
     }
 }
 
 /// Appends why bytes can't be read.
-pub(crate) fn push_unreadable(text: &mut String, error: ParseError) -> Result<(), AllocError> {
-    push_error(text, &DecoderError::from(error))
+pub(crate) fn push_unreadable(text: &mut Text, error: ParseError)
+    ensures { Extends text.old text.new }
+{
+    push_error(text, &DecoderError::from(error));
 }
 
 /// Appends why a section has no lines.
-pub(crate) fn push_prefix_refusal(
-    text: &mut String,
-    refusal: &PrefixRefusal,
-) -> Result<(), AllocError> {
+pub(crate) fn push_prefix_refusal(text: &mut Text, refusal: &PrefixRefusal)
+    ensures { Extends text.old text.new }
+{
     match refusal {
         PrefixRefusal::NoPrefix(e) => push_unreadable(text, *e),
-        PrefixRefusal::BadPrefix(ParseError::InvalidBase(base)) => {
-            write!(text, "the base is below 0: {base}")
-        }
+        PrefixRefusal::BadPrefix(ParseError::InvalidBase(base)) => push_bad_base(text, *base),
         PrefixRefusal::BadPrefix(_) => {
             text.push_str("no encoder could have written this required insert count")
         }
@@ -143,27 +147,41 @@ pub(crate) fn push_prefix_refusal(
     }
 }
 
+/// Appends that a base is below 0.
+fn push_bad_base(text: &mut Text, base: isize)
+    ensures { Extends text.old text.new }
+{
+    text.push_value("the base is below 0: ", &base);
+}
+
 /// Appends why a line of a section gives no field.
-pub(crate) fn push_line_fault(text: &mut String, fault: &LineFault) -> Result<(), AllocError> {
+pub(crate) fn push_line_fault(text: &mut Text, fault: &LineFault)
+    ensures { Extends text.old text.new }
+{
     match fault {
         LineFault::Unreadable(e) => push_unreadable(text, *e),
         LineFault::Meaningless(e) => push_error(text, e),
         LineFault::PastRequired(index) => {
-            write!(text, "entry {index} is past the required insert count")
+            text.push_between("entry ", index, " is past the required insert count")
         }
     }
 }
 
 /// Appends that a section would be blocked if more streams might be.
-pub(crate) fn push_too_many_blocked(text: &mut String, required: usize) -> Result<(), AllocError> {
-    write!(
-        text,
-        "it waits for insertion {required}, and no more streams may be blocked"
-    )
+pub(crate) fn push_too_many_blocked(text: &mut Text, required: usize)
+    ensures { Extends text.old text.new }
+{
+    text.push_between(
+        "it waits for insertion ",
+        &required,
+        ", and no more streams may be blocked",
+    );
 }
 
 /// Appends an error of bytes, or of what they reference.
-fn push_error(text: &mut String, error: &DecoderError) -> Result<(), AllocError> {
+fn push_error(text: &mut Text, error: &DecoderError)
+    ensures { Extends text.old text.new }
+{
     match error {
         DecoderError::InvalidInteger(qpack_base::prefix_int::Error::Overflow) => {
             text.push_str("an integer is too large")
@@ -171,45 +189,59 @@ fn push_error(text: &mut String, error: &DecoderError) -> Result<(), AllocError>
         DecoderError::InvalidInteger(qpack_base::prefix_int::Error::UnexpectedEnd)
         | DecoderError::UnexpectedEnd => text.push_str("the bytes end within an integer"),
         DecoderError::InvalidString(e) => push_string_error(text, e),
-        DecoderError::InvalidStaticIndex(index) => write!(
-            text,
-            "static index {index} is past the static table, which ends at 98"
+        DecoderError::InvalidStaticIndex(index) => text.push_between(
+            "static index ",
+            index,
+            " is past the static table, which ends at 98",
         ),
         DecoderError::DynamicTable(e) => push_table_error(text, e),
-        DecoderError::BadBaseIndex(base) => write!(text, "the base is below 0: {base}"),
-        e => write!(text, "{e}"),
+        DecoderError::BadBaseIndex(base) => push_bad_base(text, *base),
+        e => text.push_error(e),
     }
 }
 
 /// Appends why a string can't be read.
-fn push_string_error(text: &mut String, error: &prefix_string::Error) -> Result<(), AllocError> {
+fn push_string_error(text: &mut Text, error: &prefix_string::Error)
+    ensures { Extends text.old text.new }
+{
     match error {
         prefix_string::Error::UnexpectedEnd => text.push_str("the bytes end within a string"),
         prefix_string::Error::Integer(_) => text.push_str("the length of a string is too large"),
-        prefix_string::Error::HuffmanDecoding(HuffmanDecodingError::MissingBits(_)) => {
-            text.push_str("a Huffman-coded string ends in bits that are neither a code nor padding")
+        prefix_string::Error::HuffmanDecoding(e) => text.push_str(words_of_huffman(e)),
+        e => text.push_error(e),
+    }
+}
+
+/// Returns why a Huffman-coded string can't be read.
+fn words_of_huffman(error: &HuffmanDecodingError) -> &'static str {
+    match error {
+        HuffmanDecodingError::MissingBits(_) => {
+            "a Huffman-coded string ends in bits that are neither a code nor padding"
         }
-        prefix_string::Error::HuffmanDecoding(HuffmanDecodingError::Unhandled(_, _)) => {
-            text.push_str("a Huffman-coded string contains the code of EOS")
+        HuffmanDecodingError::Unhandled(_, _) => {
+            "a Huffman-coded string contains the code of EOS"
         }
-        e => write!(text, "{e}"),
     }
 }
 
 /// Appends why the dynamic table has no entry.
-fn push_table_error(text: &mut String, error: &dynamic::Error) -> Result<(), AllocError> {
+fn push_table_error(text: &mut Text, error: &dynamic::Error)
+    ensures { Extends text.old text.new }
+{
     match error {
-        dynamic::Error::BadRelativeIndex(index) => write!(
-            text,
-            "relative index {index} references an entry that is not in the table"
+        dynamic::Error::BadRelativeIndex(index) => text.push_between(
+            "relative index ",
+            index,
+            " references an entry that is not in the table",
         ),
-        dynamic::Error::BadPostbaseIndex(index) => write!(
-            text,
-            "post-base index {index} references an entry that is not in the table"
+        dynamic::Error::BadPostbaseIndex(index) => text.push_between(
+            "post-base index ",
+            index,
+            " references an entry that is not in the table",
         ),
         dynamic::Error::BadIndex(_) => {
             text.push_str("it references an entry that is not in the table")
         }
-        e => write!(text, "{e}"),
+        e => text.push_error(e),
     }
 }

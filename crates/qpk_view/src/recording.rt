@@ -1,5 +1,9 @@
 //! A whole recording: its lines, or its records in the format of the offline interop.
 
+ghost use Rattle.std.specs.Prelude.{◌≡◌, IfErr, IfOk, IsUtf8};
+ghost use Rattle.qpk_view.specs.Faults.{IsFaultOfLine, IsFaultOfRecording};
+ghost use Rattle.qpk_view.specs.declared.fault.Fault.TheVariants.{Memory};
+
 use crate::events::{Act, Event, read_event};
 use crate::fault::Fault;
 use qpk_qif::recording::{Record, split_record};
@@ -16,9 +20,13 @@ pub(crate) struct Recording<'a> {
 }
 
 /// Reads the lines of an input.
-pub(crate) fn read_lines<'a>(alloc: Global, input: &'a [u8]) -> Result<Recording<'a>, Fault> {
+#[tactic(auto, using(crate::proofs::Faults::no_text_of_recording, crate::proofs::Faults::line_of_recording))]
+pub(crate) fn read_lines<'a>(alloc: Global, input: &'a [u8]) -> Result<Recording<'a>, Fault>
+    ensures fault { IfErr result IsFaultOfRecording }
+    ensures text { IfOk result (λ _. IsUtf8 input.now) }
+{
     let Ok(text) = str::from_utf8(input) else {
-        return Err(Fault::Input(String::from_str(alloc, NO_TEXT)?));
+        return Err(Fault::in_words(alloc, NO_TEXT));
     };
     let is_whole = input.ends_with(b"\n");
     let last = text.lines().count();
@@ -39,24 +47,28 @@ pub(crate) fn read_lines<'a>(alloc: Global, input: &'a [u8]) -> Result<Recording
 const NO_TEXT: &str =
     "the input is no text; --qif reads a recording of the offline interop, and --keys KEYLOG a capture";
 
+/// What is said of a line that has the mark of an end, or none, unlike the first.
+const MIXED_MARKS: &str = "either all lines begin with > or <, or none";
+
 /// Rejects a recording in which some lines say which end they are of, and others do not.
-fn hold_marks(alloc: Global, events: &[Event]) -> Result<(), Fault> {
+fn hold_marks(alloc: Global, events: &[Event]) -> Result<(), Fault>
+    ensures { IfErr result IsFaultOfLine }
+{
     let Some(first) = events.first() else {
         return Ok(());
     };
     for event in events {
         if event.end.is_some() != first.end.is_some() {
-            return Err(Fault::Input(format!(in alloc;
-                "line {}: either all lines begin with > or <, or none",
-                event.line
-            )?));
+            return Err(Fault::of_line(alloc, event.line, MIXED_MARKS));
         }
     }
     Ok(())
 }
 
 /// Reads the records of an input. Stream 0 is the encoder stream, and any other record is a section.
-pub(crate) fn read_records<'a>(alloc: Global, input: &[u8]) -> Result<Recording<'a>, Fault> {
+pub(crate) fn read_records<'a>(alloc: Global, input: &[u8]) -> Result<Recording<'a>, Fault>
+    ensures { IfErr result (λ fault. fault ≡ Memory) }
+{
     let mut events = Vec::new(alloc);
     let mut rest = input;
     let mut number = 0usize;
@@ -79,7 +91,9 @@ pub(crate) fn read_records<'a>(alloc: Global, input: &[u8]) -> Result<Recording<
 }
 
 /// Returns what a record is.
-fn event_of<'a>(alloc: Global, line: usize, record: &Record) -> Result<Event<'a>, Fault> {
+fn event_of<'a>(alloc: Global, line: usize, record: &Record) -> Result<Event<'a>, Fault>
+    ensures { IfErr result (λ fault. fault ≡ Memory) }
+{
     let bytes = Vec::from_slice(alloc, record.bytes)?;
     let act = match record.stream {
         0 => Act::Encoder(bytes),

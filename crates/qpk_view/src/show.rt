@@ -1,15 +1,20 @@
 //! A recorded connection, shown: what each instruction and each line is, where it begins, and what it means (RFC 9204).
 
+ghost use Rattle.std.specs.Prelude.{◌≡◌, false, IfErr, IfOk, IsUtf8, string_bytes};
+ghost use Rattle.qpk_view.specs.Faults.{IsFaultOfRecording};
+ghost use Rattle.qpk_view.specs.declared.fault.Fault.TheVariants.{Memory};
+
 use crate::events::{End, Settings};
 use crate::fault::Fault;
 use crate::json::push_object;
 use crate::place::Place;
 use crate::printing::push_sight;
 use crate::recording::{Recording, read_lines, read_records};
+use crate::text::Text;
 use crate::watch::{Sight, Watcher, watch};
 use qpk_show::section::Reading;
 use qpk_show::shown::Shown;
-use std::alloc::{AllocError, Global};
+use std::alloc::Global;
 
 /// How a recording is read, and what is printed of it.
 #[derive(Clone, Copy)]
@@ -33,20 +38,34 @@ pub struct View {
     pub has_found: bool,
 }
 
+impl View {
+    /// Returns what is printed. Fails if memory for some of it was refused.
+    pub(crate) fn new(text: Text, has_found: bool) -> Result<View, Fault>
+        ensures text { IfOk result (λ view. (text.lacks_memory ≡ false) × (string_bytes view.text ≡ text.bytes)) }
+        ensures found { IfOk result (λ view. view.has_found ≡ has_found) }
+        ensures memory { IfErr result (λ fault. fault ≡ Memory) }
+    {
+        match text.finish() {
+            Ok(text) => Ok(View { text, has_found }),
+            Err(_) => Err(Fault::Memory),
+        }
+    }
+}
+
 /// Shows a recording in its order, and what its end cuts. Fails if the maximum capacity is 2^30 or more, or if the
 /// input is no recording.
-pub fn show(alloc: Global, options: ShowOptions, input: &[u8]) -> Result<View, Fault> {
+pub fn show(alloc: Global, options: ShowOptions, input: &[u8]) -> Result<View, Fault>
+    ensures fault { IfErr result IsFaultOfRecording }
+    ensures text { options.qif ≡ false → IfOk result (λ _. IsUtf8 input.now) }
+{
     let recording = read_recording(alloc, options.qif, input)?;
     let mut screen = Screen {
-        alloc,
         options,
-        view: View {
-            text: String::new(alloc),
-            has_found: false,
-        },
+        text: Text::new(alloc),
+        has_found: false,
     };
     watch(alloc, &recording, options.settings, &mut screen)?;
-    Ok(screen.view)
+    View::new(screen.text, screen.has_found)
 }
 
 /// Reads an input: records of the offline interop, or lines.
@@ -54,7 +73,10 @@ pub(crate) fn read_recording<'a>(
     alloc: Global,
     is_qif: bool,
     input: &'a [u8],
-) -> Result<Recording<'a>, Fault> {
+) -> Result<Recording<'a>, Fault>
+    ensures fault { IfErr result IsFaultOfRecording }
+    ensures text { is_qif ≡ false → IfOk result (λ _. IsUtf8 input.now) }
+{
     if is_qif {
         return read_records(alloc, input);
     }
@@ -64,31 +86,24 @@ pub(crate) fn read_recording<'a>(
 /// What was printed so far.
 #[derive(Drop)]
 struct Screen {
-    alloc: Global,
     options: ShowOptions,
-    view: View,
+    text: Text,
+    has_found: bool,
 }
 
 impl Watcher for Screen {
-    fn see(&mut self, place: Place<'_>, _encoder: End, sight: Sight<'_>) -> Result<(), Fault> {
-        if let Sight::Shown(shown, _) = sight {
-            if is_refused(shown) {
-                self.view.has_found = true;
-            }
-        }
-        self.print(place, sight)?;
-        Ok(())
-    }
-}
+    ghost json = { λ screen. screen.options.json };
 
-impl Screen {
-    /// Prints one thing, and the table after it, if that is asked for.
-    fn print(&mut self, place: Place<'_>, sight: Sight<'_>) -> Result<(), AllocError> {
+    fn see(&mut self, place: Place<'_>, _encoder: End, sight: Sight<'_>) {
+        if let Sight::Shown(shown, _) = sight {
+            self.has_found = self.has_found || is_refused(shown);
+        }
         let table = self.options.table;
         if self.options.json {
-            return push_object(self.alloc, &mut self.view.text, place, sight, table);
+            push_object(&mut self.text, place, sight, table);
+        } else {
+            push_sight(&mut self.text, place, sight, table);
         }
-        push_sight(&mut self.view.text, place, sight, table)
     }
 }
 

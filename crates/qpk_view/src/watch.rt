@@ -1,14 +1,19 @@
 //! A recording in its order: two onlookers, one for each encoder, and a watcher of what they see.
 
+ghost use Rattle.std.specs.Prelude.{◌≡◌, Bool, IfErr};
+ghost use Rattle.qpk_view.specs.Faults.{IsFaultOfLine, IsFaultOfRecording};
+ghost use Rattle.qpk_view.specs.declared.fault.Fault.TheVariants.{Capacity};
+
 use crate::events::{Act, End, Event, Settings};
 use crate::fault::Fault;
 use crate::place::Place;
 use crate::recording::Recording;
+use qpack_base::coding::NoMemory;
 use qpack_table::dynamic::ReceivedTable;
 use qpk_show::observer::Observer;
 use qpk_show::shown::Shown;
 use qpk_show::stream::Cut;
-use std::alloc::Global;
+use std::alloc::{AllocError, Global};
 
 /// What is seen.
 #[derive(Clone, Copy)]
@@ -27,8 +32,12 @@ pub(crate) enum Sight<'a> {
 
 /// A watcher of what onlookers see.
 pub(crate) trait Watcher {
+    // Whether it prints objects of JSON.
+    ghost json: { Self → Bool };
+
     /// Sees one thing. The encoder whose fields it is about is that of an end.
-    fn see(&mut self, place: Place<'_>, encoder: End, sight: Sight<'_>) -> Result<(), Fault>;
+    fn see(&mut self, place: Place<'_>, encoder: End, sight: Sight<'_>)
+        ensures { json self.new ≡ json self.old };
 }
 
 /// Shows a recording. The limits are those of its SETTINGS, or else the given ones.
@@ -37,17 +46,24 @@ pub(crate) fn watch<W: Watcher>(
     recording: &Recording<'_>,
     settings: Settings,
     watcher: &mut W,
-) -> Result<(), Fault> {
+) -> Result<(), Fault>
+    ensures json { W.json watcher.new ≡ W.json watcher.old }
+    ensures fault { IfErr result IsFaultOfRecording }
+{
     let mut onlookers = onlookers_of(alloc, recording, settings)?;
-    onlookers.show(recording, watcher)
+    onlookers.show(recording, watcher)?;
+    Ok(())
 }
 
 /// Returns onlookers to whom nothing came, of the encoders of a recording.
+#[tactic(auto, using(crate::proofs::Faults::line_of_recording))]
 fn onlookers_of(
     alloc: Global,
     recording: &Recording<'_>,
     settings: Settings,
-) -> Result<Onlookers, Fault> {
+) -> Result<Onlookers, Fault>
+    ensures { IfErr result IsFaultOfRecording }
+{
     let client = settings_for(alloc, recording, End::Client)?.unwrap_or(settings);
     let server = settings_for(alloc, recording, End::Server)?.unwrap_or(settings);
     let client = onlooker(alloc, client)?;
@@ -55,21 +71,23 @@ fn onlookers_of(
     Ok(Onlookers { client, server })
 }
 
+/// What is said of a line with SETTINGS that an end has sent before.
+const TWO_SETTINGS: &str = "SETTINGS come once from each end";
+
 /// Returns the SETTINGS that limit the encoder of an end, if the recording has them. Rejects a second one.
 fn settings_for(
     alloc: Global,
     recording: &Recording<'_>,
     encoder: End,
-) -> Result<Option<Settings>, Fault> {
+) -> Result<Option<Settings>, Fault>
+    ensures { IfErr result IsFaultOfLine }
+{
     let mut found = None;
     for event in &recording.events {
         if let Act::Settings(settings) = &event.act {
             if encoder_of(event) == encoder {
                 if found.is_some() {
-                    return Err(Fault::Input(format!(in alloc;
-                        "line {}: SETTINGS come once from each end",
-                        event.line
-                    )?));
+                    return Err(Fault::of_line(alloc, event.line, TWO_SETTINGS));
                 }
                 found = Some(*settings);
             }
@@ -79,7 +97,9 @@ fn settings_for(
 }
 
 /// Returns an onlooker to whom nothing came.
-fn onlooker(alloc: Global, settings: Settings) -> Result<Observer, Fault> {
+fn onlooker(alloc: Global, settings: Settings) -> Result<Observer, Fault>
+    ensures { IfErr result (λ fault. fault ≡ Capacity) }
+{
     match Observer::new(alloc, settings.max_capacity, settings.max_blocked) {
         Some(observer) => Ok(observer),
         None => Err(Fault::Capacity),
@@ -128,15 +148,20 @@ impl Onlookers {
         &mut self,
         recording: &Recording<'_>,
         watcher: &mut W,
-    ) -> Result<(), Fault> {
+    ) -> Result<(), NoMemory>
+        ensures { W.json watcher.new ≡ W.json watcher.old }
+    {
         for event in &recording.events {
             self.take(event, watcher)?;
         }
-        self.end(recording, watcher)
+        self.end(recording, watcher);
+        Ok(())
     }
 
     /// Takes an event, and shows all that can be by now.
-    fn take<W: Watcher>(&mut self, event: &Event<'_>, watcher: &mut W) -> Result<(), Fault> {
+    fn take<W: Watcher>(&mut self, event: &Event<'_>, watcher: &mut W) -> Result<(), NoMemory>
+        ensures { W.json watcher.new ≡ W.json watcher.old }
+    {
         match encoder_of(event) {
             End::Client => take_by(&mut self.client, event, End::Client, watcher),
             End::Server => take_by(&mut self.server, event, End::Server, watcher),
@@ -144,14 +169,15 @@ impl Onlookers {
     }
 
     /// Shows what the end of the input cuts.
-    fn end<W: Watcher>(&self, recording: &Recording<'_>, watcher: &mut W) -> Result<(), Fault> {
-        let Some(last) = recording.events.last() else {
-            return see_cut_record(recording, watcher);
-        };
-        let is_marked = last.end.is_some();
-        show_cuts(&self.client, last.line, End::Client, is_marked, watcher)?;
-        show_cuts(&self.server, last.line, End::Server, is_marked, watcher)?;
-        see_cut_record(recording, watcher)
+    fn end<W: Watcher>(&self, recording: &Recording<'_>, watcher: &mut W)
+        ensures { W.json watcher.new ≡ W.json watcher.old }
+    {
+        if let Some(last) = recording.events.last() {
+            let is_marked = last.end.is_some();
+            show_cuts(&self.client, last.line, End::Client, is_marked, watcher);
+            show_cuts(&self.server, last.line, End::Server, is_marked, watcher);
+        }
+        see_cut_record(recording, watcher);
     }
 }
 
@@ -161,29 +187,46 @@ fn take_by<W: Watcher>(
     event: &Event<'_>,
     encoder: End,
     watcher: &mut W,
-) -> Result<(), Fault> {
+) -> Result<(), NoMemory>
+    ensures { W.json watcher.new ≡ W.json watcher.old }
+{
     let place = Place {
         line: event.line,
         time: event.time,
         end: event.end,
     };
-    match &event.act {
-        Act::Encoder(bytes) => observer.receive_encoder(bytes)?,
-        Act::Decoder(bytes) => observer.receive_decoder(bytes)?,
-        Act::Section(stream, bytes) => observer.receive_section(*stream, bytes)?,
-        Act::GivenUp(stream) => {
-            observer.cancel(*stream);
-            watcher.see(place, encoder, Sight::GivenUp(*stream))?;
-        }
-        Act::Settings(settings) => {
-            watcher.see(place, encoder, Sight::Settings(*settings))?;
-        }
-    }
+    see_act(&event.act, place, encoder, watcher);
+    receive(observer, &event.act)?;
     show_all(observer, place, encoder, watcher)?;
     if event.has_half {
-        watcher.see(place, encoder, Sight::HalfByte)?;
+        watcher.see(place, encoder, Sight::HalfByte);
     }
     Ok(())
+}
+
+/// Shows SETTINGS, or that a stream is read no further.
+fn see_act<W: Watcher>(act: &Act, place: Place<'_>, encoder: End, watcher: &mut W)
+    ensures { W.json watcher.new ≡ W.json watcher.old }
+{
+    match act {
+        Act::GivenUp(stream) => watcher.see(place, encoder, Sight::GivenUp(*stream)),
+        Act::Settings(settings) => watcher.see(place, encoder, Sight::Settings(*settings)),
+        _ => {}
+    }
+}
+
+/// Passes an onlooker what came, or that a stream is read no further.
+fn receive(observer: &mut Observer, act: &Act) -> Result<(), AllocError> {
+    match act {
+        Act::Encoder(bytes) => observer.receive_encoder(bytes),
+        Act::Decoder(bytes) => observer.receive_decoder(bytes),
+        Act::Section(stream, bytes) => observer.receive_section(*stream, bytes),
+        Act::GivenUp(stream) => {
+            observer.cancel(*stream);
+            Ok(())
+        }
+        Act::Settings(_) => Ok(()),
+    }
 }
 
 /// Shows all that an onlooker can show by now.
@@ -192,12 +235,14 @@ fn show_all<W: Watcher>(
     place: Place<'_>,
     encoder: End,
     watcher: &mut W,
-) -> Result<(), Fault> {
+) -> Result<(), NoMemory>
+    ensures { W.json watcher.new ≡ W.json watcher.old }
+{
     for _ in 0..u64::MAX {
         let Some(shown) = observer.next()? else {
             break;
         };
-        see_shown(&shown, observer.table(), place, encoder, watcher)?;
+        see_shown(&shown, observer.table(), place, encoder, watcher);
     }
     Ok(())
 }
@@ -209,7 +254,9 @@ fn see_shown<W: Watcher>(
     place: Place<'_>,
     encoder: End,
     watcher: &mut W,
-) -> Result<(), Fault> {
+)
+    ensures { W.json watcher.new ≡ W.json watcher.old }
+{
     let end = match place.end {
         Some(_) => Some(sender_of(shown, encoder)),
         None => None,
@@ -219,7 +266,7 @@ fn see_shown<W: Watcher>(
         time: place.time,
         end,
     };
-    watcher.see(place, encoder, Sight::Shown(shown, table))
+    watcher.see(place, encoder, Sight::Shown(shown, table));
 }
 
 /// Shows which instructions an end cuts, after the line of this number.
@@ -229,16 +276,17 @@ fn show_cuts<W: Watcher>(
     encoder: End,
     is_marked: bool,
     watcher: &mut W,
-) -> Result<(), Fault> {
+)
+    ensures { W.json watcher.new ≡ W.json watcher.old }
+{
     if let Some(cut) = observer.encoder_cut() {
         let place = place_at_end(line, encoder, is_marked);
-        watcher.see(place, encoder, Sight::Cut("encoder", cut))?;
+        watcher.see(place, encoder, Sight::Cut("encoder", cut));
     }
     if let Some(cut) = observer.decoder_cut() {
         let place = place_at_end(line, other(encoder), is_marked);
-        watcher.see(place, encoder, Sight::Cut("decoder", cut))?;
+        watcher.see(place, encoder, Sight::Cut("decoder", cut));
     }
-    Ok(())
 }
 
 /// Returns the place of what an end sent, after the last line.
@@ -252,11 +300,12 @@ fn place_at_end(line: usize, end: End, is_marked: bool) -> Place<'static> {
 }
 
 /// Shows the record that the end of the input cuts, if one is.
-fn see_cut_record<W: Watcher>(recording: &Recording<'_>, watcher: &mut W) -> Result<(), Fault> {
-    let Some(cut) = recording.cut else {
-        return Ok(());
-    };
-    let line = recording.events.len().saturating_add(1);
-    let place = place_at_end(line, End::Client, false);
-    watcher.see(place, End::Client, Sight::Cut("record", cut))
+fn see_cut_record<W: Watcher>(recording: &Recording<'_>, watcher: &mut W)
+    ensures { W.json watcher.new ≡ W.json watcher.old }
+{
+    if let Some(cut) = recording.cut {
+        let line = recording.events.len().saturating_add(1);
+        let place = place_at_end(line, End::Client, false);
+        watcher.see(place, End::Client, Sight::Cut("record", cut));
+    }
 }
