@@ -5,16 +5,13 @@
 
 #include <stdlib.h>
 
-/* A field that version 0.n adds to settings is read and written only if the caller's version is 0.n or later: an older
+/* A field that version 1.n adds to settings is read and written only if the caller's version is 1.n or later: an older
  * caller's struct ends before it, and the field has its default. */
-
-/* The first version with these settings, 0.2. */
-#define FIRST_VERSION 2
 
 /* Whether a caller that was compiled with the header of a version may use this library. */
 static int is_supported(uint32_t version) {
   uint32_t ours = h3q_version();
-  return version >> 16 == ours >> 16 && version >= FIRST_VERSION && version <= ours;
+  return version >> 16 == ours >> 16 && version <= ours;
 }
 
 static int fits_size(uint64_t value) { return (size_t)value == value; }

@@ -60,9 +60,9 @@ extern "C" {
 
 /* ---- Version */
 
-/* The version of this header. A breaking change raises the major number, an addition the minor one. 0.2 is the first. */
-#define H3_QPACK_VERSION_MAJOR 0
-#define H3_QPACK_VERSION_MINOR 2
+/* The version of this header. A breaking change raises the major number, an addition the minor one. */
+#define H3_QPACK_VERSION_MAJOR 1
+#define H3_QPACK_VERSION_MINOR 0
 #define H3_QPACK_VERSION (H3_QPACK_VERSION_MAJOR << 16 | H3_QPACK_VERSION_MINOR)
 
 /* Returns the version of the library, as H3_QPACK_VERSION has it for the header. Both _new calls compare the two. */

@@ -27,7 +27,7 @@ import "C"
 
 import "unsafe"
 
-// Version returns the version of the library's interface. This package needs version 0.2.
+// Version returns the version of the library's interface. This package needs version 1.0.
 func Version() (major, minor int) {
 	version := int(C.h3_qpack_version())
 	return version >> 16, version & 0xffff

@@ -567,8 +567,8 @@ func TestGoroutines(t *testing.T) {
 }
 
 func TestVersion(t *testing.T) {
-	if major, minor := Version(); major != 0 || minor != 2 {
-		t.Fatalf("version %d.%d", major, minor)
+	if major, _ := Version(); major != 1 {
+		t.Fatalf("major version %d", major)
 	}
 }
 

@@ -10,7 +10,7 @@ import sys
 from pathlib import Path
 from typing import Any, Dict, List, Tuple
 
-VERSION = 2
+VERSION = 1 << 16
 OK, BLOCKED, ERR_VERSION = 0, -3, -7
 TYPES = {1: ctypes.c_uint8, 4: ctypes.c_int32, 8: ctypes.c_uint64}
 

@@ -7,7 +7,7 @@ from ctypes import POINTER, c_char_p, c_int, c_int32, c_size_t, c_uint8, c_uint3
 from typing import Any, Dict, List, Tuple
 
 # The version of the interface, H3_QPACK_VERSION, that the structs below are of.
-VERSION = 2
+VERSION = 1 << 16
 # Names a library that is not where the linker looks.
 VARIABLE = "H3_QPACK_LIBRARY"
 
@@ -160,11 +160,7 @@ def load_library() -> Any:
         raise ImportError(f"h3_qpack: {found} is not the library: {error}. Correct {VARIABLE}, or unset it.") from error
     major, minor = split_version(functions.version())
     if major != VERSION >> 16 or minor < VERSION & 0xFFFF:
-        ours = ".".join(map(str, split_version(VERSION)))
-        raise ImportError(
-            f"h3_qpack: {found} has the interface {major}.{minor}: install one that has {ours}, or a later one with the "
-            "same first number"
-        )
+        raise ImportError(f"h3_qpack: {found} has the interface {major}.{minor}: install one that has 1.0 or a later 1.x")
     return functions
 
 

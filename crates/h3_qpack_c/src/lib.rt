@@ -12,10 +12,10 @@ mod stateless;
 mod statuses;
 mod tables;
 
-/// Returns the version of this interface, 0.2: 65,536 for each breaking change from 1.0 on, 1 for each addition.
+/// Returns the version of this interface: 65,536 for each breaking change, 1 for each addition.
 #[unsafe(no_mangle)]
 pub extern "C" fn h3q_version() -> u32
-    ensures { result ≡ 2 }
+    ensures { result ≡ 65536 }
 {
-    2
+    65536
 }

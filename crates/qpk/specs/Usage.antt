@@ -10,7 +10,7 @@ usage_line =
 
 -- the version
 abbrev pub version_line : List ℕ
-version_line = codes "qpk 0.2.0\n"
+version_line = codes "qpk 0.1.0\n"
 
 -- how the program is called
 unfoldable pub all_usage : List ℕ

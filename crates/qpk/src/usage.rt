@@ -33,7 +33,7 @@ pub enum Topic {
 }
 
 /// The version of the program.
-pub const VERSION: &str = "qpk 0.2.0\n";
+pub const VERSION: &str = "qpk 0.1.0\n";
 
 /// Returns the line for words that give none of the four commands that other programs know, and none beyond these.
 pub fn usage() -> &'static str

@@ -22,7 +22,7 @@ pub enum Wish {
     Unmarked,
     /// The field is never indexed: it becomes a literal with that mark (RFC 9204, section 7.1.3).
     Never,
-    /// The field is not inserted. An entry that equals it may be referenced.
+    /// What is in the table is referenced. The field is not inserted.
     Reuse,
     /// The field is inserted if there is room.
     Insert,

@@ -62,8 +62,7 @@ impl Slot {
     }
 }
 
-/// Compares an entry with what a search seeks. Every search compares by this function alone, and nothing else raises the
-/// count.
+/// Compares an entry with what is sought. Nothing else compares the two, and nothing else raises the count.
 fn compare_entry<F: StoredField>(
     sought: &Sought<'_>,
     entry: &Entry<F>,
