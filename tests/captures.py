@@ -31,6 +31,7 @@ ENVIRONMENT = {**os.environ, "QPK": str(PROGRAM)}
 CLIENT, SERVER = ("10.0.0.1", "50000"), ("10.0.0.2", "443")
 CAPTURED = TOP / "tests" / "captured"
 KEPT = CAPTURED / "chromium.txt"
+SECONDS = 120  # by the clock, in which a script ends on a machine that proves beside it
 SETTINGS = "00 04 05 01 50 00 07 10"  # a control stream: capacity 4096, and 16 blocked streams
 
 
@@ -398,9 +399,9 @@ def start(*words, before="", **more):
 
 
 def ask(*words, data=b"", **more):
-    """Returns the status of the script on an input, what it prints, and what it says. It ends in ten seconds."""
+    """Returns the status of the script on an input, what it prints, and what it says. It must end."""
     with start(*words, stdin=subprocess.PIPE, **more) as running:
-        output, said = running.communicate(data, timeout=10)
+        output, said = running.communicate(data, timeout=SECONDS)
     return running.returncode, output, said
 
 
@@ -434,7 +435,7 @@ def show_by(tshark):
         capture.write_bytes(bytes.fromhex("0a0d0d0a"))
         command, variables = [str(TOP / "dist" / "qpk-capture"), "show", str(capture)], {"TSHARK": str(program)}
         pipes = {"stdout": subprocess.PIPE, "stderr": subprocess.PIPE, "encoding": "utf-8"}
-        ran = subprocess.run(command, env={**os.environ, **variables}, timeout=60, check=False, **pipes)
+        ran = subprocess.run(command, env={**os.environ, **variables}, timeout=SECONDS, check=False, **pipes)
         return ran.returncode, ran.stderr.replace(room, "")
 
 
