@@ -7,10 +7,9 @@ use Rattle.qpk_view.specs.Texts.{Written, BeginsWith}
 one_more : (json found : Bool) (old new out : List ℕ) → AreFindings json found old
     → new ≡ old ++ (finding_front json ++ out) → AreFindings json true new
 one_more json false old new out a e = (out, e ∙ ap (λ l. l ++ (finding_front json ++ out)) a)
-one_more json true old new out a e = (
-  a.0 ++ (finding_front json ++ out),
-  e ∙ ap (λ l. l ++ (finding_front json ++ out)) a.1 ∙ append_assoc,
-)
+one_more json true old new out a e =
+    let more : List ℕ = finding_front json ++ out in
+    (a.0 ++ more, rw (e, a.1, append_assoc))
 
 -- findings are findings when the next begins
 pub begun : (json found : Bool) (old new : Written)

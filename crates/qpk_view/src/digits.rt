@@ -1,8 +1,5 @@
 //! Hexadecimal as people have it: in words, with colons, and with `0x` before a word.
 
-ghost use Rattle.std.specs.Prelude.{◌≡◌, IfErr};
-ghost use Rattle.qpk_view.specs.declared.fault.Fault.TheVariants.{Memory};
-
 use crate::fault::Fault;
 use hex::FromHexError;
 use std::alloc::Global;
@@ -16,9 +13,7 @@ pub(crate) struct Digits {
 
 /// Reads the bytes of words in hexadecimal; a byte may begin in one word and end in the next. Returns `None` if a word
 /// has anything except digits and colons after its `0x`.
-pub(crate) fn read_digits(alloc: Global, words: &[&str]) -> Result<Option<Digits>, Fault>
-    ensures { IfErr result (λ fault. fault ≡ Memory) }
-{
+pub(crate) fn read_digits(alloc: Global, words: &[&str]) -> Result<Option<Digits>, Fault> {
     let mut digits = Vec::new(alloc);
     for word in words {
         if !push_digits(&mut digits, without_mark(word.as_bytes()))? {
@@ -44,9 +39,7 @@ fn without_mark(word: &[u8]) -> &[u8] {
 }
 
 /// Appends the digits of a word. Returns false if it has anything except digits and colons.
-fn push_digits(digits: &mut Vec<u8>, word: &[u8]) -> Result<bool, Fault>
-    ensures { IfErr result (λ fault. fault ≡ Memory) }
-{
+fn push_digits(digits: &mut Vec<u8>, word: &[u8]) -> Result<bool, Fault> {
     for byte in word {
         if byte.is_ascii_hexdigit() {
             digits.push(*byte)?;

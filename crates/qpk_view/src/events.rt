@@ -1,9 +1,5 @@
 //! The lines of a recording: what came on a connection, or what an end of it did.
 
-ghost use Rattle.std.specs.Prelude.{◌≡◌, IfErr};
-ghost use Rattle.qpk_view.specs.Faults.{IsFaultOfLine};
-ghost use Rattle.qpk_view.specs.declared.fault.Fault.TheVariants.{Memory};
-
 use crate::digits::read_digits;
 use crate::fault::Fault;
 use std::alloc::Global;
@@ -61,9 +57,7 @@ pub(crate) fn read_event<'a>(
     line: usize,
     text: &'a str,
     is_cut: bool,
-) -> Result<Option<Event<'a>>, Fault>
-    ensures { IfErr result IsFaultOfLine }
-{
+) -> Result<Option<Event<'a>>, Fault> {
     let words = words_of(alloc, text)?;
     if is_left_out(&words) {
         return Ok(None);
@@ -77,9 +71,7 @@ fn read_words<'a>(
     line: usize,
     words: &[&'a str],
     is_cut: bool,
-) -> Result<Event<'a>, Fault>
-    ensures { IfErr result IsFaultOfLine }
-{
+) -> Result<Event<'a>, Fault> {
     let (time, rest) = split_time(alloc, line, words)?;
     let (end, name, rest) = split_end(rest);
     let (act, has_half) = read_act(alloc, line, name, rest, is_cut)?;
@@ -93,9 +85,7 @@ fn read_words<'a>(
 }
 
 /// Returns the words of a text.
-pub(crate) fn words_of<'a>(alloc: Global, text: &'a str) -> Result<Vec<&'a str>, Fault>
-    ensures { IfErr result (λ fault. fault ≡ Memory) }
-{
+pub(crate) fn words_of<'a>(alloc: Global, text: &'a str) -> Result<Vec<&'a str>, Fault> {
     Ok(text.split_whitespace().collect(alloc)?)
 }
 
@@ -112,9 +102,7 @@ fn split_time<'a, 'b>(
     alloc: Global,
     line: usize,
     words: &'b [&'a str],
-) -> Result<(&'a str, &'b [&'a str]), Fault>
-    ensures { IfErr result IsFaultOfLine }
-{
+) -> Result<(&'a str, &'b [&'a str]), Fault> {
     let Some((first, rest)) = words.split_first() else {
         return Ok(("", words));
     };
@@ -172,9 +160,7 @@ fn read_act(
     name: &str,
     rest: &[&str],
     is_cut: bool,
-) -> Result<(Act, bool), Fault>
-    ensures { IfErr result IsFaultOfLine }
-{
+) -> Result<(Act, bool), Fault> {
     match name {
         "e" => read_encoder(alloc, line, rest, is_cut),
         "d" => read_decoder(alloc, line, rest, is_cut),
@@ -191,9 +177,7 @@ fn read_encoder(
     line: usize,
     words: &[&str],
     is_cut: bool,
-) -> Result<(Act, bool), Fault>
-    ensures { IfErr result IsFaultOfLine }
-{
+) -> Result<(Act, bool), Fault> {
     let (bytes, has_half) = read_bytes(alloc, line, words, is_cut)?;
     Ok((Act::Encoder(bytes), has_half))
 }
@@ -204,9 +188,7 @@ fn read_decoder(
     line: usize,
     words: &[&str],
     is_cut: bool,
-) -> Result<(Act, bool), Fault>
-    ensures { IfErr result IsFaultOfLine }
-{
+) -> Result<(Act, bool), Fault> {
     let (bytes, has_half) = read_bytes(alloc, line, words, is_cut)?;
     Ok((Act::Decoder(bytes), has_half))
 }
@@ -217,27 +199,21 @@ fn read_section(
     line: usize,
     words: &[&str],
     is_cut: bool,
-) -> Result<(Act, bool), Fault>
-    ensures { IfErr result IsFaultOfLine }
-{
+) -> Result<(Act, bool), Fault> {
     let (stream, rest) = split_number(alloc, line, words)?;
     let (bytes, has_half) = read_bytes(alloc, line, rest, is_cut)?;
     Ok((Act::Section(stream, bytes), has_half))
 }
 
 /// Reads a stream that is read no further.
-fn read_given_up(alloc: Global, line: usize, words: &[&str]) -> Result<(Act, bool), Fault>
-    ensures { IfErr result IsFaultOfLine }
-{
+fn read_given_up(alloc: Global, line: usize, words: &[&str]) -> Result<(Act, bool), Fault> {
     let (stream, rest) = split_number(alloc, line, words)?;
     no_more(alloc, line, rest)?;
     Ok((Act::GivenUp(stream), false))
 }
 
 /// Reads SETTINGS: the maximum capacity, and how many streams may be blocked.
-fn read_settings(alloc: Global, line: usize, words: &[&str]) -> Result<(Act, bool), Fault>
-    ensures { IfErr result IsFaultOfLine }
-{
+fn read_settings(alloc: Global, line: usize, words: &[&str]) -> Result<(Act, bool), Fault> {
     let (max_capacity, rest) = split_number(alloc, line, words)?;
     let (max_blocked, rest) = split_number(alloc, line, rest)?;
     no_more(alloc, line, rest)?;
@@ -253,9 +229,7 @@ fn split_number<'a, 'b>(
     alloc: Global,
     line: usize,
     words: &'b [&'a str],
-) -> Result<(u64, &'b [&'a str]), Fault>
-    ensures { IfErr result IsFaultOfLine }
-{
+) -> Result<(u64, &'b [&'a str]), Fault> {
     let (word, rest) = split_name(words);
     match word.parse::<u64>() {
         Ok(number) => Ok((number, rest)),
@@ -264,9 +238,7 @@ fn split_number<'a, 'b>(
 }
 
 /// Rejects words if there should be none.
-fn no_more(alloc: Global, line: usize, words: &[&str]) -> Result<(), Fault>
-    ensures { IfErr result IsFaultOfLine }
-{
+fn no_more(alloc: Global, line: usize, words: &[&str]) -> Result<(), Fault> {
     match words.first() {
         None => Ok(()),
         Some(word) => Err(Fault::of_word(alloc, line, *word, "is one word too many")),
@@ -279,9 +251,7 @@ fn read_bytes(
     line: usize,
     words: &[&str],
     is_cut: bool,
-) -> Result<(Vec<u8>, bool), Fault>
-    ensures { IfErr result IsFaultOfLine }
-{
+) -> Result<(Vec<u8>, bool), Fault> {
     match read_digits(alloc, words)? {
         Some(digits) if digits.has_half && !is_cut => {
             Err(Fault::of_line(alloc, line, "its last byte has one digit"))

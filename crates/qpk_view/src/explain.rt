@@ -1,7 +1,6 @@
 //! Bytes of QPACK, each with its bits and what they mean, without a connection (RFC 9204, sections 4.3 to 4.5).
 
-ghost use Rattle.std.specs.Prelude.{IfErr, IfOk, IsUtf8};
-ghost use Rattle.qpk_view.specs.Faults.{IsFaultOfDigits};
+ghost use Rattle.std.specs.Prelude.{IfOk, IsUtf8};
 
 use crate::bits::Rows;
 use crate::digits::read_digits;
@@ -44,8 +43,7 @@ pub struct ExplainOptions {
 
 /// Explains bytes in hexadecimal: a row a byte. Fails if the text is not hexadecimal.
 pub fn explain(alloc: Global, options: ExplainOptions, text: &[u8]) -> Result<View, Fault>
-    ensures fault { IfErr result IsFaultOfDigits }
-    ensures text { IfOk result (λ _. IsUtf8 text.now) }
+    ensures { IfOk result (λ _. IsUtf8 text.now) }
 {
     let bytes = read_text(alloc, text)?;
     let mut rows = Rows::new(alloc, &bytes);
@@ -64,10 +62,8 @@ const NO_DIGITS: &str = "the bytes are not hexadecimal";
 const HALF_A_BYTE: &str = "the last byte has one digit";
 
 /// Reads the bytes of a text in hexadecimal.
-#[tactic(auto, using(crate::proofs::Faults::no_digits_of_digits, crate::proofs::Faults::half_of_digits))]
 fn read_text(alloc: Global, text: &[u8]) -> Result<Vec<u8>, Fault>
-    ensures fault { IfErr result IsFaultOfDigits }
-    ensures text { IfOk result (λ _. IsUtf8 text.now) }
+    ensures { IfOk result (λ _. IsUtf8 text.now) }
 {
     let Ok(text) = str::from_utf8(text) else {
         return Err(Fault::in_words(alloc, NO_DIGITS));

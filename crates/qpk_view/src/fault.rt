@@ -1,10 +1,5 @@
 //! Why an input is not read.
 
-ghost use Rattle.std.specs.Prelude.{◌≡◌, ◌++◌, codes};
-ghost use Rattle.std.specs.Fmt.{decimal};
-ghost use Rattle.qpk_view.specs.Faults.{IsFaultFor, IsFaultOfLine};
-ghost use Rattle.qpk_view.specs.declared.fault.Fault.TheVariants.{Memory as OutOfMemory};
-
 use crate::text::Text;
 use qpack_base::coding::NoMemory;
 use std::alloc::{AllocError, AllocFailed, Global};
@@ -22,9 +17,7 @@ pub enum Fault {
 
 impl Fault {
     /// Returns the fault of an input, for this reason.
-    pub(crate) fn of_input(reason: Text) -> Fault
-        ensures { IsFaultFor reason.bytes result }
-    {
+    pub(crate) fn of_input(reason: Text) -> Fault {
         match reason.finish() {
             Ok(reason) => Fault::Input(reason),
             Err(_) => Fault::Memory,
@@ -32,19 +25,14 @@ impl Fault {
     }
 
     /// Returns the fault of an input, in these words.
-    pub(crate) fn in_words(alloc: Global, words: &str) -> Fault
-        ensures { IsFaultFor words.now result }
-    {
+    pub(crate) fn in_words(alloc: Global, words: &str) -> Fault {
         let mut reason = Text::new(alloc);
         reason.push_str(words);
         Fault::of_input(reason)
     }
 
     /// Returns the fault of the line of this number, in these words.
-    #[tactic(auto, using(crate::proofs::Faults::names_line))]
-    pub(crate) fn of_line(alloc: Global, line: usize, words: &str) -> Fault
-        ensures { IsFaultOfLine result }
-    {
+    pub(crate) fn of_line(alloc: Global, line: usize, words: &str) -> Fault {
         let mut reason = Text::new(alloc);
         reason.push_between("line ", &line, ": ");
         reason.push_str(words);
@@ -52,10 +40,7 @@ impl Fault {
     }
 
     /// Returns the fault of a word in the line of this number, in these words after it.
-    #[tactic(auto, using(crate::proofs::Faults::names_line))]
-    pub(crate) fn of_word(alloc: Global, line: usize, word: &str, words: &str) -> Fault
-        ensures { IsFaultOfLine result }
-    {
+    pub(crate) fn of_word(alloc: Global, line: usize, word: &str, words: &str) -> Fault {
         let mut reason = Text::new(alloc);
         reason.push_between("line ", &line, ": \"");
         reason.push_str(word);
@@ -66,24 +51,18 @@ impl Fault {
 }
 
 impl From<AllocError> for Fault {
-    ghost from_gives = { λ _ r. r ≡ OutOfMemory };
-
     fn from(_e: AllocError) -> Fault {
         Fault::Memory
     }
 }
 
 impl<T: Drop> From<AllocFailed<T>> for Fault {
-    ghost from_gives = { λ _ r. r ≡ OutOfMemory };
-
     fn from(_e: AllocFailed<T>) -> Fault {
         Fault::Memory
     }
 }
 
 impl From<NoMemory> for Fault {
-    ghost from_gives = { λ _ r. r ≡ OutOfMemory };
-
     fn from(_e: NoMemory) -> Fault {
         Fault::Memory
     }

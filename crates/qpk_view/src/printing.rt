@@ -236,12 +236,19 @@ fn push_told(text: &mut Text, offset: usize, line: &DecoderLine, back: &str)
     ensures { Extends text.old text.new }
 {
     text.push_value("decoder ", &offset);
+    push_decoder_instruction(text, line);
+    text.push_str(back);
+}
+
+/// Appends what a decoder instruction is.
+fn push_decoder_instruction(text: &mut Text, line: &DecoderLine)
+    ensures { Extends text.old text.new }
+{
     match line {
         DecoderLine::InsertCountIncrement(by) => text.push_value(": increment ", &by.0),
         DecoderLine::HeaderAck(stream) => text.push_value(": acknowledge stream ", &stream.0),
         DecoderLine::StreamCancel(stream) => text.push_value(": cancel stream ", &stream.0),
     }
-    text.push_str(back);
 }
 
 /// Appends the lines of a section.

@@ -1,8 +1,6 @@
 //! A whole recording: its lines, or its records in the format of the offline interop.
 
-ghost use Rattle.std.specs.Prelude.{◌≡◌, IfErr, IfOk, IsUtf8};
-ghost use Rattle.qpk_view.specs.Faults.{IsFaultOfLine, IsFaultOfRecording};
-ghost use Rattle.qpk_view.specs.declared.fault.Fault.TheVariants.{Memory};
+ghost use Rattle.std.specs.Prelude.{IfOk, IsUtf8};
 
 use crate::events::{Act, Event, read_event};
 use crate::fault::Fault;
@@ -20,10 +18,8 @@ pub(crate) struct Recording<'a> {
 }
 
 /// Reads the lines of an input.
-#[tactic(auto, using(crate::proofs::Faults::no_text_of_recording, crate::proofs::Faults::line_of_recording))]
 pub(crate) fn read_lines<'a>(alloc: Global, input: &'a [u8]) -> Result<Recording<'a>, Fault>
-    ensures fault { IfErr result IsFaultOfRecording }
-    ensures text { IfOk result (λ _. IsUtf8 input.now) }
+    ensures { IfOk result (λ _. IsUtf8 input.now) }
 {
     let Ok(text) = str::from_utf8(input) else {
         return Err(Fault::in_words(alloc, NO_TEXT));
@@ -51,9 +47,7 @@ const NO_TEXT: &str =
 const MIXED_MARKS: &str = "either all lines begin with > or <, or none";
 
 /// Rejects a recording in which some lines say which end they are of, and others do not.
-fn hold_marks(alloc: Global, events: &[Event]) -> Result<(), Fault>
-    ensures { IfErr result IsFaultOfLine }
-{
+fn hold_marks(alloc: Global, events: &[Event]) -> Result<(), Fault> {
     let Some(first) = events.first() else {
         return Ok(());
     };
@@ -66,9 +60,7 @@ fn hold_marks(alloc: Global, events: &[Event]) -> Result<(), Fault>
 }
 
 /// Reads the records of an input. Stream 0 is the encoder stream, and any other record is a section.
-pub(crate) fn read_records<'a>(alloc: Global, input: &[u8]) -> Result<Recording<'a>, Fault>
-    ensures { IfErr result (λ fault. fault ≡ Memory) }
-{
+pub(crate) fn read_records<'a>(alloc: Global, input: &[u8]) -> Result<Recording<'a>, Fault> {
     let mut events = Vec::new(alloc);
     let mut rest = input;
     let mut number = 0usize;
@@ -91,9 +83,7 @@ pub(crate) fn read_records<'a>(alloc: Global, input: &[u8]) -> Result<Recording<
 }
 
 /// Returns what a record is.
-fn event_of<'a>(alloc: Global, line: usize, record: &Record) -> Result<Event<'a>, Fault>
-    ensures { IfErr result (λ fault. fault ≡ Memory) }
-{
+fn event_of<'a>(alloc: Global, line: usize, record: &Record) -> Result<Event<'a>, Fault> {
     let bytes = Vec::from_slice(alloc, record.bytes)?;
     let act = match record.stream {
         0 => Act::Encoder(bytes),

@@ -1,8 +1,6 @@
 //! A recorded connection, shown: what each instruction and each line is, where it begins, and what it means (RFC 9204).
 
-ghost use Rattle.std.specs.Prelude.{◌≡◌, false, IfErr, IfOk, IsUtf8, string_bytes};
-ghost use Rattle.qpk_view.specs.Faults.{IsFaultOfRecording};
-ghost use Rattle.qpk_view.specs.declared.fault.Fault.TheVariants.{Memory};
+ghost use Rattle.std.specs.Prelude.{◌≡◌, false, IfOk, IsUtf8, string_bytes};
 
 use crate::events::{End, Settings};
 use crate::fault::Fault;
@@ -43,7 +41,6 @@ impl View {
     pub(crate) fn new(text: Text, has_found: bool) -> Result<View, Fault>
         ensures text { IfOk result (λ view. (text.lacks_memory ≡ false) × (string_bytes view.text ≡ text.bytes)) }
         ensures found { IfOk result (λ view. view.has_found ≡ has_found) }
-        ensures memory { IfErr result (λ fault. fault ≡ Memory) }
     {
         match text.finish() {
             Ok(text) => Ok(View { text, has_found }),
@@ -55,8 +52,7 @@ impl View {
 /// Shows a recording in its order, and what its end cuts. Fails if the maximum capacity is 2^30 or more, or if the
 /// input is no recording.
 pub fn show(alloc: Global, options: ShowOptions, input: &[u8]) -> Result<View, Fault>
-    ensures fault { IfErr result IsFaultOfRecording }
-    ensures text { options.qif ≡ false → IfOk result (λ _. IsUtf8 input.now) }
+    ensures { options.qif ≡ false → IfOk result (λ _. IsUtf8 input.now) }
 {
     let recording = read_recording(alloc, options.qif, input)?;
     let mut screen = Screen {
@@ -74,8 +70,7 @@ pub(crate) fn read_recording<'a>(
     is_qif: bool,
     input: &'a [u8],
 ) -> Result<Recording<'a>, Fault>
-    ensures fault { IfErr result IsFaultOfRecording }
-    ensures text { is_qif ≡ false → IfOk result (λ _. IsUtf8 input.now) }
+    ensures { is_qif ≡ false → IfOk result (λ _. IsUtf8 input.now) }
 {
     if is_qif {
         return read_records(alloc, input);

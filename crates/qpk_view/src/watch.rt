@@ -1,8 +1,6 @@
 //! A recording in its order: two onlookers, one for each encoder, and a watcher of what they see.
 
-ghost use Rattle.std.specs.Prelude.{◌≡◌, Bool, IfErr};
-ghost use Rattle.qpk_view.specs.Faults.{IsFaultOfLine, IsFaultOfRecording};
-ghost use Rattle.qpk_view.specs.declared.fault.Fault.TheVariants.{Capacity};
+ghost use Rattle.std.specs.Prelude.{◌≡◌, Bool};
 
 use crate::events::{Act, End, Event, Settings};
 use crate::fault::Fault;
@@ -47,8 +45,7 @@ pub(crate) fn watch<W: Watcher>(
     settings: Settings,
     watcher: &mut W,
 ) -> Result<(), Fault>
-    ensures json { W.json watcher.new ≡ W.json watcher.old }
-    ensures fault { IfErr result IsFaultOfRecording }
+    ensures { W.json watcher.new ≡ W.json watcher.old }
 {
     let mut onlookers = onlookers_of(alloc, recording, settings)?;
     onlookers.show(recording, watcher)?;
@@ -56,14 +53,11 @@ pub(crate) fn watch<W: Watcher>(
 }
 
 /// Returns onlookers to whom nothing came, of the encoders of a recording.
-#[tactic(auto, using(crate::proofs::Faults::line_of_recording))]
 fn onlookers_of(
     alloc: Global,
     recording: &Recording<'_>,
     settings: Settings,
-) -> Result<Onlookers, Fault>
-    ensures { IfErr result IsFaultOfRecording }
-{
+) -> Result<Onlookers, Fault> {
     let client = settings_for(alloc, recording, End::Client)?.unwrap_or(settings);
     let server = settings_for(alloc, recording, End::Server)?.unwrap_or(settings);
     let client = onlooker(alloc, client)?;
@@ -79,9 +73,7 @@ fn settings_for(
     alloc: Global,
     recording: &Recording<'_>,
     encoder: End,
-) -> Result<Option<Settings>, Fault>
-    ensures { IfErr result IsFaultOfLine }
-{
+) -> Result<Option<Settings>, Fault> {
     let mut found = None;
     for event in &recording.events {
         if let Act::Settings(settings) = &event.act {
@@ -97,9 +89,7 @@ fn settings_for(
 }
 
 /// Returns an onlooker to whom nothing came.
-fn onlooker(alloc: Global, settings: Settings) -> Result<Observer, Fault>
-    ensures { IfErr result (λ fault. fault ≡ Capacity) }
-{
+fn onlooker(alloc: Global, settings: Settings) -> Result<Observer, Fault> {
     match Observer::new(alloc, settings.max_capacity, settings.max_blocked) {
         Some(observer) => Ok(observer),
         None => Err(Fault::Capacity),
