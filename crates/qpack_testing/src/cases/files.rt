@@ -28,7 +28,8 @@ pub fn answer_calls<K: Kinds>(rt: &HostRuntime, text: &str) -> Result<()> {
     let lines = read_twice(rt.alloc(), text).context("the calls")?;
     let mut run = Run::new(rt.alloc(), true);
     hold_cases::<K>(&mut run, &lines);
-    print!(rt; "{}", run.answers)?;
+    run.keep_answers();
+    print!(rt; "{}", run.printed)?;
     tell(rt, "asked", &run)
 }
 

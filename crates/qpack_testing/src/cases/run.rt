@@ -18,8 +18,9 @@ pub struct Run<'a> {
     tail: &'a [Line],
     /// Whether each answer is printed, and compared by others.
     is_asked: bool,
-    /// The answers that are printed.
-    pub(crate) answers: String,
+    /// The answers that are printed: of the runs before, and of this one.
+    pub(crate) printed: String,
+    answers: String,
     pub(crate) cases: usize,
     pub(crate) calls: usize,
     /// The line that does not hold, and why; 0 while all hold.
@@ -37,6 +38,7 @@ impl<'a> Run<'a> {
             head: &[],
             tail: &[],
             is_asked,
+            printed: String::new(alloc),
             answers: String::new(alloc),
             cases: 0,
             calls: 0,
@@ -54,6 +56,7 @@ impl<'a> Run<'a> {
         tail: &'a [Line],
     ) -> &'a str {
         let (kind, settings) = subject.split_once(' ').unwrap_or((subject, ""));
+        self.keep_answers();
         self.settings = settings;
         self.size = size;
         self.head = head;
@@ -63,8 +66,18 @@ impl<'a> Run<'a> {
         kind
     }
 
+    /// Keeps the answers of this run.
+    pub(crate) fn keep_answers(&mut self) {
+        let is_kept = self.printed.push_str(self.answers.as_str()).is_ok();
+        self.answers.clear();
+        if !is_kept {
+            self.fail("out of memory");
+        }
+    }
+
     /// Has the words of the call be the settings, and returns the size of pieces.
     pub(crate) fn start_over(&mut self) -> usize {
+        self.answers.clear();
         self.call.start_over();
         self.call.take(self.settings);
         self.size
