@@ -1,14 +1,15 @@
 #!/usr/bin/env bash
 # Tests the bindings for Go and Python, over the library that make builds of dist/ and installs in a folder of its own. It
-# needs a C compiler and make; for Go, go 1.19 or later and pkg-config; for Python, python3 3.8 or later (Debian: gcc, make,
-# golang-go, pkg-config and python3). It installs by apt-get what is not there, which only root can. A language whose
-# tools can't be had is left out, and a line says so. Nothing else is needed, and no network. mypy is used where it is
-# there. The last line is 'N passed, M failed'.
+# needs a C compiler and make; for Go, go 1.19 or later and pkg-config; for Python, python3 3.8 or later, and to install the
+# package by pip, venv and flit_core (Debian: gcc, make, golang-go, pkg-config, python3, python3-venv and flit). It installs
+# by apt-get what is not there, which only root can. A language whose tools can't be had is left out, and a line says so.
+# Nothing else is needed, and no network. mypy is used where it is there. The last line is 'N passed, M failed'.
 set -uo pipefail
 cd "$(dirname "$0")" || exit 1
 script=bindings/check.sh
 . ../c/archive
 . ../tests/counted
+. ../tests/licence
 room=$(mktemp -d) || exit 1
 trap 'rm -rf "$room"' EXIT
 
@@ -17,7 +18,7 @@ has_tools() {
     local language=$1 lacking
     shift
     lacking=$(list_lacking "$@" | paste -s -d ' ')
-    [ -z "$lacking" ] || { echo "$script: $language was not tested, without $lacking"; return 1; }
+    [ -z "$lacking" ] || { not_shown "the bindings for $language" "without $lacking"; return 1; }
 }
 
 # Builds and installs dist/, once.
@@ -28,6 +29,27 @@ build_library() {
 # The files are laid out as gofmt does.
 check_layout() {
     [ -z "$(gofmt -l . | tee /dev/stderr)" ]
+}
+
+# go vet reports each copy of an end, in a program beside the package.
+check_copies() {
+    local program=$room/copies
+    mkdir -p "$program" && cat >"$program/main.go" <<'PROGRAM' || return
+package main
+
+import "h3qpack"
+
+func main() {
+	encoder, _ := h3qpack.NewEncoder(h3qpack.EncoderSettings{})
+	decoder, _ := h3qpack.NewDecoder(h3qpack.DecoderSettings{})
+	anEncoder, aDecoder := *encoder, *decoder
+	_, _ = anEncoder.Close(), aDecoder.Close()
+}
+PROGRAM
+    printf 'module copies\n\ngo 1.19\n\nrequire h3qpack v0.0.0\n\nreplace h3qpack => %s\n' "$PWD" >"$program/go.mod"
+    ! (cd "$program" && go vet .) >"$room/vetted" 2>&1
+    cat "$room/vetted"
+    grep -q 'copies lock value.*Encoder' "$room/vetted" && grep -q 'copies lock value.*Decoder' "$room/vetted"
 }
 
 # Runs the tests and the examples, with more words for go. There must be some.
@@ -48,8 +70,10 @@ check_pointers() {
 test_go() {
     export PKG_CONFIG_PATH=$room/usr/lib/pkgconfig GOPROXY=off GOTOOLCHAIN=local GOCACHE=$room/cache
     check_pointers
+    try "the licence of the module" is_licence LICENSE
     try "gofmt" check_layout
     try "go vet" go vet ./...
+    try "go vet of a program that copies ends" check_copies
     try "go test" run_go
     try "go test -race" run_go -race
     echo "$script: Go: $(grep -c '^--- PASS' "$room/told") tests and examples, with $(go version | cut -d ' ' -f 3)"
@@ -66,9 +90,37 @@ find_by_linker() {
         grep 'make -C dist install' "$room/refused"
 }
 
-# The version of the package is that of the library.
-check_version() {
-    [ "$(sed -n 's/^version = "\(.*\)"/\1/p' pyproject.toml)" = "$(sed -n 's/^version //p' ../../dist/SUMS)" ]
+# Prints the folder of flit_core, which is that of Debian if another python3 comes first in PATH.
+find_flit_core() {
+    local python
+    for python in python3 /usr/bin/python3; do
+        "$python" -c 'import flit_core, os; print(os.path.dirname(flit_core.__file__))' 2>/dev/null && return
+    done
+    return 1
+}
+
+# Prints the packages of Debian that pip needs, without a network, and that are not there.
+list_lacking_for_pip() {
+    python3 -c 'import ensurepip' 2>/dev/null || echo python3-venv
+    find_flit_core >"$room/flit_core" || echo flit
+}
+
+# The package installs by pip in a folder of its own, leaves nothing where its sources are, and finds the library.
+install_by_pip() {
+    mkdir "$room/packages" && ln -s "$(find_flit_core)" "$room/packages/" && cp -r . "$room/source" || return
+    (cd "$room/source" && find . | sort) >"$room/before"
+    python3 -m venv "$room/venv" &&
+        PYTHONPATH=$room/packages PIP_NO_INDEX=1 PIP_NO_BUILD_ISOLATION=false \
+            "$room/venv/bin/pip" install "$room/source" || return
+    (cd "$room/source" && find . | sort) | diff "$room/before" - || return
+    (cd "$room" && venv/bin/python -c 'import h3_qpack; print(h3_qpack.__file__)') | grep "^$room/venv/"
+}
+
+# What pip installed has the licence, and names it.
+check_installed_licence() {
+    local about
+    about=$(find "$room/venv" -name 'h3_qpack-*.dist-info') && is_licence "$(find "$about" -name LICENSE)" &&
+        grep -x 'Classifier: License :: OSI Approved :: MIT License' "$about/METADATA"
 }
 
 test_python() {
@@ -76,14 +128,19 @@ test_python() {
     try "python3 -m unittest" run_python
     echo "$script: Python: $(sed -n 's/^Ran \([0-9]*\) tests.*/\1/p' "$room/told") tests, with $(python3 --version)"
     try "the library is found, or an error says how to install it" find_by_linker
-    try "the version in pyproject.toml" check_version
+    if [ -z "$(list_lacking_for_pip)" ]; then
+        try "pip install" install_by_pip && try "the licence in what pip installs" check_installed_licence
+    else
+        # shellcheck disable=SC2046 # words
+        not_shown "pip install of the package for Python" "without $(echo $(list_lacking_for_pip))"
+    fi
     if command -v mypy >/dev/null; then
         try "mypy" mypy --strict --cache-dir "$room/mypy" h3_qpack tests
     fi
 }
 
 # shellcheck disable=SC2046 # words
-install_packages $(list_lacking cc make go pkg-config python3) || true
+install_packages $(list_lacking cc make go pkg-config python3) $(list_lacking_for_pip) || true
 export LD_LIBRARY_PATH=$room/usr/lib
 if has_tools Go cc make go pkg-config && build_library; then cd go && test_go; cd ..; fi
 if has_tools Python cc make python3 && build_library; then cd python && test_python; fi

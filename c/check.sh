@@ -12,6 +12,7 @@ cd "$(dirname "$0")"
 script=c/check.sh
 . ./archive
 . ./programs
+. ../tests/licence
 
 # Prints the packages that are wanted and not there: those of the tools, of nghttp3, of ngtcp2.
 list_tools() {
@@ -101,6 +102,7 @@ export PKG_CONFIG_PATH=$room/usr/lib/pkgconfig
 flags=$(pkg-config --cflags --libs h3_qpack)
 
 run cc "${strict[@]}" -std=c99 -pedantic -I../include -fsyntax-only h3_qpack.c
+run is_licence "$room/usr/share/licenses/h3_qpack/LICENSE"
 run check_symbols
 run check_layout
 run try_bindings

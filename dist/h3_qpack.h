@@ -34,6 +34,10 @@
 #include <stddef.h>
 #include <stdint.h>
 
+#if SIZE_MAX != UINT64_MAX
+#error "h3_qpack needs a size_t of 8 bytes: compile for a processor of 64 bits, without -m32 and -mx32"
+#endif
+
 /* Each call is a function of the library. C99, later C and C++ also see its body, at the end of this header, and can
  * inline it. Define H3_QPACK_NO_INLINE for prototypes alone, for example to generate bindings. */
 #ifdef H3_QPACK_INLINE /* defined by c/h3_qpack.c, which defines the library's functions */
@@ -341,6 +345,12 @@ H3_QPACK_INLINE void h3_qpack_decoder_del(h3_qpack_decoder *decoder);
  *   H3_QPACK_DECOMPRESSION_FAILED  h3_qpack_decoder_decode returned it before. */
 H3_QPACK_INLINE h3_qpack_received h3_qpack_decoder_read_encoder(h3_qpack_decoder *decoder, const uint8_t *src,
                                                                 size_t srclen);
+
+/* Returns the length, in bytes, of the longest section whose fields can be within |max_section_size|; at most SIZE_MAX. A
+ * decoder refuses a longer one unread: H3_QPACK_ERR_TOO_LARGE, with |number| 0. So a buffer for a HEADERS frame needs no
+ * more room. A macro: it evaluates |max_section_size| twice. */
+#define h3_qpack_longest_section(max_section_size) \
+  ((uint64_t)(max_section_size) > ((size_t)-1 - 20) / 4 ? (size_t)-1 : 4 * (size_t)(max_section_size) + 20)
 
 /* Decodes a field section, |srclen| bytes at |src|, of the stream |stream_id|, below 2^62 (section 2.2). Pass the
  * sections of a stream in order. Get the fields from h3_qpack_decoder_fields or h3_qpack_decoder_field: they are kept

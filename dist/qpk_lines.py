@@ -11,7 +11,7 @@ from typing import Iterable, Iterator, NamedTuple
 CAPTURES = tuple(bytes.fromhex(it) for it in ("0a0d0d0a", "d4c3b2a1", "a1b2c3d4", "4d3cb2a1", "a1b23c4d", "1f8b08"))
 ENDS = {">": "client", "<": "server", "": ""}
 # A time; a mark, which the kind may follow at once; the kind; of a section its stream; and words of hexadecimal.
-LINE = re.compile(r"\s*(?:@\S*\s+)?([<>]?)\s*([edb])(?:(?<=b)\s+\S+)?(?!\S)(.*)")
+LINE = re.compile(r"\s*(?:@\S*\s+)?(?:([<>])\s*)?([edb])(?:(?<=b)\s+\S+)?(?!\S)(.*)")
 
 
 class Piece(NamedTuple):
@@ -34,7 +34,7 @@ def pieces_of_lines(lines: Iterable[str]) -> Iterator[Piece]:
         found = LINE.match(line)
         if found:
             mark, kind, digits = found.groups()
-            yield Piece(number, ENDS[mark], kind, bytes_of(digits))
+            yield Piece(number, ENDS[mark or ""], kind, bytes_of(digits))
 
 
 def bytes_of(text: str) -> bytes:

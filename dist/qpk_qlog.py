@@ -175,6 +175,7 @@ class Reader:
     own: str  # the mark of this end
     streams: Streams = field(default_factory=Streams)
     found: List[Tuple[float, str, str, str]] = field(default_factory=list)  # time, mark, words, source
+    limited: Set[str] = field(default_factory=set)  # the marks of the ends whose SETTINGS were found
     without_bytes: int = 0
     cut: Set[Tuple[str, str]] = field(default_factory=set)  # the streams of which an instruction has no bytes
 
@@ -212,7 +213,8 @@ class Reader:
 
     def add_limits(self, event: Event, mark: str, limits: Optional[Tuple[int, int]]) -> None:
         """Adds a line of SETTINGS. An end sends them once."""
-        if limits and not any(it[1] == mark and it[2].startswith("s ") for it in self.found):
+        if limits and mark not in self.limited:
+            self.limited.add(mark)
             self.found.append((event.time, mark, f"s {limits[0]} {limits[1]}", "settings"))
 
     def read_instruction(self, event: Event, mark: str) -> None:
@@ -287,7 +289,6 @@ class Reader:
                 worse[mark, name] = "instruction" if (mark, name) in self.cut else "stream"
         return {at for at, (_, mark, words, it) in enumerate(self.found) if worse.get((mark, words[0])) == it}
 
-
     def missing(self) -> Iterator[str]:
         """Yields what is missing."""
         yield from self.streams.gaps()
@@ -315,7 +316,7 @@ def connections_of(text: str) -> List[Connection]:
             for group, reader in readers.items():
                 names = ", ".join(it for it in (str(trace.get("title") or "a trace"), group) if it)
                 about = {"trace": "".join(it if it.isprintable() else " " for it in names)}
-                if reader.found:
+                if reader.found or any(reader.streams.gaps()):
                     connections.append(Connection(len(connections), about, reader.lines(), list(reader.missing())))
     except (AttributeError, KeyError, OverflowError, TypeError, ValueError, NotWhole) as error:
         raise SourceError(f"the trace can't be read, as a value is of another kind: {error!r}") from None

@@ -1,16 +1,34 @@
 """Streams of HTTP/3 that come in pieces, and the lines of a recording that their bytes are. qpk-capture reads it."""
 
 from dataclasses import dataclass, field
-from typing import Dict, Iterator, List, Optional, Tuple
+from heapq import heappop, heappush
+from io import BytesIO, TextIOWrapper
+from typing import Dict, Iterable, Iterator, List, Optional, Tuple
 
-DATA, HEADERS, SETTINGS, PUSH_PROMISE = 0, 1, 4, 5  # types of frames (RFC 9114, section 7.2)
+from qpk_main import Refusal, printable
+
+HEADERS, SETTINGS, PUSH_PROMISE = 1, 4, 5  # types of frames (RFC 9114, section 7.2)
 # Types of unidirectional streams (RFC 9114, section 6.2; RFC 9204, section 4.2).
 CONTROL, PUSH, ENCODER, DECODER = 0, 1, 2, 3
 MAX_TABLE_CAPACITY, BLOCKED_STREAMS = 1, 7  # settings (RFC 9204, section 5)
+FRAMES_OF_QPACK = (HEADERS, SETTINGS, PUSH_PROMISE)  # whose payload is kept until it is whole; the others are skipped
+LONGEST_INTEGER = 8  # bytes of an integer of variable length (RFC 9000, section 16)
+MOST_PAYLOAD = 1 << 20  # bytes of a frame that is read; a longer one is left out
+MOST_WAITING = 1 << 24  # bytes of a stream that are kept after a gap; with more, the stream ends at the gap
 
 
-class SourceError(Exception):
+class SourceError(Refusal):
     """A capture or a trace can't be read, for this reason."""
+
+
+def to_bytes(text: str) -> bytes:
+    """Returns the bytes of a text. Those that were not UTF-8 are as they were."""
+    return text.encode("utf-8", "surrogateescape")
+
+
+def to_text(data: bytes) -> str:
+    """Returns the text of bytes."""
+    return data.decode("utf-8", "surrogateescape")
 
 
 class NotWhole(Exception):
@@ -38,30 +56,47 @@ def read_settings(payload: bytes) -> Dict[int, int]:
 
 @dataclass
 class Frames:
-    """The frames of a stream, whose bytes come in pieces."""
+    """The frames of a stream, whose bytes come in pieces. Each byte is copied once, and only of frames that are kept."""
 
-    waiting: bytes = b""
-    skipped: int = 0  # how many bytes of a DATA frame are still to come
+    head: bytes = b""  # the type and the length of a frame, as far as they came
+    kind: Optional[int] = None  # of the frame whose payload comes
+    left: int = 0  # how many bytes of that are still to come
+    parts: Optional[List[bytes]] = None  # of its payload, if it is kept
+    too_long: int = 0  # how many frames were left out, as they are longer than MOST_PAYLOAD
 
     def take(self, data: bytes) -> Iterator[Tuple[int, bytes]]:
-        """Takes bytes, and yields each frame that is whole by then: its type and its payload. DATA is left out."""
-        left = min(self.skipped, len(data))
-        self.skipped -= left
-        self.waiting += data[left:]
+        """Takes bytes, and yields each frame that is whole by then and may have anything of QPACK: type and payload."""
+        at = 0
+        while True:
+            if self.kind is None:
+                at = self.take_head(data, at)
+            if self.kind is None:
+                return
+            end = min(at + self.left, len(data))
+            if self.parts is not None:
+                self.parts.append(data[at:end])
+            self.left -= end - at
+            at = end
+            if self.left:
+                return
+            if self.parts is not None:
+                yield self.kind, b"".join(self.parts)
+            self.kind = None
+
+    def take_head(self, data: bytes, begin: int) -> int:
+        """Takes the type and the length of a frame from an offset on, and returns the offset after what was taken."""
+        head = self.head + data[begin : begin + 2 * LONGEST_INTEGER]
         try:
-            while self.waiting:
-                kind, at = read_integer(self.waiting, 0)
-                size, at = read_integer(self.waiting, at)
-                end = at + size
-                if kind == DATA:
-                    self.skipped = max(0, end - len(self.waiting))
-                elif end > len(self.waiting):
-                    return
-                else:
-                    yield kind, self.waiting[at:end]
-                self.waiting = self.waiting[end:]
+            kind, at = read_integer(head, 0)
+            size, at = read_integer(head, at)
         except NotWhole:
-            return
+            self.head = head
+            return len(data)
+        begin += at - len(self.head)
+        self.head, self.kind, self.left = b"", kind, size
+        self.parts = [] if kind in FRAMES_OF_QPACK and size <= MOST_PAYLOAD else None
+        self.too_long += kind in FRAMES_OF_QPACK and size > MOST_PAYLOAD
+        return begin
 
 
 @dataclass
@@ -69,7 +104,10 @@ class Stream:
     """What an end sent on a stream."""
 
     number: int
-    pieces: Dict[int, bytes] = field(default_factory=dict)  # that came before those at their front
+    pieces: Dict[int, bytes] = field(default_factory=dict)  # that came before those at their front, by their offset
+    offsets: List[int] = field(default_factory=list)  # theirs, as a heap
+    waiting: int = 0  # how many bytes they have
+    is_given_up: bool = False  # as they had more than MOST_WAITING
     taken: int = 0
     head: bytes = b""  # the type of the stream, and a push ID, if they are not whole
     kind: Optional[int] = None
@@ -81,16 +119,39 @@ class Stream:
 
     def receive(self, offset: int, data: bytes) -> bytes:
         """Takes a piece, and returns the bytes that are next in order by then."""
-        if len(data) > len(self.pieces.get(offset, b"")):
-            self.pieces[offset] = data
-        got = b""
-        for start in sorted(self.pieces):
-            if start > self.taken:
-                break
-            part = self.pieces.pop(start)[self.taken - start :]
-            got += part
+        if not self.is_given_up:
+            self.keep(offset, data)
+        got = []
+        while self.offsets and self.offsets[0] <= self.taken:
+            start = heappop(self.offsets)
+            piece = self.pieces.pop(start)
+            self.waiting -= len(piece)
+            part = piece[self.taken - start :]
+            got.append(part)
             self.taken += len(part)
-        return got
+        if self.waiting > MOST_WAITING:
+            self.is_given_up = True
+            self.pieces, self.offsets, self.waiting = {}, [], 0
+        return b"".join(got)
+
+    def keep(self, offset: int, data: bytes) -> None:
+        """Keeps a piece, unless one from the same offset on is as long."""
+        before = self.pieces.get(offset)
+        if len(data) <= len(before or b""):
+            return
+        if before is None:
+            heappush(self.offsets, offset)
+        self.pieces[offset] = data
+        self.waiting += len(data) - len(before or b"")
+
+    def left_out(self) -> Iterator[str]:
+        """Yields which of its bytes are not read."""
+        if self.is_given_up:
+            yield f"bytes from {self.taken} on are left out: more than {MOST_WAITING} came after a gap there"
+        elif self.offsets:
+            yield f"bytes from {self.taken} to {self.offsets[0]} are missing"
+        if self.frames.too_long:
+            yield f"frames that are longer than {MOST_PAYLOAD} bytes, which are left out: {self.frames.too_long}"
 
     def without_head(self, data: bytes) -> bytes:
         """Returns bytes without the type of the stream, and without the push ID of a push stream."""
@@ -103,8 +164,9 @@ class Stream:
                 _, at = read_integer(self.head, at)
         except NotWhole:
             return b""
-        self.kind = kind
-        return self.head[at:]
+        data = self.head[at:]
+        self.head, self.kind = b"", kind
+        return data
 
 
 def lines_of(stream: Stream, data: bytes) -> Iterator[str]:
@@ -148,10 +210,10 @@ class Streams:
         return self.streams[mark, number].taken if (mark, number) in self.streams else 0
 
     def gaps(self) -> Iterator[str]:
-        """Yields which bytes are missing."""
+        """Yields which bytes are missing, or are left out."""
         for (mark, number), stream in sorted(self.streams.items()):
-            if stream.pieces:
-                yield f"{mark} stream {number}: bytes from {stream.taken} to {min(stream.pieces)} are missing"
+            for it in stream.left_out():
+                yield f"{mark} stream {number}: {it}"
 
 
 @dataclass
@@ -160,9 +222,18 @@ class Connection:
 
     number: int
     about: Dict[str, str]  # its ends, or what the trace is called; empty for a recording
-    lines: List[str]
+    lines: List[str] = field(default_factory=list)
     missing: List[str] = field(default_factory=list)
+    data: Optional[bytes] = None  # of a recording, which has its lines
 
     def name(self) -> str:
         """Returns its number and its ends."""
-        return f"connection {self.number}, {' > '.join(self.about.values())}"
+        return printable(f"connection {self.number}, {' > '.join(self.about.values())}")
+
+    def recording(self) -> bytes:
+        """Returns the recording that qpk reads."""
+        return to_bytes("".join(f"{it}\n" for it in self.lines)) if self.data is None else self.data
+
+    def all_lines(self) -> Iterable[str]:
+        """Returns the lines of the recording."""
+        return self.lines if self.data is None else TextIOWrapper(BytesIO(self.data), "utf-8", "surrogateescape", "\n")

@@ -11,7 +11,7 @@ from typing import Dict, Iterable, Iterator, List, Optional, Tuple
 from qpk_lines import pieces_of_lines
 from qpk_qlog import SEPARATOR
 from qpk_streams import Connection
-from report.connection import Event, events_of
+from report.connection import Event, Reading
 
 
 def named(it: dict) -> dict:
@@ -146,7 +146,8 @@ def write_trace(shown: Iterable[Tuple[Connection, str]], stream: Optional[int] =
     yield record_of({"qlog_version": "0.3", "qlog_format": "JSON-SEQ", "title": "qpk show --qlog", "trace": trace})
     for connection, text in shown:
         group = {"group_id": connection.name()} if connection.about else {}
-        events = events_of([json.loads(it) for it in text.split("\n")[:-1]], list(pieces_of_lines(connection.lines)))
+        objects = (json.loads(it) for it in text.split("\n")[:-1])
+        events = list(Reading(objects, pieces_of_lines(connection.all_lines())).events())
         last = 0.0  # the time of what has none
         for event, seconds, name, data in written(events):
             if stream is None or is_about(event.said, stream):

@@ -9,6 +9,7 @@ set -euo pipefail
 cd "$(dirname "$0")"
 script=rust/check.sh
 . ../c/archive
+. ../tests/licence
 
 # Prints the packages that are wanted and not there.
 list_wanted() {
@@ -58,15 +59,29 @@ check_choice() {
         grep 'undefined .*h3q_' "$room/linked"
 }
 
+# The package has the licence.
+check_package() {
+    cargo package --offline --allow-dirty --no-verify && tar -C "$room" -xzf "$CARGO_TARGET_DIR"/package/h3_qpack-*.crate &&
+        is_licence "$(echo "$room"/h3_qpack-*/LICENSE)" && grep -x 'license = "MIT"' "$room"/h3_qpack-*/Cargo.toml
+}
+
+# One program has the crate, with its assembly, and the library in C.
+check_linked() {
+    (cd ../linked && run cargo build --offline)
+    rm -f ../linked/Cargo.lock
+    run cc -Wall -Wextra -Werror -I../../include ../linked/main.c "$CARGO_TARGET_DIR/debug/liblinked.a" "$room/c/libh3_qpack.a" \
+        -lpthread -ldl -lm -o "$room/linked"
+    run "$room/linked"
+}
+
 # Tests the crate over the assembly that it includes, with the linker's optimizations too, which put all assembly in one
 # file; and its package, from a folder that has nothing else.
 test_assembly() {
     unset H3_QPACK_LIB
     run_tests
     lint
+    check_linked
     run env CARGO_PROFILE_RELEASE_LTO=fat cargo run --offline -q --release --example connection
-    run cargo package --offline --allow-dirty --no-verify
-    tar -C "$room" -xzf "$CARGO_TARGET_DIR"/package/h3_qpack-*.crate
     (cd "$room"/h3_qpack-* && CARGO_TARGET_DIR=$room/packaged run cargo test --offline --tests)
 }
 
@@ -81,6 +96,7 @@ export H3_QPACK_LIB=$room/c
 export CARGO_TARGET_DIR=$room/target
 cd h3_qpack
 run check_choice
+run check_package
 run_tests
 lint
 examples=0

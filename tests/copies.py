@@ -4,7 +4,7 @@
     tests/copies.py           checks, and names each copy that differs
     tests/copies.py --write   makes the copies again
 
-A file stands twice where what is packaged or served has to hold it: the Rust crate, and the page of the example server.
+A file stands twice where what is packaged or served has to hold it: each package, and the page of the example server.
 rt ci takes no repository with symbolic links. The exit status is 1 if a copy differs or there is a link.
 """
 import os
@@ -17,6 +17,9 @@ TOP = Path(__file__).resolve().parent.parent
 MADE = {".git", "out", "build", "__pycache__"}
 # Where copies stand, where they are copied from, and what is copied.
 COPIES = [
+    ("rust/h3_qpack", ".", ["LICENSE"]),
+    ("bindings/go", ".", ["LICENSE"]),
+    ("bindings/python", ".", ["LICENSE"]),
     ("rust/h3_qpack/generated", "dist", ["x86_64-elf.s", "aarch64-elf.s", "heap-x86_64-elf.s", "heap-aarch64-elf.s"]),
     ("rust/h3_qpack/tests", "c/tests", ["layout.txt"]),
     ("rust/h3_qpack/tests/data", "crates/qpack_tests/data", ["corpus.qif", "nghttp3_*.txt", "stateless_h3.tsv"]),

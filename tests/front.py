@@ -18,7 +18,7 @@ import tempfile
 import time
 from pathlib import Path
 
-from running import TOP, answers_at_once, install, missing_tool, run_tests
+from running import TOP, answers_at_once, install, missing_tool, run_tests, shows_no_fault_of_a_script
 
 FOLDER = tempfile.TemporaryDirectory(prefix="h3-qpack-front-")  # which ends with the script
 ROOM = Path(FOLDER.name)
@@ -147,6 +147,53 @@ def test_files():
     for front in FRONTS:
         for name in (ROOM / "none", ROOM):
             assert run(front, "show", name) == (1, b"", f"qpk: {name} is not a file that can be read\n".encode())
+
+
+def test_files_after_two_minuses():
+    """After -- a word is a file, whatever it begins with, of a recording, a trace and for the scripts."""
+    names = {"-x": "b 4 0000d1\n", "--json": (TOP / "tests" / "qlog" / "client.qlog").read_text(), "--color=red": "b 4 0000\n"}
+    for name, text in names.items():
+        write(name, text)
+        for front in FRONTS:
+            for words in (("show", "--color=always"), ("check",), ("show", "--stream", "4")):
+                expected = run(front, *words, f"./{name}", cwd=ROOM)
+                assert run(front, *words, "--", name, cwd=ROOM) == expected and expected[1], (words, name)
+    for words in (("stats",), ("report",), ("table", "--at", "end")):
+        for name in ("-x", "--json"):
+            status, output, _ = run(INSTALLED, *words, "--", name, cwd=ROOM)
+            assert output and status == 0, (words, name)
+    for front in FRONTS:
+        expected = run(PROGRAM, "show", data=FAULTS)
+        assert run(front, "show", "--", data=FAULTS) == run(front, "show", "--", "-", data=FAULTS) == expected
+        assert run(front, "show", "--", ROOM / "-x", "-y")[0] == 1
+        assert run(front, "explain", "--", "ff") == run(PROGRAM, "explain", "--", "ff")
+
+
+def test_names_on_a_terminal():
+    """A control character in a name that is reported is a question mark, and a backslash is itself."""
+    for name, shown in (
+        ("\x1b[31mred\r\n", "?[31mred??"),
+        ("\x9b31m\x7f \xe9\u20ac", "?31m? \xe9\u20ac"),
+        ("\\033[31m\\n%s", "\\033[31m\\n%s"),
+    ):
+        for front in FRONTS:
+            said = f"qpk: {shown} is not a file that can be read\n".encode()
+            assert run(front, "show", name) == (1, b"", said), said
+            said = f'qpk: --color is always, auto or never, and not "{shown}"\n'.encode()
+            assert run(front, "show", f"--color={name}") == (1, b"", said), said
+            for words in (("show", "--stream", "4"), ("stats",)):
+                status, output, said = run(front, *words, name)
+                assert (status, output) == (1, b"") and shows_no_fault_of_a_script(said) and said.count(b"\n") == 1, said
+
+
+def test_the_end_of_the_reader():
+    """If the reader of the output ends, the front says nothing of its own; scripts and colours end as by SIGPIPE."""
+    path = write("long.txt", "b 4 0000d1\n" * 5_000)
+    for front in FRONTS:
+        for words in ("show --stream 4", "stats --json", "report", "table --at end --json"):
+            assert run("sh", "-c", f"{{ {front} {words} {path}; echo $? >&3; }} 3>&2 | true")[2] == b"141\n", words
+        command = f"{{ {front} show --color=always {path}; echo $? >&3; }} 3>&2 | true"
+        assert run("sh", "-c", command)[2] == b"qpk: refused: output\n141\n"  # which the program says
 
 
 def test_recordings_of_the_interop():

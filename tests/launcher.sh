@@ -141,8 +141,13 @@ try_choice() {
 # Which program answers, and why none does, in a copy with dist/ and without rt.
 try_choices() {
     version="qpk [0-9.]*: generated from the proved program by rattle-kit-.*, and built here by cc"
-    try_choice "the first call" 0 0000d1 '^qpk: cc built the program from the assembly in dist/' ./qpk encode
+    try_choice "the first call" 0 0000d1 '' ./qpk encode
     try_choice "the second call" 0 0000d1 '' ./qpk encode
+    ln -s "$copy/qpk" "$room/linked"
+    try_choice "a call through a link" 0 0000d1 '' "$room/linked" encode
+    rm -r "$copy/dist/build"
+    (cd "$copy" && script -qec './qpk --version' /dev/null </dev/null) |
+        grep -q '^qpk: cc built the program from the assembly in dist/' || complain "the first call on a terminal"
     try_choice "full faults" 0 0000d1 '' sh -c 'rm -r dist/build && ./qpk encode 2>/dev/full'
     (cd "$copy" && ./qpk --version) | grep -qx "$version" || complain "--version of the program of dist/"
     echo '// edited' >>"$copy/crates/qpk/src/lib.rt"
@@ -180,7 +185,7 @@ try_cache() {
     mkdir -m 777 "$room/cache"
     as_nobody="setpriv --reuid=65534 --regid=65534 --clear-groups env XDG_CACHE_HOME=$room/cache"
     # shellcheck disable=SC2086 # words of a command
-    try_choice "the first call over the cache" 0 0000d1 '^qpk: cc built the program' $as_nobody ./qpk encode
+    try_choice "the first call over the cache" 0 0000d1 '' $as_nobody ./qpk encode
     # shellcheck disable=SC2086
     try_choice "the second call over the cache" 0 0000d1 '' $as_nobody ./qpk encode
     [ ! -e "$copy/dist/build" ] || complain "a build is kept in dist/, which can't be written"
@@ -197,8 +202,7 @@ try_generated() {
     chmod +x "$room/failing" "$room/rt/rt"
     PATH=$without_rt
     command -v rt >/dev/null && { complain "rt is in $without_rt, so nothing is tried without it"; return; }
-    [ "$("$copy/dist/sources" qpk_program)" = "$(sed -n 's/^sources qpk_program //p' "$copy/dist/SUMS")" ] ||
-        { complain "dist/ was not generated from these sources; dist/generate does it"; return; }
+    "$copy/dist/fits" qpk_program || { complain "dist/ was not generated from these sources; dist/generate does it"; return; }
     try_cache
     try_choices
     (cd "$copy" && echo 0000d1 | ./qpk decode 42) >/dev/null 2>&1

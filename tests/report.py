@@ -17,7 +17,13 @@ import sys
 import tempfile
 from pathlib import Path
 
-from running import FORMED, PLAIN, TOP, run_tests
+from running import FORMED, PLAIN, TOP, assert_linear, run_tests, shows_no_fault_of_a_script
+
+sys.dont_write_bytecode = True
+sys.path.insert(0, str(TOP / "dist"))
+from qpk_lines import pieces_of_lines  # noqa: E402 # pylint: disable=wrong-import-position
+from report.connection import Finder, Reading  # noqa: E402 # pylint: disable=wrong-import-position
+from report.recording import Recording  # noqa: E402 # pylint: disable=wrong-import-position
 
 CAPTURED = TOP / "tests" / "captured"
 RECORDING = CAPTURED / "chromium.txt"
@@ -36,13 +42,14 @@ PACKET = """<packet><field name="frame.time_relative" show="1"/><field name="ip.
 <field name="quic.stream_data" value="01{}"/></packet>"""
 
 
-def start(*words, text=None, **variables):
+def start(*words, text=None, cwd=None, **variables):
     """Runs the script, with a text as its input, and returns its status, its output and its faults."""
     ran = subprocess.run(
         [sys.executable, str(TOP / "dist" / "qpk-report"), *map(str, words)],
         input=None if text is None else text.encode("latin-1"),
         stdout=subprocess.PIPE,
         stderr=subprocess.PIPE,
+        cwd=cwd,
         env={**os.environ, "QPK": QPK, **variables},
         check=False,
     )
@@ -71,8 +78,13 @@ def refuse(*words, text="", **variables):
 def page_of(*words, **options):
     """Returns a page, and its data."""
     html = ask("report", *words, **options)
+    return html, data_of(html)
+
+
+def data_of(html):
+    """Returns the data of a page."""
     (data,) = re.findall(r'<script type="application/json" id="data">(.*?)</script>', html, re.S)
-    return html, json.loads(data)
+    return json.loads(data)
 
 
 def check(found, **expected):
@@ -197,6 +209,87 @@ def test_a_blocked_section():
     check(given_up, sections=0, sections_not_decoded=1, insertions=1, never_referenced=1, encoder_stream_bytes=10)
 
 
+def test_instructions_before_lists():
+    """A list has the instructions since the list before it, though the last of them is whole long before the next."""
+    text = "e 3fe11f 6294e7838c767f\nb 0 0000d1\nb 4 0000\ne 00 62\nb 8 0000d1\nb 12 0000d1\ne 94e7838c767f\nb 16 0000\n"
+    (found,) = ask_json("stats", "-", text=text)
+    check(found, bytes_of_lists=[13, 2, 4, 3, 9], encoder_stream_bytes=18)
+    bars = page_of("-", text=text)[1]["connections"][0]["directions"][0]["bars"]
+    assert bars == [[2, 2, 3, 10], [3, 3, 2, 0], [5, 5, 3, 1], [6, 6, 3, 0], [8, 8, 2, 7]], bars
+
+
+def cost_of(*words, text):
+    """Returns the seconds and the KB of memory that the script and what it started took, and its output."""
+    with tempfile.TemporaryFile() as recording, tempfile.TemporaryFile() as output:
+        recording.write(text.encode())
+        recording.seek(0)
+        command = [sys.executable, str(TOP / "dist" / "qpk-report"), *words, "-"]
+        with subprocess.Popen(command, stdin=recording, stdout=output, env={**os.environ, "QPK": QPK}) as running:
+            _, status, used = os.wait4(running.pid, 0)
+            running.returncode = os.WEXITSTATUS(status)
+        assert running.returncode == 0
+        output.seek(0)
+        return used.ru_utime + used.ru_stime, used.ru_maxrss, output.read().decode()
+
+
+def test_large_recordings():
+    """Four times the sections take at most six times the time, and no more than 150 MB. The numbers are those of all."""
+    beginning, sections = "e 3fe11f6294e7838c767f\n", 40_000
+    small, large = ("".join(f"b {4 * it} 028010d1d7c1\n" for it in range(size)) for size in (sections // 4, sections))
+    seconds, _, _ = cost_of("stats", "--json", text=beginning + small)
+    more, memory, output = cost_of("stats", "--json", text=beginning + large)
+    assert more <= 6 * seconds and memory <= 150_000, (seconds, more, memory)
+    check(json.loads(output), sections=sections, fields=4 * sections, insertions=1, section_bytes=6 * sections)
+    _, memory, output = cost_of("report", text=beginning + large)
+    assert memory <= 150_000, memory
+    connection = data_of(output)["connections"][0]
+    shown, (direction,) = connection["events"], connection["directions"]
+    assert sum(1 + len(it.get("lines", [])) for it in shown) in range(29_990, 30_001)
+    assert connection["left_out"][0].startswith(f"This page shows the first {len(shown)} of {sections + 2} events, ")
+    assert direction["rows"][0] == ["sections", f"{sections}; fields in them {4 * sections}"]
+    assert len(direction["bars"]) == 240 and direction["bars"][-1][0] > len(shown)
+    assert max(direction["entries"][0]["sections"]) < len(shown)
+
+
+def test_what_a_page_has_no_room_for():
+    """Many bytes of fields, insertions and faults: the page has the first ones, and says so."""
+    long = "e 3fe11f 4161 7f8307" + "61" * 1026 + "\n"  # an entry whose value has 1,026 bytes
+    many = long + "b 0 0200" + "80" * 20_000 + "\n"
+    connection = page_of("-", text=many)[1]["connections"][0]
+    assert len(connection["events"]) == 2 and "first 2 of 3 events" in connection["left_out"][0]
+    faults = page_of("-", text="b 0 ff\n" * 1200, status=2)[1]["connections"][0]
+    assert len(faults["faults"]) == 1000 and faults["number_of_faults"] == 1200
+    assert faults["left_out"] == ["This page lists the first 1000 of 1200 faults. qpk check prints each fault."]
+    assert faults["faults"][999]["event"] == 999
+    assert page_of("-", text=BLOCKED)[1]["connections"][0]["left_out"] == []
+
+
+def test_many_sections_at_once():
+    """The time is linear for sections that wait on a stream, that a line unblocks, that are refused, and for blanks."""
+    insertion = "e 3fe11f6294e7838c767f\n"
+    for text in (
+        lambda size: "s 4096 65535\n" + "b 4 0200ff\n" * size + insertion,
+        lambda size: "s 4096 65535\n" + "".join(f"b {4 * it} 0200ff\n" for it in range(size)) + insertion,
+    ):
+        def read(size, text=text):
+            recording = Recording("", text(size).encode(), [])
+            events = list(Reading(said_of(size), recording.pieces()).events())
+            assert sum(it.arrival is not None for it in events) == size
+            finder = Finder(events)
+            assert finder.find({"line": size + 2, "section": 4}).arrival
+
+        assert_linear(read, 2000)
+    assert_linear(lambda size: list(pieces_of_lines([" " * size, "@" + " " * size, "b" + " " * size])), 5000)
+
+
+def said_of(size):
+    """Yields what qpk shows of sections on one stream, which a line unblocks and which are then refused."""
+    for line in range(2, size + 2):
+        yield {"line": line, "section": 4, "was_blocked": False, "blocked_until": 1}
+    for _ in range(size):
+        yield {"line": size + 2, "section": 4, "was_blocked": True, "refused": "why", "offset": 2}
+
+
 def test_both_directions():
     """A decoder stream, SETTINGS and a stream that was given up are about the encoder of the other end."""
     text = "< s 4096 1\n> b 4 028010\n< c 4\n> b 4 028010\n> e 3fe11f6294e7838c767f\n< d 84\n< b 0 0000d1\n"
@@ -319,6 +412,37 @@ def test_statuses():
     ask("stats", "-", text="e ff\n" + "e 80\n" * 3, status=0)  # cut at its end
     (found,) = ask_json("stats", "-", text="b 0 0000d1ff\nb 4 0000d1\n", status=2)
     check(found, sections=1, sections_not_decoded=1, section_bytes=3)
+
+
+def test_no_traceback():
+    """Memory that ends, an output that is full or closed, and names with control characters have a line."""
+    with tempfile.TemporaryDirectory() as room:
+        path = Path(room) / "wide"
+        path.write_text("b 4 0000" + "d1" * 400_000 + "\n", encoding="utf-8")
+        script = TOP / "dist" / "qpk-report"
+        for command, reason in (
+            (f"ulimit -v 150000; exec {script} stats {path}", "refused: memory"),
+            (f"{script} stats {RECORDING} >/dev/full", "No space left on device: name another file, or make room there"),
+            (f"{script} stats {RECORDING} >&-", "refused: output: standard output is closed"),
+            (f"{script} stats - <&-", "refused: input: standard input is closed"),
+        ):
+            words = ["sh", "-c", command]
+            ran = subprocess.run(words, env={**os.environ, "QPK": QPK}, capture_output=True, check=False)
+            assert ran.returncode == 1 and ran.stderr.startswith(f"qpk stats: {reason}".encode()), (command, ran.stderr)
+            assert ran.stderr.count(b"\n") == 1
+    for words in (["stats", "\x1b[31m\x9b"], ["stats", "-", "\x1b[31m"], ["table", "--at", "\x1b[31m", "-"], ["stats", "-\x1b"]):
+        status, printed, faults = start(*words, text="")
+        assert (status, printed) == (1, "") and shows_no_fault_of_a_script(faults.encode()), faults
+
+
+def test_files_after_two_minuses():
+    """After -- a word is a file, whatever it begins with: a recording, or a trace, which another script reads."""
+    with tempfile.TemporaryDirectory() as room:
+        for name, text in (("-x", BLOCKED), ("--json", (TOP / "tests" / "qlog" / "client.qlog").read_text("utf-8"))):
+            (Path(room) / name).write_text(text, encoding="utf-8")
+            for words in (("stats",), ("table", "--at", "end"), ("report",)):
+                status, printed, _ = start(*words, "--", name, cwd=room)
+                assert (status, printed) == start(*words, f"./{name}", cwd=room)[:2] and status == 0, (words, name)
 
 
 def test_a_fault_is_marked():

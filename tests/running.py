@@ -1,10 +1,13 @@
 """Runs the functions of a script whose names begin with test_, and has what several try: qpk, and a recording."""
+import re
 import shutil
 import subprocess
+import time
 import traceback
 from concurrent.futures import ThreadPoolExecutor
 from pathlib import Path
 
+CONTROLS = re.compile(rb"[\x00-\x08\x0b-\x1f\x7f]|\xc2[\x80-\x9f]")  # in UTF-8, but for TAB and line feed
 TOP = Path(__file__).resolve().parent.parent
 # A recording in plain lines, and the same in the other forms of a line that qpk takes (docs/QPK.md).
 PLAIN = (
@@ -40,6 +43,24 @@ def attempt(test):
         return ""
     except Exception:  # pylint: disable=broad-except # a test may fail in any way
         return f"{test.__name__}:\n{traceback.format_exc()}"
+
+
+def assert_linear(work, size):
+    """Asserts that four times the size takes at most six times the time of this process, or a few milliseconds."""
+    first, second = (min(seconds_of(work, it) for _ in range(2)) for it in (size, 4 * size))
+    assert second <= 6 * first + 0.02, f"{size}: {first:.3f} s, {4 * size}: {second:.3f} s"
+
+
+def seconds_of(work, size):
+    """Returns the time that the processor took for work of a size, in this thread."""
+    begin = time.thread_time()
+    work(size)
+    return time.thread_time() - begin
+
+
+def shows_no_fault_of_a_script(said):
+    """Whether what a script said has no traceback, and no control character but the ends of lines."""
+    return b"Traceback" not in said and not CONTROLS.search(said)
 
 
 def answers_at_once():

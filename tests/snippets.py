@@ -7,7 +7,8 @@ A command of RUN is run as the document has it, over a copy of the repository, a
 "prints". A snippet is compiled and run in its frame of tests/snippets/, or its lines are compared with a source that
 another test runs. The exit status is 1 if one fails, or if a block is neither run nor listed here. Needs a C and a C++
 compiler, make, pkg-config and cargo, and a dist/ of the sources as they are. If one is missing, nothing is run, and the
-last line says so.
+last line says so. The command for Go needs go, and that for Python the packages python3-venv and flit of Debian. Without
+them it is left out, and the last line says so too. No command uses the network: pip takes flit_core from this machine.
 """
 import os
 import re
@@ -16,6 +17,7 @@ import signal
 import subprocess
 import sys
 import tempfile
+from importlib.machinery import PathFinder
 from pathlib import Path
 
 TOP = Path(__file__).resolve().parent.parent
@@ -24,16 +26,12 @@ TOOLS = ["cc", "c++", "make", "pkg-config", "cargo"]
 # The most seconds that one command may take.
 SECONDS = 60
 # Commands that are run, by their first word, and the folder of the room where each is run.
-RUN = {"printf": "h3_qpack", "make": "h3_qpack", "cc": "", "cargo": "app"}
+RUN = {"printf": "h3_qpack", "make": "h3_qpack", "cc": "", "cargo": "app", "go": "app-in-go", "python3": "h3_qpack"}
 # Commands that are not run here: why, and where each is run instead.
 NOT_RUN = {
     "./test": "runs this script, and is the first stage of .ci/run",
     "c/check.sh": "./test runs it, as c",
     "rust/check.sh": "./test runs it, as rust",
-    "go mod edit -require h3qpack@v0.0.0 -replace h3qpack=../h3_qpack/bindings/go && go build": (
-        "bindings/check.sh, in the gate, runs the package's tests and examples, with its own module file"
-    ),
-    "pip install ./bindings/python": "needs pip's build packages; bindings/check.sh, in the gate, runs the package's tests",
     "examples/http3-server/serve": "opens a browser; .ci/browsers builds this server, and runs it with browsers",
 }
 # Parts of commands that need root, and what takes their place: the library is installed in a folder of the room.
@@ -50,6 +48,12 @@ SNIPPETS = {
 # A block of code: between fences, which name its language, or indented by four after an empty line.
 BLOCK = re.compile(r"^```(\w*)\n((?:.*\n)*?)```$|(?<=\n\n)((?:    .*\n)+)", re.M)
 COMMENT = re.compile(r"\s+(?:# |// |/\* )(.*?)(?: \*/)?$")
+# What a command needs beside TOOLS, by its first word: programs, and modules of Python.
+NEEDS = {"go": (["go"], []), "python3": ([], ["ensurepip", "flit_core"])}
+# Where Debian installs modules of Python, which another python3 does not look into.
+DEBIAN = "/usr/lib/python3/dist-packages"
+MODULE = "module app\n\ngo 1.19\n"
+PROGRAM = 'package main\n\nimport "h3qpack"\n\nfunc main() {\n\tprintln(h3qpack.Version())\n}\n'
 CRATE = '[package]\nname = "app"\nversion = "0.1.0"\nedition = "2021"\n\n[workspace]\n'
 
 
@@ -80,6 +84,9 @@ class Room:
         shutil.copytree(TOP, folder / "h3_qpack", symlinks=True, ignore=ignored)
         (folder / "app" / "src").mkdir(parents=True)
         (folder / "app" / "Cargo.toml").write_text(CRATE)
+        (folder / "app-in-go").mkdir()
+        (folder / "app-in-go" / "go.mod").write_text(MODULE)
+        (folder / "app-in-go" / "main.go").write_text(PROGRAM)
         library = folder / "usr" / "lib"
         self.environment = {
             **os.environ,
@@ -88,7 +95,14 @@ class Room:
             "LD_LIBRARY_PATH": str(library),
             "CARGO_NET_OFFLINE": "true",
             "CARGO_TARGET_DIR": str(folder / "target"),
+            "GOPROXY": "off",
+            "GOTOOLCHAIN": "local",
+            "GOCACHE": str(folder / "go-cache"),
+            "PIP_NO_INDEX": "1",
+            "PIP_NO_BUILD_ISOLATION": "false",  # the words of pip for: without a folder for what it would fetch
+            "PYTHONPATH": str(folder / "packages"),
         }
+        lend_package("flit_core", folder / "packages")
 
     def run(self, command, folder):
         """Runs a command of the shell in a folder of the room. Returns what it printed, and why it failed, if it did."""
@@ -134,6 +148,25 @@ class Room:
         return self.run(f"{in_c} && {in_cpp}", "")[1]
 
 
+def find_package(name):
+    """Returns what Python finds of a package that is installed, or None."""
+    return PathFinder.find_spec(name, [*sys.path, DEBIAN])
+
+
+def lend_package(name, folder):
+    """Links a package of this machine, if it is there, into a folder that has no other."""
+    found = find_package(name)
+    folder.mkdir()
+    if found:
+        (folder / name).symlink_to(Path(found.origin).parent)
+
+
+def find_lacking(command):
+    """Returns what a command needs and is not installed."""
+    programs, modules = NEEDS.get(command.split()[0], ([], []))
+    return [it for it in programs if not shutil.which(it)] + [it for it in modules if not find_package(it)]
+
+
 def read_blocks():
     """Returns the blocks of all documents."""
     texts = [(name, (TOP / name).read_text(encoding="utf-8")) for name in DOCUMENTS]
@@ -172,7 +205,7 @@ def why_not():
     missing = [it for it in TOOLS if not shutil.which(it)]
     if missing:
         return f"{missing[0]} is not installed"
-    fits = subprocess.run(["bash", "-c", "cd c && . ./archive && fits_dist"], cwd=TOP).returncode == 0
+    fits = subprocess.run([TOP / "dist" / "fits", "h3_qpack_c"]).returncode == 0
     return "" if fits else "dist/ is of other sources"
 
 
@@ -185,7 +218,7 @@ def run_all(blocks, room):
             yield f"{block.place}: {fault}"
     for block in blocks:
         for command, comment in [] if block.language else block.commands():
-            fault = room.run_command(command, comment) if is_run(command) else ""
+            fault = room.run_command(command, comment) if is_run(command) and not find_lacking(command) else ""
             if fault:
                 yield f"{block.place}: {command}: {fault}"
     for block, frame in frames:
@@ -207,6 +240,10 @@ def main():
     for it in faults:
         print(it)
     not_run = f", nothing was run: {left_out}" if left_out else f", {len(NOT_RUN)} commands are run elsewhere"
+    commands = [command for it in blocks if not it.language for command, _ in it.commands()]
+    for it in commands if not left_out else []:
+        lacking = find_lacking(it) if is_run(it) else []
+        not_run += f"; not run, without {' and '.join(lacking)}: {it}" if lacking else ""
     print(f"snippets: {len(faults)} faults in {len(blocks)} blocks{not_run}")
     return 1 if faults else 0
 

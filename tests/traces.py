@@ -13,7 +13,11 @@ import sys
 import tempfile
 from pathlib import Path
 
-from running import FORMED, PLAIN, TOP, answers_at_once, install, missing_tool, run_tests
+from running import FORMED, PLAIN, TOP, answers_at_once, assert_linear, install, missing_tool, run_tests
+
+sys.dont_write_bytecode = True
+sys.path.insert(0, str(TOP / "dist"))
+import qpk_qlog  # noqa: E402 # pylint: disable=wrong-import-position
 
 QLOG = TOP / "tests" / "qlog"
 CHROMIUM = TOP / "tests" / "captured" / "chromium.txt"
@@ -221,6 +225,39 @@ def test_refused_files():
     ):
         status, output, said = run(TOP / "dist" / "qpk-capture", "show", "-", data=text)
         assert (status, output) == (1, "") and reason in said, said
+
+
+def test_nesting():
+    """A trace that is nested more deeply than Python reads is refused in a line."""
+    deep = "[" * 200_000
+    for text in (f'{{"traces":{deep}', f'{{"trace":{{}}}}\n{deep}\n{{}}\n', f'\x1e{{"a":{deep}'):
+        said = "qpk-capture: the input is nested too deeply: name a trace, a capture or a recording\n"
+        assert run(TOP / "dist" / "qpk-capture", "show", "-", data=text) == (1, "", said)
+
+
+def test_what_is_left_out():
+    """A section that is too long, and bytes after a gap, are reported even if nothing else is there."""
+    def moved(offset, data):
+        data = {"stream_id": 0, "offset": offset, "from": "network", "raw": {"data": data}}
+        return {"time": 0, "name": "quic:stream_data_moved", "data": data}
+
+    reason = "frames that are longer than 1048576 bytes, which are left out: 1"
+    assert lines_of_events(moved(0, "01a0000000")) == ([], [f"qpk-capture: connection 0: < stream 0: {reason}"])
+    reason = "bytes from 0 to 5 are missing"
+    assert lines_of_events(moved(5, "00")) == ([], [f"qpk-capture: connection 0: < stream 0: {reason}"])
+
+
+def test_limits_come_once():
+    """The time for many SETTINGS is linear, and the first of each end are taken."""
+    sections = [{"name": "qpack:headers_decoded", "data": {"stream_id": 0, "raw": "0000d1"}}]
+    limits = [{"name": "http3:parameters_set", "data": {"owner": "remote", "max_table_capacity": it}} for it in (1, 2)]
+
+    def read(size):
+        trace = json.dumps({"traces": [{"events": sections * size + limits * size}]})
+        (connection,) = qpk_qlog.connections_of(trace)
+        assert [it for it in connection.lines if " s " in it] == ["@0.000000 < s 1 0"]
+
+    assert_linear(read, 1000)
 
 
 def test_chromium_and_back():

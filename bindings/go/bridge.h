@@ -6,6 +6,11 @@
 #include <h3_qpack.h>
 #include <stdlib.h>
 
+/* Go can't call a macro. */
+static inline size_t h3qpack_longest_section(uint64_t max_section_size) {
+  return h3_qpack_longest_section(max_section_size);
+}
+
 /* A field: its lengths in the text of all names and values, and its flags. */
 typedef struct h3qpack_line {
   size_t namelen;

@@ -26,26 +26,30 @@ func (s DecoderSettings) inC() C.h3_qpack_decoder_settings {
 	return settings
 }
 
-// A Decoder decodes the sections that this side receives (RFC 9204, section 2.2).
+// A Decoder decodes the sections that this side receives (RFC 9204, section 2.2). Do not copy it: go vet reports copies.
 type Decoder struct {
-	end C.h3_qpack_decoder
+	_   noCopy
+	end *C.h3_qpack_decoder // a copy has the same, so that it closes with its original
 }
 
 // NewDecoder makes a decoder for a side that sends the settings. Call Close when the connection ends.
 //
 // It fails with ErrInvalid if a setting is out of its range.
 func NewDecoder(settings DecoderSettings) (*Decoder, error) {
-	decoder, given := new(Decoder), settings.inC()
-	status := C.h3_qpack_decoder_new_versioned(&decoder.end, C.H3_QPACK_VERSION, &given)
+	decoder, given := &Decoder{end: new(C.h3_qpack_decoder)}, settings.inC()
+	status := C.h3_qpack_decoder_new_versioned(decoder.end, C.H3_QPACK_VERSION, &given)
 	if err := check("new decoder", C.int32_t(status)); err != nil {
 		return nil, err
 	}
 	return decoder, nil
 }
 
+// isClosed reports whether there is no decoder: it was closed, or NewDecoder did not make it.
+func (d *Decoder) isClosed() bool { return d.end == nil || d.end.at == nil }
+
 // Close frees the decoder. Later calls that can fail return ErrClosed. It returns nil, and may be called again.
 func (d *Decoder) Close() error {
-	C.h3_qpack_decoder_del(&d.end)
+	C.h3_qpack_decoder_del(d.end)
 	return nil
 }
 
@@ -55,10 +59,10 @@ func (d *Decoder) Close() error {
 // It fails with ErrEncoderStream if an instruction is invalid, and with ErrDecompressionFailed if Decode did: close the
 // connection. With ErrNoMemory, pass the bytes after the first Taken ones again later.
 func (d *Decoder) Receive(bytes []byte) error {
-	if d.end.at == nil {
+	if d.isClosed() {
 		return ErrClosed
 	}
-	return checkReceived(C.h3_qpack_decoder_read_encoder(&d.end, firstByte(bytes), C.size_t(len(bytes))))
+	return checkReceived(C.h3_qpack_decoder_read_encoder(d.end, firstByte(bytes), C.size_t(len(bytes))))
 }
 
 // Decode decodes a whole section of a stream below 2^62. Pass the sections of a stream in order.
@@ -70,10 +74,10 @@ func (d *Decoder) Receive(bytes []byte) error {
 //   - ErrInvalid: the stream is 2^62 or more;
 //   - ErrNoMemory: decode the section again later.
 func (d *Decoder) Decode(streamID uint64, section []byte) ([]Field, error) {
-	if d.end.at == nil {
+	if d.isClosed() {
 		return nil, ErrClosed
 	}
-	decoded := C.h3_qpack_decoder_decode(&d.end, C.uint64_t(streamID), firstByte(section), C.size_t(len(section)))
+	decoded := C.h3_qpack_decoder_decode(d.end, C.uint64_t(streamID), firstByte(section), C.size_t(len(section)))
 	if decoded.status != C.H3_QPACK_OK {
 		return nil, &Error{
 			Op:       "decode",
@@ -84,7 +88,7 @@ func (d *Decoder) Decode(streamID uint64, section []byte) ([]Field, error) {
 		}
 	}
 	given := newRoom(decoded.fields, decoded.len)
-	written := C.h3_qpack_decoder_fields(&d.end, given.first(), decoded.fields, firstByte(given.text), decoded.len)
+	written := C.h3_qpack_decoder_fields(d.end, given.first(), decoded.fields, firstByte(given.text), decoded.len)
 	if err := check("decode", written.status); err != nil {
 		return nil, err
 	}
@@ -95,7 +99,7 @@ func (d *Decoder) Decode(streamID uint64, section []byte) ([]Field, error) {
 // before the next call: until then it returns the same stream.
 func (d *Decoder) NextReady() (streamID uint64, ok bool) {
 	var stream C.uint64_t
-	if C.h3_qpack_decoder_next_ready(&d.end, &stream) == 0 {
+	if C.h3_qpack_decoder_next_ready(d.end, &stream) == 0 {
 		return 0, false
 	}
 	return uint64(stream), true
@@ -104,36 +108,36 @@ func (d *Decoder) NextReady() (streamID uint64, ok bool) {
 // CancelStream gives up the sections of a stream that are not decoded. Call it when the stream is reset, or when you
 // stop reading it. It is allowed for any stream below 2^62.
 func (d *Decoder) CancelStream(streamID uint64) error {
-	if d.end.at == nil {
+	if d.isClosed() {
 		return ErrClosed
 	}
-	return check("cancel stream", C.int32_t(C.h3_qpack_decoder_cancel_stream(&d.end, C.uint64_t(streamID))))
+	return check("cancel stream", C.int32_t(C.h3_qpack_decoder_cancel_stream(d.end, C.uint64_t(streamID))))
 }
 
 // TakeDecoderStream returns the bytes that are to be sent on the decoder stream, which the decoder does not keep. Call
 // it after each Decode, Receive and CancelStream.
 func (d *Decoder) TakeDecoderStream() []byte {
-	bytes := make([]byte, C.h3_qpack_decoder_get_decoder_streamlen(&d.end))
-	count := C.h3_qpack_decoder_write_decoder(&d.end, firstByte(bytes), C.size_t(len(bytes)))
+	bytes := make([]byte, C.h3_qpack_decoder_get_decoder_streamlen(d.end))
+	count := C.h3_qpack_decoder_write_decoder(d.end, firstByte(bytes), C.size_t(len(bytes)))
 	return bytes[:count]
 }
 
 // Blocked returns how many streams are blocked.
-func (d *Decoder) Blocked() int { return int(C.h3_qpack_decoder_get_num_blocked(&d.end)) }
+func (d *Decoder) Blocked() int { return int(C.h3_qpack_decoder_get_num_blocked(d.end)) }
 
 // InsertCount returns how many insertions were received since the connection began.
-func (d *Decoder) InsertCount() int { return int(C.h3_qpack_decoder_get_icnt(&d.end)) }
+func (d *Decoder) InsertCount() int { return int(C.h3_qpack_decoder_get_icnt(d.end)) }
 
 // Capacity returns the capacity of the table, in bytes: 0 until the peer sets one.
-func (d *Decoder) Capacity() int { return int(C.h3_qpack_decoder_get_capacity(&d.end)) }
+func (d *Decoder) Capacity() int { return int(C.h3_qpack_decoder_get_capacity(d.end)) }
 
 // TableSize returns the size of the table, in bytes: the sum over its entries of name, value and 32 bytes each.
-func (d *Decoder) TableSize() int { return int(C.h3_qpack_decoder_get_table_size(&d.end)) }
+func (d *Decoder) TableSize() int { return int(C.h3_qpack_decoder_get_table_size(d.end)) }
 
 // Entries returns the entries of the table, the newest first.
 func (d *Decoder) Entries() []Field {
-	count := int(C.h3_qpack_decoder_get_num_entries(&d.end))
+	count := int(C.h3_qpack_decoder_get_num_entries(d.end))
 	return listEntries(count, d.TableSize(), func(index C.size_t, text []byte) C.h3_qpack_field {
-		return C.h3_qpack_decoder_entry(&d.end, index, firstByte(text), C.size_t(len(text)))
+		return C.h3_qpack_decoder_entry(d.end, index, firstByte(text), C.size_t(len(text)))
 	})
 }

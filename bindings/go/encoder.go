@@ -42,9 +42,10 @@ func (s EncoderSettings) inC() C.h3_qpack_encoder_settings {
 	return settings
 }
 
-// An Encoder encodes the sections that this side sends (RFC 9204, section 2.1).
+// An Encoder encodes the sections that this side sends (RFC 9204, section 2.1). Do not copy it: go vet reports copies.
 type Encoder struct {
-	end C.h3_qpack_encoder
+	_   noCopy
+	end *C.h3_qpack_encoder // a copy has the same, so that it closes with its original
 }
 
 // Encoded is what [Encoder.Encode] returns.
@@ -63,17 +64,20 @@ type Encoded struct {
 //
 // It fails with ErrInvalid if a setting is out of its range.
 func NewEncoder(settings EncoderSettings) (*Encoder, error) {
-	encoder, given := new(Encoder), settings.inC()
-	status := C.h3_qpack_encoder_new_versioned(&encoder.end, C.H3_QPACK_VERSION, &given)
+	encoder, given := &Encoder{end: new(C.h3_qpack_encoder)}, settings.inC()
+	status := C.h3_qpack_encoder_new_versioned(encoder.end, C.H3_QPACK_VERSION, &given)
 	if err := check("new encoder", C.int32_t(status)); err != nil {
 		return nil, err
 	}
 	return encoder, nil
 }
 
+// isClosed reports whether there is no encoder: it was closed, or NewEncoder did not make it.
+func (e *Encoder) isClosed() bool { return e.end == nil || e.end.at == nil }
+
 // Close frees the encoder. Later calls that can fail return ErrClosed. It returns nil, and may be called again.
 func (e *Encoder) Close() error {
-	C.h3_qpack_encoder_del(&e.end)
+	C.h3_qpack_encoder_del(e.end)
 	return nil
 }
 
@@ -82,16 +86,16 @@ func (e *Encoder) Close() error {
 //
 // It fails with ErrInvalid for a stream of 2^62 or more, and with ErrDecoderStream if Receive did.
 func (e *Encoder) Encode(streamID uint64, fields []Field) (Encoded, error) {
-	if e.end.at == nil {
+	if e.isClosed() {
 		return Encoded{}, ErrClosed
 	}
 	given, section := newLines(fields), make([]byte, usualSection)
-	encoded := C.h3qpack_encode(&e.end, C.uint64_t(streamID), firstByte(given.text), given.first(),
+	encoded := C.h3qpack_encode(e.end, C.uint64_t(streamID), firstByte(given.text), given.first(),
 		C.size_t(len(fields)), firstByte(section), C.size_t(len(section)))
 	status := encoded.status
 	if status == C.H3_QPACK_ERR_NO_ROOM {
 		section = make([]byte, encoded.len)
-		status = C.h3_qpack_encoder_section(&e.end, firstByte(section), C.size_t(len(section))).status
+		status = C.h3_qpack_encoder_section(e.end, firstByte(section), C.size_t(len(section))).status
 	}
 	if err := check("encode", status); err != nil {
 		return Encoded{}, err
@@ -101,8 +105,8 @@ func (e *Encoder) Encode(streamID uint64, fields []Field) (Encoded, error) {
 
 // TakeEncoderStream returns the bytes that are to be sent on the encoder stream, which the encoder does not keep.
 func (e *Encoder) TakeEncoderStream() []byte {
-	bytes := make([]byte, C.h3_qpack_encoder_get_encoder_streamlen(&e.end))
-	count := C.h3_qpack_encoder_write_encoder(&e.end, firstByte(bytes), C.size_t(len(bytes)))
+	bytes := make([]byte, C.h3_qpack_encoder_get_encoder_streamlen(e.end))
+	count := C.h3_qpack_encoder_write_encoder(e.end, firstByte(bytes), C.size_t(len(bytes)))
 	return bytes[:count]
 }
 
@@ -110,10 +114,10 @@ func (e *Encoder) TakeEncoderStream() []byte {
 //
 // It fails with ErrDecoderStream if an instruction is invalid: close the connection.
 func (e *Encoder) Receive(bytes []byte) error {
-	if e.end.at == nil {
+	if e.isClosed() {
 		return ErrClosed
 	}
-	return checkReceived(C.h3_qpack_encoder_read_decoder(&e.end, firstByte(bytes), C.size_t(len(bytes))))
+	return checkReceived(C.h3_qpack_encoder_read_decoder(e.end, firstByte(bytes), C.size_t(len(bytes))))
 }
 
 // SetPeerSettings applies the peer's SETTINGS to an encoder that was made before they arrived: its
@@ -123,10 +127,10 @@ func (e *Encoder) Receive(bytes []byte) error {
 // It fails with ErrDecoderStream if the encoder has another maximum, above 0, and with ErrSettings if it has a greater
 // limit of blocked streams: close the connection. It fails with ErrInvalid for a new maximum of 2^30 or more: pass 0.
 func (e *Encoder) SetPeerSettings(maxCapacity, maxBlocked uint64) error {
-	if e.end.at == nil {
+	if e.isClosed() {
 		return ErrClosed
 	}
-	status := C.h3_qpack_encoder_set_peer_settings(&e.end, C.uint64_t(maxCapacity), C.uint64_t(maxBlocked))
+	status := C.h3_qpack_encoder_set_peer_settings(e.end, C.uint64_t(maxCapacity), C.uint64_t(maxBlocked))
 	return check("set peer settings", C.int32_t(status))
 }
 
@@ -135,38 +139,38 @@ func (e *Encoder) SetPeerSettings(maxCapacity, maxBlocked uint64) error {
 // It fails with ErrInvalid above the peer's maximum, and with ErrHeld while the peer may still reference entries that
 // would be evicted.
 func (e *Encoder) SetCapacity(capacity uint64) error {
-	if e.end.at == nil {
+	if e.isClosed() {
 		return ErrClosed
 	}
 	if uint64(C.size_t(capacity)) != capacity {
 		return check("set capacity", C.H3_QPACK_ERR_INVALID)
 	}
-	return check("set capacity", C.int32_t(C.h3_qpack_encoder_set_capacity(&e.end, C.size_t(capacity))))
+	return check("set capacity", C.int32_t(C.h3_qpack_encoder_set_capacity(e.end, C.size_t(capacity))))
 }
 
 // Blocked returns how many streams may be blocked at the peer.
-func (e *Encoder) Blocked() int { return int(C.h3_qpack_encoder_get_num_blocked(&e.end)) }
+func (e *Encoder) Blocked() int { return int(C.h3_qpack_encoder_get_num_blocked(e.end)) }
 
 // Unacknowledged returns how many sections that reference the table are unacknowledged.
-func (e *Encoder) Unacknowledged() int { return int(C.h3_qpack_encoder_get_num_unacked(&e.end)) }
+func (e *Encoder) Unacknowledged() int { return int(C.h3_qpack_encoder_get_num_unacked(e.end)) }
 
 // InsertCount returns how many insertions were made since the connection began.
-func (e *Encoder) InsertCount() int { return int(C.h3_qpack_encoder_get_icnt(&e.end)) }
+func (e *Encoder) InsertCount() int { return int(C.h3_qpack_encoder_get_icnt(e.end)) }
 
 // KnownReceivedCount returns how many insertions the peer is known to have received.
-func (e *Encoder) KnownReceivedCount() int { return int(C.h3_qpack_encoder_get_krcnt(&e.end)) }
+func (e *Encoder) KnownReceivedCount() int { return int(C.h3_qpack_encoder_get_krcnt(e.end)) }
 
 // Capacity returns the capacity of the table, in bytes. It is 0 before the first Encode or SetCapacity.
-func (e *Encoder) Capacity() int { return int(C.h3_qpack_encoder_get_capacity(&e.end)) }
+func (e *Encoder) Capacity() int { return int(C.h3_qpack_encoder_get_capacity(e.end)) }
 
 // TableSize returns the size of the table, in bytes: the sum over its entries of name, value and 32 bytes each.
-func (e *Encoder) TableSize() int { return int(C.h3_qpack_encoder_get_table_size(&e.end)) }
+func (e *Encoder) TableSize() int { return int(C.h3_qpack_encoder_get_table_size(e.end)) }
 
 // Entries returns the entries of the table, the newest first.
 func (e *Encoder) Entries() []Field {
-	count := int(C.h3_qpack_encoder_get_num_entries(&e.end))
+	count := int(C.h3_qpack_encoder_get_num_entries(e.end))
 	return listEntries(count, e.TableSize(), func(index C.size_t, text []byte) C.h3_qpack_field {
-		return C.h3_qpack_encoder_entry(&e.end, index, firstByte(text), C.size_t(len(text)))
+		return C.h3_qpack_encoder_entry(e.end, index, firstByte(text), C.size_t(len(text)))
 	})
 }
 
@@ -178,7 +182,8 @@ func listEntries(count, size int, entry func(index C.size_t, text []byte) C.h3_q
 		if field.status != C.H3_QPACK_OK {
 			panic("h3qpack: an entry is not there, or is larger than its table")
 		}
-		entries = append(entries, newField(field, string(text[:field.namelen+field.valuelen])))
+		parts := cutter{rest: text[:field.namelen+field.valuelen]}
+		entries = append(entries, parts.field(field))
 	}
 	return entries
 }

@@ -86,20 +86,53 @@ func (r *room) first() *C.h3_qpack_field {
 
 // list returns the fields that were copied to the room.
 func (r *room) list() []Field {
-	list, text := make([]Field, len(r.fields)), string(r.text)
+	list, parts := make([]Field, len(r.fields)), cutter{rest: r.text}
 	for i, field := range r.fields {
-		list[i] = newField(field, text)
-		text = text[field.namelen+field.valuelen:]
+		list[i] = parts.field(field)
 	}
 	return list
 }
 
-// newField returns the field at the start of a text.
-func newField(field C.h3_qpack_field, text string) Field {
-	end := field.namelen + field.valuelen
+// mostShared is how many bytes of names and values share their memory at most. A name or value that is kept holds no
+// more, unless it is longer itself.
+const mostShared = 512
+
+// A cutter cuts a text to names and values. Those that fit in mostShared bytes together are parts of one string.
+type cutter struct {
+	rest   []byte // of the text
+	shared string // what is left of the string that was made last
+}
+
+// next returns the next bytes of the text, as a string.
+func (c *cutter) next(size C.size_t) string {
+	length := int(size)
+	if length > len(c.shared) {
+		c.shared = string(c.rest[:larger(length, smaller(mostShared, len(c.rest)))])
+	}
+	cut := c.shared[:length]
+	c.shared, c.rest = c.shared[length:], c.rest[length:]
+	return cut
+}
+
+// field returns the field at the start of the text that is left.
+func (c *cutter) field(field C.h3_qpack_field) Field {
 	return Field{
-		Name:         text[:field.namelen],
-		Value:        text[field.namelen:end],
+		Name:         c.next(field.namelen),
+		Value:        c.next(field.valuelen),
 		NeverIndexed: field.flags&C.H3_QPACK_NV_FLAG_NEVER_INDEX != 0,
 	}
+}
+
+func smaller(a, b int) int {
+	if a < b {
+		return a
+	}
+	return b
+}
+
+func larger(a, b int) int {
+	if a > b {
+		return a
+	}
+	return b
 }

@@ -27,11 +27,23 @@ import "C"
 
 import "unsafe"
 
-// Version returns the version of the library's interface. This package needs the major version 1.
+// Version returns the version of the library's interface. This package needs version 1.0.
 func Version() (major, minor int) {
 	version := int(C.h3_qpack_version())
 	return version >> 16, version & 0xffff
 }
+
+// LongestSection returns the length, in bytes, of the longest section whose fields can be within a MaxSectionSize. A
+// decoder refuses a longer one unread, with ErrTooLarge, so a buffer for a HEADERS frame needs no more room.
+func LongestSection(maxSectionSize uint64) uint64 {
+	return uint64(C.h3qpack_longest_section(C.uint64_t(maxSectionSize)))
+}
+
+// noCopy has go vet report copies of a struct that has it: vet takes it for a lock.
+type noCopy struct{}
+
+func (*noCopy) Lock()   {}
+func (*noCopy) Unlock() {}
 
 // firstByte returns a pointer to the bytes, or nil if there are none.
 func firstByte(bytes []byte) *C.uint8_t {

@@ -5,6 +5,7 @@ import (
 	"errors"
 	"math"
 	"reflect"
+	"runtime"
 	"strings"
 	"sync"
 	"testing"
@@ -363,6 +364,127 @@ func TestClose(t *testing.T) {
 	}
 	if len(encoder.Entries())+len(decoder.Entries())+encoder.TableSize()+decoder.InsertCount() != 0 {
 		t.Fatal("a closed end has a table")
+	}
+}
+
+// copyOf returns a copy of a struct, which go vet does not see.
+func copyOf[T any](original *T) *T {
+	copied := new(T)
+	reflect.ValueOf(copied).Elem().Set(reflect.ValueOf(original).Elem())
+	return copied
+}
+
+func TestCopies(t *testing.T) {
+	encoder, decoder := newPair(t, 4096, 16)
+	otherEncoder, otherDecoder := copyOf(encoder), copyOf(decoder)
+	must(t, encoder.Close())
+	must(t, decoder.Close())
+	_, encodeErr := otherEncoder.Encode(0, request)
+	_, decodeErr := otherDecoder.Decode(0, []byte{0, 0, 0xd1})
+	if encodeErr != ErrClosed || decodeErr != ErrClosed {
+		t.Fatalf("copies of closed ends: %v, %v", encodeErr, decodeErr)
+	}
+	must(t, otherEncoder.Close())
+	must(t, otherDecoder.Close())
+}
+
+func TestZeroValues(t *testing.T) {
+	var encoder Encoder
+	var decoder Decoder
+	_, encodeErr := encoder.Encode(0, request)
+	_, decodeErr := decoder.Decode(0, []byte{0, 0, 0xd1})
+	if encodeErr != ErrClosed || decodeErr != ErrClosed || len(encoder.Entries())+decoder.Blocked() != 0 {
+		t.Fatalf("zero values: %v, %v", encodeErr, decodeErr)
+	}
+	must(t, encoder.Close())
+	must(t, decoder.Close())
+}
+
+// largeSection returns a section of a value of 60,000 bytes and one of two, each under a name of its own.
+func largeSection(t testing.TB) []byte {
+	section, err := EncodeStateless([]Field{{Name: "large", Value: strings.Repeat("v", 60000)}, {Name: "kept", Value: "id"}})
+	if err != nil {
+		t.Fatal(err)
+	}
+	return section
+}
+
+// heap returns how many bytes are reachable.
+func heap() uint64 {
+	var memory runtime.MemStats
+	runtime.GC()
+	runtime.ReadMemStats(&memory)
+	return memory.HeapAlloc
+}
+
+// A value that is kept does not hold the text of its section.
+func TestKeptValues(t *testing.T) {
+	decoder, err := NewDecoder(DecoderSettings{})
+	must(t, err)
+	defer decoder.Close()
+	section, kept, before := largeSection(t), [2000][]string{}, heap()
+	for i := range kept {
+		fields, err := decoder.Decode(uint64(4*i), section)
+		must(t, err)
+		kept[i] = []string{fields[0].Name, fields[1].Name, fields[1].Value}
+	}
+	if held := heap() - before; held > 4<<20 {
+		t.Fatalf("%d kept values hold %d bytes", len(kept), held)
+	}
+	runtime.KeepAlive(kept)
+}
+
+// Names and values of all lengths around the bound on what shares memory are cut where they end.
+func TestCuts(t *testing.T) {
+	encoder, decoder := newPair(t, 0, 0)
+	for size := 0; size < 3*mostShared; size += 37 {
+		fields := []Field{{Name: "a", Value: "b"}, {Name: strings.Repeat("n", size), Value: strings.Repeat("v", 2*size/3)},
+			{Name: "c"}, {Name: "d", Value: strings.Repeat("w", mostShared)}, {Name: "e", Value: "f"}}
+		got, err := decoder.Decode(0, encode(t, encoder, 0, fields).Section)
+		expectFields(t, got, err, fields)
+	}
+}
+
+func BenchmarkDecode(b *testing.B) {
+	decoder, err := NewDecoder(DecoderSettings{})
+	if err != nil {
+		b.Fatal(err)
+	}
+	defer decoder.Close()
+	for name, fields := range map[string][]Field{"4 fields": request, "33 fields, one of 1,536 bytes": manyFields()} {
+		section, err := EncodeStateless(fields)
+		if err != nil {
+			b.Fatal(err)
+		}
+		b.Run(name, func(b *testing.B) {
+			b.ReportAllocs()
+			for i := 0; i < b.N; i++ {
+				if _, err := decoder.Decode(0, section); err != nil {
+					b.Fatal(err)
+				}
+			}
+		})
+	}
+}
+
+func TestLongestSection(t *testing.T) {
+	for _, row := range [][2]uint64{{0, 20}, {50, 220}, {65536, 262164}, {math.MaxUint64, math.MaxUint64}} {
+		if longest := LongestSection(row[0]); longest != row[1] {
+			t.Errorf("of %d: %d", row[0], longest)
+		}
+	}
+	decoder, err := NewDecoder(DecoderSettings{MaxSectionSize: 50})
+	must(t, err)
+	defer decoder.Close()
+	longest := append([]byte{0, 0, 0xd1}, make([]byte, LongestSection(50)-3)...)
+	_, err = decoder.Decode(0, longest) // a line of it is wrong, and so it was read
+	expect(t, err, ErrDecompressionFailed)
+	other, err := NewDecoder(DecoderSettings{MaxSectionSize: 50})
+	must(t, err)
+	defer other.Close()
+	_, err = other.Decode(0, append(longest, 0))
+	if failure := expect(t, err, ErrTooLarge); failure.Number != 0 {
+		t.Fatalf("%+v", failure)
 	}
 }
 

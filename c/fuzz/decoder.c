@@ -74,7 +74,7 @@ static void compare_fields(connection *c, const strict_fields *fields, size_t go
 static void decode(connection *c, uint64_t stream, const uint8_t *p, size_t len) {
   strict_section want = strict_decode(&c->strict, p, len, c->limit);
   h3_qpack_decoded got = h3_qpack_decoder_decode(&c->library, stream, p, len);
-  if (len > 4 * c->limit + 20) { /* no section of so many bytes is within the limit */
+  if (len > h3_qpack_longest_section(c->limit)) { /* no section of so many bytes is within the limit */
     CHECK(got.status == H3_QPACK_ERR_TOO_LARGE && !got.number && !got.offset && !got.fields);
     c->waiting[stream] = 0;
   } else if (want.status == STRICT_BLOCKED) {

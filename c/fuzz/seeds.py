@@ -1,7 +1,7 @@
 #!/usr/bin/env python3
-"""Makes inputs of the fuzz targets: fuzz/seeds.py decoder|encoder FOLDER FILE..
+"""Makes inputs of the fuzz targets: fuzz/seeds.py decoder|encoder|frames FOLDER FILE..
 
-For the decoder the files are recordings of an encoder, a line each: 'e' and bytes of the encoder stream, or 'b', a stream
+For the decoder and for frames the files are recordings of an encoder, a line each: 'e' and bytes of the encoder stream, or 'b', a stream
 and a section. Their names have the capacity: nghttp3_4096_16_ack.txt. For the encoder they are lists of fields, as QIF: a
 name, a TAB and a value on a line, and an empty line after each list.
 """
@@ -81,9 +81,26 @@ def string_of(text):
     return bytes([0x80 | len(text)]) + text
 
 
+def frames_inputs(path):
+    """Yields streams of the sections of a recording: each in a HEADERS frame, with frames of other types after it."""
+    with open(path, encoding='ascii') as lines:
+        words = [line.rstrip('\n').split('\t') for line in lines]
+    stream = b''
+    for number, section in enumerate(bytes.fromhex(it[-1]) for it in words if it[0] == 'b'):
+        stream += frame_of(1, section) + frame_of(0, section[:number % 64]) + frame_of(0x21 + 0x1f * number, b'')
+        if number in (0, 3, 20):
+            for most_kept, piece in ((255, 0), (255, 1), (16, 7)):
+                yield (bytes([most_kept, piece]) + stream)[:MOST]
+
+
+def frame_of(kind, payload):
+    """Returns a frame (RFC 9114, section 7.1), its integers in four bytes."""
+    return b''.join((0x80000000 | it).to_bytes(4, 'big') for it in (kind, len(payload))) + payload
+
+
 def main():
     target, folder, files = sys.argv[1], sys.argv[2], sys.argv[3:]
-    inputs_of = {'decoder': decoder_inputs, 'encoder': encoder_inputs}[target]
+    inputs_of = {'decoder': decoder_inputs, 'encoder': encoder_inputs, 'frames': frames_inputs}[target]
     for path in files:
         for number, data in enumerate(inputs_of(path)):
             with open(f'{folder}/{os.path.basename(path)}.{number}', 'wb') as file:

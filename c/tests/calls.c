@@ -250,6 +250,15 @@ static void decode_alone(void) {
   CHECK(r.status == H3_QPACK_ERR_NO_ROOM && r.fields == 1 && r.len == 10 && bytes[0] == 0xee);
   r = h3_qpack_decode_stateless((const uint8_t *)"\0\0\xd1", 3, 41, fields, 1, bytes, 10);
   CHECK(r.status == H3_QPACK_ERR_TOO_LARGE && r.number == 1 && r.offset == 2 && !r.fields && !r.len);
+  CHECK(h3_qpack_longest_section(0) == 20 && h3_qpack_longest_section(65536) == 262164);
+  CHECK(h3_qpack_longest_section(UINT64_MAX) == SIZE_MAX);
+  CHECK(h3_qpack_longest_section((SIZE_MAX - 20) / 4) == SIZE_MAX / 4 * 4);
+  CHECK(h3_qpack_longest_section((SIZE_MAX - 20) / 4 + 1) == SIZE_MAX);
+  uint8_t longest[4 * 50 + 21] = {0, 0, 0xd1}; /* a line of it is wrong, if it is read */
+  r = h3_qpack_decode_stateless(longest, h3_qpack_longest_section(50), 50, fields, 1, bytes, 10);
+  CHECK(r.status == H3_QPACK_DECOMPRESSION_FAILED && r.number == 2);
+  r = h3_qpack_decode_stateless(longest, h3_qpack_longest_section(50) + 1, 50, fields, 1, bytes, 10);
+  CHECK(r.status == H3_QPACK_ERR_TOO_LARGE && !r.number);
   r = h3_qpack_decode_stateless((const uint8_t *)"\0\0\xd1\x80", 4, 99, fields, 9, bytes, 99);
   CHECK(r.status == H3_QPACK_DECOMPRESSION_FAILED && r.number == 2 && r.offset == 3 && bytes[0] == 0xee);
   r = h3_qpack_decode_stateless((const uint8_t *)"\x02\0\x80", 3, 99, fields, 9, bytes, 99);

@@ -5,6 +5,8 @@ qpk-capture too. page, stats, again and table make the answers of the commands, 
 element.js are also those of examples/http3-server.
 """
 
+from qpk_main import Refusal
 
-class ReportError(Exception):
+
+class ReportError(Refusal):
     """There is no answer, for this reason."""

@@ -3,11 +3,12 @@
 import importlib
 import os
 import sys
+from collections import defaultdict
 from typing import Any, Dict, Iterator, List, Optional, Tuple
 
 from . import ReportError
-from .connection import Direction, Event
-from .recording import SCRIPTS
+from .connection import Event
+from .recording import SCRIPTS, Object
 
 USUAL_BLOCKED = 100
 MOST_SECTION = (1 << 64) - 1  # a decoder's limit that no section reaches
@@ -27,15 +28,26 @@ def load_library() -> Any:
         raise ReportError(f"--try encodes by the library, which is not there: {hint} ({error})") from None
 
 
+class Lists:
+    """The lists of a connection as the library takes them, by the end of each direction."""
+
+    def __init__(self, library: Any) -> None:
+        self.library = library
+        self.directions: Dict[str, List[List[Any]]] = defaultdict(list)
+
+    def take(self, event: Event) -> None:
+        """Keeps a list."""
+        if event.is_list:
+            self.directions[event.of].append(fields_with_marks(event, self.library))
+
+
 def try_capacities(
-    direction: Direction, capacities: List[int], max_blocked: Optional[int], library: Any
+    lists: List[List[Any]], settings: Optional[Object], capacities: List[int], max_blocked: Optional[int], library: Any
 ) -> Iterator[Dict[str, int]]:
     """Yields for each capacity what the lists of a direction take: the bytes of sections and of the encoder stream.
 
     As in qpk show, the limit of blocked streams is that of SETTINGS, else the one that is given, else 100.
     """
-    lists = [fields_with_marks(it, library) for it in direction.lists()]
-    settings = direction.settings()
     usual = USUAL_BLOCKED if max_blocked is None else max_blocked
     blocked = settings["max_blocked"] if settings else usual
     for capacity in capacities:

@@ -1,12 +1,14 @@
 """A connection, put together from what qpk shows: its events with their bytes, its entries, and its tables."""
 
 from bisect import bisect_right
+from collections import deque
 from dataclasses import dataclass, field
-from typing import Any, Dict, Iterator, List, NamedTuple, Optional, Tuple
+from typing import Any, Deque, Dict, Iterable, Iterator, List, NamedTuple, Optional, Tuple
 
 from .recording import Object, Piece, Recording
 
 ENTRY_OVERHEAD = 32  # bytes that an entry counts beside its name and value (RFC 9204, section 3.2.1)
+PLACES = ("encoder", "decoder", "section", "record")  # where a finding may be
 OTHER = {"client": "server", "server": "client", "": ""}
 
 
@@ -29,7 +31,8 @@ def field_of(it: Object) -> Field:
 
 def bytes_of_text(text: Any) -> bytes:
     """Returns the bytes of a string of qpk's JSON, or of the object that it prints if they are not UTF-8."""
-    return bytes.fromhex(text["hex"]) if isinstance(text, dict) else str(text).encode()
+    data: bytes = text.encode() if isinstance(text, str) else bytes.fromhex(text["hex"])
+    return data
 
 
 class Line(NamedTuple):
@@ -62,6 +65,8 @@ class Event:
     data: bytes = b""  # of the instruction or the section
     arrival: Optional["Event"] = None  # of a section that was blocked: when it came
     lines: List[Line] = field(default_factory=list)
+    is_list: bool = False  # a section that was decoded whole
+    stream: Optional[str] = None  # which stream of instructions it is of: encoder, decoder, or none
 
     @property
     def line(self) -> int:
@@ -72,16 +77,6 @@ class Event:
     def end(self) -> str:
         """The end that sent it."""
         return str(self.said.get("from", ""))
-
-    @property
-    def is_list(self) -> bool:
-        """Whether it is a section that was decoded whole."""
-        return "lines" in self.said and "refused" not in self.said
-
-    @property
-    def stream(self) -> Optional[str]:
-        """Which stream of instructions it is of: encoder, decoder, or none."""
-        return next((it for it in ("encoder", "decoder") if it in self.said), None)
 
     @property
     def seconds(self) -> Optional[float]:
@@ -134,18 +129,8 @@ class Direction:
     """An encoder of the connection: what it sent, and the decoder stream that answers it."""
 
     end: str
-    events: List[Event] = field(default_factory=list)
     entries: List[Entry] = field(default_factory=list)
     tables: List[Table] = field(default_factory=lambda: [Table(-1, 0, 0, 0, 0)])
-    stream_bytes: Dict[str, int] = field(default_factory=lambda: {"encoder": 0, "decoder": 0})
-
-    def settings(self) -> Optional[Object]:
-        """Returns the SETTINGS for this encoder, if they are in the recording."""
-        return next((it.said for it in self.events if "max_capacity" in it.said), None)
-
-    def lists(self) -> List[Event]:
-        """Returns the sections that were decoded whole."""
-        return [it for it in self.events if it.is_list]
 
     def table_at(self, moment: int) -> Table:
         """Returns the table after the event of a number."""
@@ -157,7 +142,6 @@ class Direction:
 
     def apply(self, event: Event) -> None:
         """Applies an event: an instruction changes the table, and a section references entries."""
-        self.events.append(event)
         for place, it in enumerate(event.lines):
             if it.entry is not None:
                 self.entries[it.entry - 1].lines.append((event, place))
@@ -167,7 +151,7 @@ class Direction:
         if said.get("instruction") == "set capacity":
             self.resize(event, table._replace(event=event.number, capacity=said["capacity"]))
         elif "entry" in said:
-            referenced = said.get("of", said.get("name_from", {})).get("entry")
+            referenced = referenced_by(said)
             if referenced is not None:
                 self.entries[referenced - 1].instructions.append(event)
             entry = Entry(said["entry"], field_of(said), event)
@@ -183,91 +167,113 @@ class Direction:
         self.tables.append(table)
 
 
+def referenced_by(said: Object) -> Optional[int]:
+    """Returns the entry that an insertion references, for its name at least."""
+    entry: Optional[int] = said.get("of", said.get("name_from", {})).get("entry")
+    return entry
+
+
+# ---- Events, as qpk shows them
+
+
 @dataclass
-class Connection:
-    """A recorded connection."""
+class Instructions:
+    """The bytes of a stream of instructions, of which each ends where the next begins."""
 
-    recording: Recording
-    events: List[Event]
-    directions: List[Direction]
+    waiting: bytearray = field(default_factory=bytearray)  # those from the last instruction on
+    begin: int = 0  # the offset of the first of them
+    last: Optional[Event] = None
+    size: int = 0  # of the stream
 
-    @property
-    def is_refused(self) -> bool:
-        """Whether something in it is refused."""
-        return any("refused" in it.said for it in self.events)
+    def add(self, data: bytes) -> None:
+        """Adds the next bytes."""
+        self.waiting += data
+        self.size += len(data)
 
-    def findings(self) -> List[Tuple[Object, Optional[Event]]]:
-        """Returns what qpk check finds wrong, each with the event that it is about."""
-        events: Dict[int, List[Event]] = {}
-        for event in self.events:
-            events.setdefault(event.line, []).append(event)
-        return [(it, find_event(events.get(it["line"], []), it)) for it in self.recording.check()]
-
-    def moment_of(self, line: Optional[int]) -> int:
-        """Returns the number of the last event up to a line of the recording, or of all; -1 if there is none."""
-        return max((it.number for it in self.events if line is None or it.line <= line), default=-1)
+    def end(self, offset: int) -> None:
+        """Gives the last instruction its bytes, which end at an offset."""
+        if self.last:
+            self.last.data = bytes(self.waiting[: offset - self.begin])
+        del self.waiting[: offset - self.begin]
+        self.begin = offset
 
 
-def read_connection(recording: Recording) -> Connection:
-    """Has qpk read a recording, and puts together what it says."""
-    shown, pieces = recording.show(), list(recording.pieces())
-    ends = ["client", "server"] if any("from" in it for it in shown) or any(it.end for it in pieces) else [""]
-    directions = {end: Direction(end) for end in ends}
-    for (owner, stream), data in join(pieces).items():
-        directions[owner].stream_bytes[stream] = len(data)
-    events = events_of(shown, pieces)
-    for event in events:
-        directions[event.of].apply(event)
-    return Connection(recording, events, list(directions.values()))
+class Reading:
+    """What qpk shows of a recording, read once, with the bytes of the recording."""
 
+    def __init__(self, shown: Iterable[Object], pieces: Iterable[Piece]) -> None:
+        self.shown, self.pieces = shown, iter(pieces)
+        self.piece: Optional[Piece] = None  # the last one
+        self.streams: Dict[Tuple[str, str], Instructions] = {}  # by the end whose encoder each is about, and its name
+        self.blocked: Dict[Tuple[str, int], Deque[Event]] = {}
+        self.has_ends = False
+        self.is_refused = False  # something in the recording
 
-def events_of(shown: List[Object], pieces: List[Piece]) -> List[Event]:
-    """Returns what qpk showed of a recording as events, with their bytes."""
-    events = [Event(number, said, owner_of(said)) for number, said in enumerate(shown)]
-    give_instructions(events, join(pieces))
-    give_sections(events, {it.line: it.data for it in pieces if it.kind == "b"})
-    return events
+    def events(self) -> Iterator[Event]:
+        """Yields the events. An instruction has its bytes once the next one of its stream was yielded, or all."""
+        for number, said in enumerate(self.shown):
+            event = Event(number, said, owner_of(said))
+            event.stream = next((it for it in ("encoder", "decoder") if it in said), None)
+            event.is_list = "lines" in said and "refused" not in said
+            self.has_ends = self.has_ends or "from" in said
+            self.is_refused = self.is_refused or "refused" in said
+            self.read_up_to(event.line)
+            if event.stream:
+                stream = self.stream(event.of, event.stream)
+                stream.end(said[event.stream])
+                stream.last = event
+            elif "given_up" in said:
+                self.blocked.pop((event.of, said["given_up"]), None)
+            elif "section" in said:
+                self.give_section(event)
+            yield event
+        for piece in self.pieces:
+            self.take(piece)
+        for stream in self.streams.values():
+            stream.end(stream.size)
+
+    def ends(self) -> List[str]:
+        """Returns the ends of which there are events, once all were read."""
+        return ["client", "server"] if self.has_ends else [""]
+
+    def stream(self, owner: str, name: str) -> Instructions:
+        """Returns a stream of instructions."""
+        return self.streams.setdefault((owner, name), Instructions())
+
+    def read_up_to(self, line: int) -> None:
+        """Takes the pieces up to a line, and the next one if there is none in that line."""
+        while self.piece is None or self.piece.line < line:
+            piece = next(self.pieces, None)
+            if piece is None:
+                return
+            self.take(piece)
+
+    def take(self, piece: Piece) -> None:
+        """Takes a piece: of a stream of instructions, or a section."""
+        self.piece = piece
+        self.has_ends = self.has_ends or piece.end != ""
+        if piece.kind == "e":
+            self.stream(piece.end, "encoder").add(piece.data)
+        elif piece.kind == "d":
+            self.stream(OTHER[piece.end], "decoder").add(piece.data)
+
+    def give_section(self, event: Event) -> None:
+        """Gives a section its bytes, its lines, and when it came if it was blocked."""
+        said, key = event.said, (event.of, event.said["section"])
+        if said.get("was_blocked"):
+            event.arrival = self.blocked[key].popleft()
+            event.data = event.arrival.data
+        elif self.piece:
+            event.data = self.piece.data
+        if "blocked_until" in said and "refused" not in said:
+            self.blocked.setdefault(key, deque()).append(event)
+        event.lines = list(lines_of(said, event.data))
 
 
 def owner_of(said: Object) -> str:
     """Returns the end whose encoder an object is about: the decoder of the other end writes what is not its own."""
     end = str(said.get("from", ""))
     return end if "encoder" in said or "section" in said else OTHER[end]
-
-
-def join(pieces: List[Piece]) -> Dict[Tuple[str, str], bytes]:
-    """Returns the bytes of each stream of instructions, by the end whose encoder it is about, and what it is called."""
-    parts: Dict[Tuple[str, str], List[bytes]] = {}
-    for it in pieces:
-        if it.kind != "b":
-            key = (it.end, "encoder") if it.kind == "e" else (OTHER[it.end], "decoder")
-            parts.setdefault(key, []).append(it.data)
-    return {key: b"".join(data) for key, data in parts.items()}
-
-
-def give_instructions(events: List[Event], streams: Dict[Tuple[str, str], bytes]) -> None:
-    """Gives each instruction its bytes. It ends where the next begins."""
-    for (owner, stream), data in streams.items():
-        own = [it for it in events if it.of == owner and it.stream == stream]
-        for event, (begin, end) in zip(own, spans([it.said[stream] for it in own], len(data))):
-            event.data = data[begin:end]
-
-
-def give_sections(events: List[Event], sections: Dict[int, bytes]) -> None:
-    """Gives each section its bytes, its lines, and when it came if it was blocked."""
-    waiting: Dict[Tuple[str, int], List[Event]] = {}
-    for event in events:
-        said = event.said
-        if "given_up" in said:
-            waiting.pop((event.of, said["given_up"]), None)
-        if "section" not in said:
-            continue
-        if said.get("was_blocked"):
-            event.arrival = waiting[event.of, said["section"]].pop(0)
-        elif "blocked_until" in said and "refused" not in said:
-            waiting.setdefault((event.of, said["section"]), []).append(event)
-        event.data = event.arrival.data if event.arrival else sections[event.line]
-        event.lines = list(lines_of(said, event.data))
 
 
 def lines_of(said: Object, data: bytes) -> Iterator[Line]:
@@ -284,9 +290,67 @@ def spans(begins: List[int], end: int) -> Iterator[Tuple[int, int]]:
     return zip(begins, [*begins[1:], end])
 
 
-def find_event(events: List[Event], finding: Object) -> Optional[Event]:
-    """Returns the event of a finding of qpk check, of the events of its line."""
-    place = next(it for it in ("encoder", "decoder", "section", "record") if it in finding)
-    near = [it for it in events if it.end == finding.get("from", "") and place in it.said]
-    same = [it for it in near if it.said[place] == finding[place]]
-    return (same or near or [None])[-1]
+# ---- What is kept of a connection
+
+
+@dataclass
+class Room:
+    """How much of a connection is kept: events with their lines, and bytes of them and of their fields."""
+
+    rows: int
+    data: int
+
+    def take(self, event: Event) -> bool:
+        """Takes the room of an event, and returns whether there was as much."""
+        self.rows -= 1 + len(event.lines)
+        self.data -= len(event.data) + sum(it.field.length for it in event.lines)
+        return self.rows >= 0 and self.data >= 0
+
+
+@dataclass
+class Connection:
+    """A recorded connection: all its events, or the first ones for which there is room."""
+
+    recording: Recording
+    room: Optional[Room] = None
+    events: List[Event] = field(default_factory=list)
+    number_of_events: int = 0
+    directions: List[Direction] = field(default_factory=list)
+
+    def take(self, event: Event) -> None:
+        """Keeps an event, and applies it to the tables."""
+        is_next = self.number_of_events == len(self.events)
+        self.number_of_events += 1
+        if is_next and (self.room is None or self.room.take(event)):
+            event.said.pop("lines", None)  # which it has with their bytes
+            self.events.append(event)
+
+    def finish(self, ends: List[str]) -> None:
+        """Makes the directions, once all events were taken."""
+        directions = {end: Direction(end) for end in ends}
+        for event in self.events:
+            directions[event.of].apply(event)
+        self.directions = list(directions.values())
+
+    def moment_of(self, line: Optional[int]) -> int:
+        """Returns the number of the last event up to a line of the recording, or of all; -1 if there is none."""
+        return max((it.number for it in self.events if line is None or it.line <= line), default=-1)
+
+
+class Finder:
+    """Finds the event of a finding of qpk check, of the events of its line."""
+
+    def __init__(self, events: List[Event]) -> None:
+        self.near: Dict[Tuple[int, str, str], Event] = {}  # the last event of a line, an end and a kind
+        self.same: Dict[Tuple[int, str, str, int], Event] = {}  # and of an offset, or a stream
+        for event in events:
+            for place in PLACES:
+                if place in event.said:
+                    self.near[event.line, event.end, place] = event
+                    self.same[event.line, event.end, place, event.said[place]] = event
+
+    def find(self, finding: Object) -> Optional[Event]:
+        """Returns the event of a finding, if it is there."""
+        place = next(it for it in PLACES if it in finding)
+        key = (finding["line"], finding.get("from", ""), place)
+        return self.same.get((*key, finding[place]), self.near.get(key))

@@ -5,12 +5,19 @@ import hashlib
 import html
 import json
 from pathlib import Path
-from typing import Any, Dict, List
+from itertools import islice
+from typing import Any, Dict, Iterator, List, Tuple
 
-from .connection import Connection, Direction, Entry, Event, Line
-from .stats import bytes_of_lists, count, rows
+from .connection import Connection, Direction, Entry, Event, Finder, Line, Room
+from .recording import Object
+from .stats import Counting, Numbers, parts_of, rows
 from .texts import shown_field, shown_form, title_of
 
+# What a browser shows in a second: the page has the first events that are not more than these, and says so.
+MOST_ROWS = 30_000  # events and field lines
+MOST_BYTES = 4 << 20  # of events and of the fields of their lines
+MOST_FAULTS = 1_000
+MOST_BARS = 240
 FOLDER = Path(__file__).resolve().parent
 LEGEND = {
     "static": "in the static table",
@@ -34,12 +41,17 @@ PAGE = """<!doctype html>
 """
 
 
-def write_page(connections: List[Connection]) -> str:
-    """Returns the page of connections."""
+def room_of_page() -> Room:
+    """Returns the room that a page has for the events of all its connections."""
+    return Room(MOST_ROWS, MOST_BYTES)
+
+
+def write_page(connections: List[Object]) -> str:
+    """Returns the page of the data of connections."""
     script = "\n" + read_all("element.js", "report.js")
-    data = {"legend": LEGEND, "connections": [connection_data(it) for it in connections]}
+    data = {"legend": LEGEND, "connections": connections}
     return PAGE.format(
-        name=html.escape(", ".join(it.recording.name for it in connections)),
+        name=html.escape(", ".join(it["name"] for it in connections)),
         style=read_all("qpack.css", "report.css"),
         hashes=f"'sha256-{base64.b64encode(hashlib.sha256(script.encode()).digest()).decode()}'",
         data=as_text(data),
@@ -58,28 +70,57 @@ def as_text(data: Dict[str, Any]) -> str:
     return text.replace("<", "\\u003c").replace(">", "\\u003e").replace("&", "\\u0026")
 
 
-def connection_data(connection: Connection) -> Dict[str, Any]:
-    """Returns what the page shows of a connection. Events are referred to by their numbers."""
+def connection_data(connection: Connection, numbers: Iterator[Tuple[str, Counting, Numbers]]) -> Object:
+    """Returns what the page shows of a connection, with its numbers. Events are referred to by their own."""
     places = {it.end: place for place, it in enumerate(connection.directions)}
+    findings, finder = connection.recording.check(), Finder(connection.events)
+    faults = [fault_data(it, finder) for it in islice(findings, MOST_FAULTS)]
+    number_of_faults = len(faults) + sum(1 for _ in findings)
     return {
         "name": connection.recording.name,
-        "directions": [direction_data(it) for it in connection.directions],
+        "left_out": list(left_out(connection, number_of_faults)),
+        "directions": [direction_data(it, *rest) for it, (_, *rest) in zip(connection.directions, numbers)],
         "events": [event_data(it, places[it.of]) for it in connection.events],
-        "faults": [{**said, "event": about.number if about else None} for said, about in connection.findings()],
+        "faults": faults,
+        "number_of_faults": number_of_faults,
     }
 
 
-def direction_data(direction: Direction) -> Dict[str, Any]:
+def left_out(connection: Connection, faults: int) -> Iterator[str]:
+    """Yields what the page does not show, as there is too much of it."""
+    shown, events = len(connection.events), connection.number_of_events
+    if shown < events:
+        yield (
+            f"This page shows the first {shown} of {events} events, and the tables up to there, as a page has room for no "
+            "more. The numbers are those of all events. qpk show prints each event."
+        )
+    if faults > MOST_FAULTS:
+        yield f"This page lists the first {MOST_FAULTS} of {faults} faults. qpk check prints each fault."
+
+
+def fault_data(finding: Object, finder: Finder) -> Object:
+    """Returns what qpk check found, and the number of its event, if the page has that."""
+    about = finder.find(finding)
+    return {**finding, "event": about.number if about else None}
+
+
+def direction_data(direction: Direction, counting: Counting, numbers: Numbers) -> Dict[str, Any]:
     """Returns the numbers, the entries and the tables of a direction."""
-    settings = direction.settings()
     return {
         "end": direction.end,
-        "settings": title_of_settings(settings) if settings else "",
-        "rows": list(rows(count(direction))),
-        "lists": [[it.event.number, it.section, it.instructions] for it in bytes_of_lists(direction)],
+        "settings": title_of_settings(counting.settings) if counting.settings else "",
+        "rows": list(rows(numbers)),
+        "bars": list(bars(counting)),
         "entries": [entry_data(it) for it in direction.entries],
         "tables": [list(it) for it in direction.tables],
     }
+
+
+def bars(counting: Counting) -> Iterator[List[float]]:
+    """Yields a bar for each list, or for several: event and line of the first, and the mean bytes of both its parts."""
+    for part in parts_of(list(counting.bytes_of_lists()), MOST_BARS):
+        means = [sum(it) / len(part) for it in zip(*((it.section, it.instructions) for it in part))]
+        yield [part[0].event, part[0].line, *means]
 
 
 def title_of_settings(settings: Dict[str, Any]) -> str:

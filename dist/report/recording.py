@@ -4,12 +4,15 @@ import json
 import os
 import re
 import subprocess
-import sys
+import tempfile
+from contextlib import contextmanager
 from dataclasses import dataclass
+from io import BytesIO, TextIOWrapper
 from pathlib import Path
-from typing import Any, Dict, Iterator, List, Optional, Sequence
+from typing import Any, BinaryIO, Dict, Iterator, List, Optional, Sequence
 
 from qpk_lines import Piece, is_capture, pieces_of_lines
+from qpk_main import standard_input
 from qpk_qlog import is_trace
 
 from . import ReportError
@@ -46,23 +49,28 @@ class Recording:
     words: Sequence[str]
     number: Optional[int] = None  # of a connection of a capture
 
-    def show(self) -> List[Object]:
-        """Returns what qpk shows, an object a line."""
+    def show(self) -> Iterator[Object]:
+        """Yields what qpk shows, an object a line."""
         return self._objects("show", (0, 2))
 
-    def check(self) -> List[Object]:
-        """Returns what qpk finds wrong."""
-        return [it for it in self._objects("check", (0, 1)) if "fault" in it]
+    def check(self) -> Iterator[Object]:
+        """Yields what qpk finds wrong."""
+        return (it for it in self._objects("check", (0, 1)) if "fault" in it)
 
-    def _objects(self, command: str, statuses: Sequence[int]) -> List[Object]:
-        printed = run_qpk([command, "--json", *self.words, "-"], self.data, statuses)
-        return [json.loads(line) for line in printed.splitlines()]
+    def _objects(self, command: str, statuses: Sequence[int]) -> Iterator[Object]:
+        with tempfile.TemporaryFile() as recording:
+            recording.write(self.data)
+            recording.seek(0)
+            with qpk_on([command, "--json", *self.words, "-"], recording, statuses) as printed:
+                for line in printed:
+                    yield json.loads(line)
 
     def pieces(self) -> Iterator[Piece]:
         """Yields the lines that have bytes. Which lines there may be is checked by qpk."""
+        data = BytesIO(self.data)
         if "--qif" in self.words:
-            return pieces_of_records(self.data)
-        return pieces_of_lines(self.data.decode(errors="replace").split("\n"))
+            return pieces_of_records(data)
+        return pieces_of_lines(TextIOWrapper(data, errors="replace", encoding="utf-8", newline="\n"))
 
 
 def find_program(name: str) -> str:
@@ -71,30 +79,40 @@ def find_program(name: str) -> str:
     return str(beside) if os.access(beside, os.X_OK) else name
 
 
-def run_qpk(words: Sequence[str], data: bytes, statuses: Sequence[int] = (0,)) -> bytes:
-    """Returns what qpk prints, which ends with one of these statuses."""
+@contextmanager
+def qpk_on(words: Sequence[str], file: BinaryIO, statuses: Sequence[int] = (0,)) -> Iterator[BinaryIO]:
+    """Runs qpk on a file, which ends with one of these statuses. What it prints is read as it comes."""
     program = os.environ.get("QPK") or find_program("qpk")
-    try:
-        ran = subprocess.run([program, *words], input=data, stdout=subprocess.PIPE, stderr=subprocess.PIPE, check=False)
-    except (FileNotFoundError, PermissionError):
-        raise ReportError(f"{program} can't be run: install qpk, or name it in the variable QPK") from None
-    if ran.returncode not in statuses or ran.returncode == 1 and not ran.stdout:
-        said = ran.stderr.decode(errors="replace").strip().splitlines()
+    with tempfile.TemporaryFile() as complaints:
+        try:
+            ran = subprocess.Popen([program, *words], stdin=file, stdout=subprocess.PIPE, stderr=complaints)
+        except (FileNotFoundError, PermissionError):
+            raise ReportError(f"{program} can't be run: install qpk, or name it in the variable QPK") from None
+        with ran:
+            assert ran.stdout
+            try:
+                yield ran.stdout
+            except BaseException:
+                ran.kill()
+                raise
+        complaints.seek(0)
+        said = complaints.read().decode(errors="replace").strip().splitlines()
+    if ran.returncode not in statuses or ran.returncode == 1 and said:
         raise ReportError(re.sub(r"^qpk: ", "", said[-1]) if said else f"{program} ended with status {ran.returncode}")
-    return ran.stdout
 
 
 # ---- The bytes of a recording of the interop
 
 
-def pieces_of_records(data: bytes) -> Iterator[Piece]:
+def pieces_of_records(file: BinaryIO) -> Iterator[Piece]:
     """Yields the pieces of the records of the offline interop."""
-    at = number = 0
-    while at + HEAD_OF_RECORD <= len(data):
-        begin = at + HEAD_OF_RECORD
-        stream, size = (int.from_bytes(it, "big") for it in (data[at : at + 8], data[at + 8 : begin]))
-        at, number = begin + size, number + 1
-        yield Piece(number, "", "b" if stream else "e", data[begin:at])
+    number = 0
+    head = file.read(HEAD_OF_RECORD)
+    while len(head) == HEAD_OF_RECORD:
+        stream, size = int.from_bytes(head[:8], "big"), int.from_bytes(head[8:], "big")
+        number += 1
+        yield Piece(number, "", "b" if stream else "e", file.read(size))
+        head = file.read(HEAD_OF_RECORD)
 
 
 # ---- What a word of a command names
@@ -103,12 +121,12 @@ def pieces_of_records(data: bytes) -> Iterator[Piece]:
 def read_recordings(source: Source) -> List[Recording]:
     """Returns the recordings that a command is about: one, or one for each connection of a capture."""
     if source.pdml is not None:
-        return read_capture(source, ["--pdml", source.pdml], None)
+        return read_capture(source, [f"--pdml={source.pdml}"], None)
     if source.file != "-" and not os.path.isfile(source.file):
         raise ReportError(f"{source.file} is not a file that can be read")
-    data = sys.stdin.buffer.read() if source.file == "-" else Path(source.file).read_bytes()
+    data = standard_input() if source.file == "-" else Path(source.file).read_bytes()
     if source.keys is not None or source.connection is not None or not source.is_qif and is_scripted(data[:64]):
-        return read_capture(source, [source.file], data if source.file == "-" else None)
+        return read_capture(source, ["--", source.file], data if source.file == "-" else None)
     words = [*source.limits(), *(["--qif"] if source.is_qif else [])]
     name = "standard input" if source.file == "-" else os.path.basename(source.file)
     return [Recording(name.encode(errors="replace").decode(), data, words)]
@@ -121,9 +139,10 @@ def is_scripted(head: bytes) -> bool:
 
 def read_capture(source: Source, words: List[str], data: Optional[bytes]) -> List[Recording]:
     """Returns the recordings that qpk-capture makes of a capture. What it says on standard error is passed on."""
-    command = [find_program("qpk-capture"), "lines", *words]
-    command += [] if source.keys is None else ["--keys", source.keys]
+    command = [find_program("qpk-capture"), "lines"]
+    command += [] if source.keys is None else [f"--keys={source.keys}"]
     command += [] if source.connection is None else ["--connection", str(source.connection)]
+    command += words
     try:
         ran = subprocess.run(command, input=data, stdout=subprocess.PIPE, check=False)
     except FileNotFoundError:

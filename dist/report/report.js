@@ -4,7 +4,6 @@
 const EVENTS_AT_ONCE = 400; // that are made before the page is shown, and between two pauses
 const MOST_LINKS = 12; // of the sections that reference an entry
 const MOST_EVICTED = 8; // entries that are shown after they were evicted
-const MOST_BARS = 240;
 const SVG = 'http://www.w3.org/2000/svg';
 const {legend, connections} = JSON.parse(document.getElementById('data').textContent);
 
@@ -56,17 +55,18 @@ class Report {
     const aside = element('aside', '', element('h2', '', 'The tables at a moment'), this.slider, this.label,
       element('div', 'states', ...states, '; a click on an event moves here'), ...this.tables);
     const main = element('main', '', this.timeline, aside);
-    return element('div', '', this.faultList(), this.legend(), this.overview(), main);
+    const notes = this.left_out.map(text => element('p', 'left-out', text));
+    return element('div', '', ...notes, this.faultList(), this.legend(), this.overview(), main);
   }
 
   faultList() {
-    const {faults} = this;
+    const {faults, number_of_faults: number} = this;
     if (!faults.length) return element('p', 'faults', 'Nothing is wrong on this connection.');
     const items = faults.map(fault => {
       const text = this.faultText(fault), place = `line ${fault.line}${fault.from ? ', ' + fault.from : ''}: `;
       return element('li', '', fault.event === null ? place : link(fault.event, place), text);
     });
-    const count = faults.length === 1 ? 'One fault' : `${faults.length} faults`;
+    const count = number === 1 ? 'One fault' : `${number} faults`;
     return element('div', 'faults', element('p', 'wrong', `${count} on this connection:`), element('ol', '', ...items));
   }
 
@@ -90,24 +90,19 @@ class Report {
   }
 
   // The bytes of each list in order: its section below, and the instructions before it above.
-  bars({lists}) {
-    const svg = document.createElementNS(SVG, 'svg'), count = Math.min(lists.length, MOST_BARS);
-    const bars = Array.from({length: count}, (_, i) => {
-      const part = lists.slice(Math.floor(i * lists.length / count), Math.floor((i + 1) * lists.length / count));
-      const mean = place => part.reduce((sum, list) => sum + list[place], 0) / part.length;
-      return {event: part[0][0], section: mean(1), instructions: mean(2)};
-    });
-    const most = Math.max(1, ...bars.map(bar => bar.section + bar.instructions));
-    svg.setAttribute('viewBox', `0 0 ${Math.max(count, 1)} 100`);
+  bars({bars}) {
+    const svg = document.createElementNS(SVG, 'svg');
+    const most = Math.max(1, ...bars.map(([, , section, instructions]) => section + instructions));
+    svg.setAttribute('viewBox', `0 0 ${Math.max(bars.length, 1)} 100`);
     svg.setAttribute('preserveAspectRatio', 'none');
     bars.forEach((bar, i) => svg.append(this.bar(bar, i, 100 / most)));
     return element('div', '', 'bytes a list, in order: sections blue, instructions before them orange', svg);
   }
 
-  bar({event, section, instructions}, x, scale) {
+  bar([event, line, section, instructions], x, scale) {
     const group = document.createElementNS(SVG, 'a'), title = document.createElementNS(SVG, 'title');
-    group.setAttribute('href', '#e' + event);
-    title.textContent = `line ${this.events[event].line}: ${Math.round(section)} + ${Math.round(instructions)} bytes`;
+    if (event < this.events.length) group.setAttribute('href', '#e' + event);
+    title.textContent = `line ${line}: ${Math.round(section)} + ${Math.round(instructions)} bytes`;
     const top = 100 - section * scale;
     const part = (className, y, height) => {
       const made = document.createElementNS(SVG, 'rect');

@@ -1,12 +1,14 @@
 """qpk stats: what QPACK did on a connection, in numbers."""
 
-from collections import Counter
-from dataclasses import asdict, dataclass
-from typing import Any, Dict, Iterator, List, NamedTuple, Optional, Tuple
+import tempfile
+from array import array
+from collections import defaultdict, deque
+from dataclasses import asdict, dataclass, field
+from typing import Any, BinaryIO, Deque, Dict, Iterator, List, NamedTuple, Optional, Tuple
 
 from . import ReportError
-from .connection import Connection, Direction, Event, Field
-from .recording import pieces_of_records, run_qpk
+from .connection import ENTRY_OVERHEAD, Event, Field, Reading, field_of, referenced_by
+from .recording import Object, pieces_of_records, qpk_on
 
 BLOCKS = "▁▂▃▄▅▆▇█"
 BLOCKS_OF_ASCII = "_.,-=+*#"
@@ -23,7 +25,8 @@ NAMES = {  # of what a line has from where
 class ListBytes(NamedTuple):
     """What a list took: its section, and the instructions of the encoder stream since the list before it."""
 
-    event: Event
+    event: int  # the number of its event
+    line: int
     section: int
     instructions: int
 
@@ -68,97 +71,189 @@ class Numbers:
         return self.taken_bytes / self.list_bytes if self.list_bytes else 0.0
 
 
-def bytes_of_lists(direction: Direction) -> Iterator[ListBytes]:
-    """Yields what each list took, in the order in which they were decoded."""
-    instructions = 0
-    for event in direction.events:
-        if event.stream == "encoder" and "instruction" in event.said and "refused" not in event.said:
-            instructions += len(event.data)
-        elif event.is_list:
-            yield ListBytes(event, len(event.data), instructions)
-            instructions = 0
+@dataclass
+class Counting:
+    """Counts what QPACK did in a direction, event by event, and keeps no event."""
+
+    settings: Optional[Object] = None  # for this encoder, if they are in the recording
+    sections_not_decoded: int = 0
+    fields: int = 0
+    list_bytes: int = 0
+    hits: Dict[str, int] = field(default_factory=lambda: dict.fromkeys(NAMES, 0))
+    lists_not_counted: int = 0
+    counted_bytes: int = 0  # of the sections of the others
+    qif: BinaryIO = field(default_factory=tempfile.TemporaryFile)  # the others in QIF
+    table: Deque[int] = field(default_factory=deque)  # the size of each entry of the table
+    table_size: int = 0
+    capacity: int = 0
+    referenced: bytearray = field(default_factory=bytearray)  # 1 for each entry that is
+    duplicates: int = 0
+    evictions: int = 0
+    blocked_sections: int = 0
+    arrivals: int = 0  # of the blocked sections that were read later
+    blocked_lines: int = 0
+    blocked_seconds: Optional[float] = 0.0
+    lists: List["array[int]"] = field(default_factory=lambda: [array("Q") for _ in ListBytes._fields])
+    instructions: int = 0  # their bytes since the last list
+    last: Optional[int] = None  # the offset of the last instruction, whose end is not known yet
+    list_after: Optional[int] = None  # the place of the first list after it
+
+    def take(self, event: Event) -> None:
+        """Counts an event."""
+        said = event.said
+        for line in event.lines:
+            if line.entry is not None:
+                self.referenced[line.entry - 1] = 1
+        if "max_capacity" in said:
+            self.settings = self.settings or said
+        elif event.stream == "encoder":
+            self.take_instruction(said)
+        elif "section" in said:
+            self.take_section(event)
+
+    def take_instruction(self, said: Object) -> None:
+        """Counts an instruction of the encoder stream."""
+        self.end_instruction(said["encoder"])
+        if "instruction" not in said or "refused" in said:
+            return
+        self.last = said["encoder"]
+        if said["instruction"] == "set capacity":
+            self.capacity = said["capacity"]
+        elif "entry" in said:
+            self.duplicates += said["instruction"] == "duplicate"
+            entry = referenced_by(said)
+            if entry is not None:
+                self.referenced[entry - 1] = 1
+            self.referenced.append(0)
+            self.table.append(field_of(said).length + ENTRY_OVERHEAD)
+            self.table_size += self.table[-1]
+        while self.table_size > self.capacity:
+            self.table_size -= self.table.popleft()
+            self.evictions += 1
+
+    def end_instruction(self, offset: int) -> None:
+        """Counts the bytes of the last instruction, which end at an offset."""
+        size = 0 if self.last is None else offset - self.last
+        if self.list_after is None:
+            self.instructions += size
+        else:
+            self.lists[-1][self.list_after] += size
+        self.last, self.list_after = None, None
+
+    def take_section(self, event: Event) -> None:
+        """Counts a section: one that is blocked, refused or decoded."""
+        if event.arrival:
+            self.take_arrival(event, event.arrival)
+        self.blocked_sections += "blocked_until" in event.said and "refused" not in event.said
+        if not event.is_list:
+            self.sections_not_decoded += 1
+            return
+        if self.last is not None and self.list_after is None:
+            self.list_after = len(self.lists[0])
+        taken = ListBytes(event.number, event.line, len(event.data), self.instructions)
+        for numbers, it in zip(self.lists, taken):
+            numbers.append(it)
+        self.instructions = 0
+        self.take_fields(event)
+
+    def take_arrival(self, event: Event, arrival: Event) -> None:
+        """Counts how long a section was blocked. Its arrival is no section of its own."""
+        self.sections_not_decoded -= 1
+        self.arrivals += 1
+        self.blocked_lines += event.line - arrival.line
+        begin, end = arrival.seconds, event.seconds
+        if begin is None or end is None or self.blocked_seconds is None:
+            self.blocked_seconds = None
+        else:
+            self.blocked_seconds += end - begin
+
+    def take_fields(self, event: Event) -> None:
+        """Counts the fields of a list, and writes them in QIF, if that can have them."""
+        self.fields += len(event.lines)
+        self.list_bytes += sum(it.field.length for it in event.lines)
+        for it in event.lines:
+            self.hits[it.how] += 1
+        if all(is_in_qif(it.field) for it in event.lines):
+            self.counted_bytes += len(event.data)
+            self.qif.write(b"".join(b"%b\t%b\n" % it.field for it in event.lines) + b"\n")
+        else:
+            self.lists_not_counted += 1
+
+    def bytes_of_lists(self) -> Iterator[ListBytes]:
+        """Yields what each list took, in the order in which they were decoded."""
+        return map(ListBytes, *self.lists)
+
+    def numbers(self, encoder_bytes: int, decoder_bytes: int) -> Numbers:
+        """Returns the numbers, once all events were counted, with the bytes of the two streams."""
+        self.end_instruction(encoder_bytes)
+        sections = len(self.lists[0])
+        without = bytes_without_table(self.qif, sections - self.lists_not_counted)
+        is_timed = self.arrivals > 0 and self.blocked_seconds is not None
+        return Numbers(
+            sections=sections,
+            sections_not_decoded=self.sections_not_decoded,
+            fields=self.fields,
+            list_bytes=self.list_bytes,
+            section_bytes=sum(it.section for it in self.bytes_of_lists()),
+            encoder_stream_bytes=encoder_bytes,
+            decoder_stream_bytes=decoder_bytes,
+            hits=self.hits,
+            without_table_bytes=without,
+            saved_bytes=without - self.counted_bytes - encoder_bytes,
+            lists_not_counted=self.lists_not_counted,
+            insertions=len(self.referenced),
+            never_referenced=self.referenced.count(0),
+            duplicates=self.duplicates,
+            evictions=self.evictions,
+            blocked_sections=self.blocked_sections,
+            blocked_lines=self.blocked_lines,
+            blocked_seconds=round(self.blocked_seconds or 0.0, 9) if is_timed else None,
+            bytes_of_lists=[it.section + it.instructions for it in self.bytes_of_lists()],
+        )
 
 
-def fields_of(event: Event) -> List[Field]:
-    """Returns the fields of a section."""
-    return [it.field for it in event.lines]
+class Count:
+    """Counts what QPACK did on a connection, by the end of each direction."""
 
+    def __init__(self) -> None:
+        self.directions: Dict[str, Counting] = defaultdict(Counting)
 
-def count(direction: Direction) -> Numbers:
-    """Counts what QPACK did in a direction."""
-    lists = direction.lists()
-    plain = bytes_without_table([fields_of(it) for it in lists])
-    alike = [(it, size) for it, size in zip(bytes_of_lists(direction), plain) if size is not None]
-    without = sum(size for _, size in alike)
-    blocked = [it for it in direction.events if "blocked_until" in it.said and "refused" not in it.said]
-    entries = direction.entries
-    hits = Counter(line.how for it in lists for line in it.lines)
-    return Numbers(
-        sections=len(lists),
-        sections_not_decoded=len(not_decoded(direction)),
-        fields=sum(len(it.lines) for it in lists),
-        list_bytes=sum(field.length for it in lists for field in fields_of(it)),
-        section_bytes=sum(len(it.data) for it in lists),
-        encoder_stream_bytes=direction.stream_bytes["encoder"],
-        decoder_stream_bytes=direction.stream_bytes["decoder"],
-        hits={it: hits[it] for it in NAMES},
-        without_table_bytes=without,
-        saved_bytes=without - sum(it.section for it, _ in alike) - direction.stream_bytes["encoder"],
-        lists_not_counted=len(lists) - len(alike),
-        insertions=len(entries),
-        never_referenced=sum(not it.lines and not it.instructions for it in entries),
-        duplicates=sum(it.inserted.said["instruction"] == "duplicate" for it in entries),
-        evictions=sum(it.evicted is not None for it in entries),
-        blocked_sections=len(blocked),
-        blocked_lines=sum(it.line - it.arrival.line for it in direction.events if it.arrival),
-        blocked_seconds=seconds_blocked(direction),
-        bytes_of_lists=[it.section + it.instructions for it in bytes_of_lists(direction)],
-    )
+    def take(self, event: Event) -> None:
+        """Counts an event."""
+        self.directions[event.of].take(event)
 
-
-def not_decoded(direction: Direction) -> List[Event]:
-    """Returns the sections that were refused, given up, or blocked to the end: the last event of each."""
-    arrivals = {it.arrival.number for it in direction.events if it.arrival}
-    sections = [it for it in direction.events if "section" in it.said and not it.is_list]
-    return [it for it in sections if it.number not in arrivals]
-
-
-def seconds_blocked(direction: Direction) -> Optional[float]:
-    """Returns how long sections were blocked in all, if the times of the recording are numbers."""
-    pairs = [(it.arrival.seconds, it.seconds) for it in direction.events if it.arrival]
-    known = [end - begin for begin, end in pairs if begin is not None and end is not None]
-    return round(sum(known), 9) if known and len(known) == len(pairs) else None
+    def numbers(self, reading: Reading) -> Iterator[Tuple[str, Counting, Numbers]]:
+        """Yields each direction with its numbers, once all events were counted."""
+        for end in reading.ends():
+            counting = self.directions[end]
+            sizes = [reading.stream(end, name).size for name in ("encoder", "decoder")]
+            yield end, counting, counting.numbers(*sizes)
 
 
 # ---- The same lists without a dynamic table
 
 
-def is_in_qif(field: Field) -> bool:
+def is_in_qif(it: Field) -> bool:
     """Whether a line of QIF can have a field."""
-    return b"\n" not in field.name + field.value and b"\t" not in field.name and not field.name.startswith(b"#")
+    return b"\n" not in it.name + it.value and b"\t" not in it.name and not it.name.startswith(b"#")
 
 
-def bytes_without_table(lists: List[List[Field]]) -> List[Optional[int]]:
-    """Returns the bytes of each list as qpk encodes it without a dynamic table, or None if QIF can't have it."""
-    written = [it if all(map(is_in_qif, it)) else None for it in lists]
-    records = run_qpk(["encode", "--qif", "0", "0", "0"], qif(written))
-    sizes = [len(it.data) for it in pieces_of_records(records) if it.kind == "b"]
-    if len(sizes) != len(written):
-        raise ReportError(f"qpk encoded {len(sizes)} of {len(written)} lists")
-    return [None if it is None else size for it, size in zip(written, sizes)]
-
-
-def qif(lists: List[Optional[List[Field]]]) -> bytes:
-    """Returns lists in QIF. A list that it can't have is empty."""
-    return b"".join(b"".join(b"%b\t%b\n" % field for field in it or ()) + b"\n" for it in lists)
+def bytes_without_table(qif: BinaryIO, lists: int) -> int:
+    """Returns the bytes of a number of lists in QIF as qpk encodes them without a dynamic table."""
+    qif.seek(0)
+    with qpk_on(["encode", "--qif", "0", "0", "0"], qif) as records:
+        sizes = [len(it.data) for it in pieces_of_records(records) if it.kind == "b"]
+    if len(sizes) != lists:
+        raise ReportError(f"qpk encoded {len(sizes)} of {lists} lists")
+    return sum(sizes)
 
 
 # ---- What is printed
 
 
-def as_object(direction: Direction, numbers: Numbers) -> Dict[str, Any]:
+def as_object(end: str, numbers: Numbers) -> Dict[str, Any]:
     """Returns the numbers of a direction as an object for JSON."""
-    head = {"from": direction.end} if direction.end else {}
+    head = {"from": end} if end else {}
     hits = {how.replace("-", "_"): number for how, number in numbers.hits.items()}
     means = {"average_bytes": round(numbers.average_bytes, 3), "ratio": round(numbers.ratio, 4)}
     found = {**head, **asdict(numbers), "hits": hits, **means}
@@ -185,25 +280,25 @@ def rows(numbers: Numbers) -> Iterator[Tuple[str, str]]:
     yield "the decoder stream took", f"{it.decoder_stream_bytes} bytes"
 
 
+def parts_of(numbers: List[Any], most: int) -> Iterator[List[Any]]:
+    """Yields numbers in parts of about the same length, as many as there are numbers, or the most."""
+    width = min(len(numbers), most)
+    for place in range(width):
+        yield numbers[place * len(numbers) // width : (place + 1) * len(numbers) // width]
+
+
 def blocks(numbers: List[int], signs: str) -> str:
     """Returns a line of blocks, as high as the numbers. Those of a long list are averages."""
-    width = min(len(numbers), MOST_BLOCKS)
-    bounds = [place * len(numbers) // width for place in range(width + 1)] if width else []
-    means = [sum(numbers[begin:end]) / (end - begin) for begin, end in zip(bounds, bounds[1:])]
+    means = [sum(part) / len(part) for part in parts_of(numbers, MOST_BLOCKS)]
     most = max(means, default=0) or 1
     return "".join(signs[min(len(signs) - 1, int(len(signs) * it / most))] for it in means)
 
 
-def print_numbers(direction: Direction, numbers: Numbers, is_unicode: bool) -> None:
+def print_numbers(end: str, numbers: Numbers, is_unicode: bool) -> None:
     """Prints the numbers of a direction as text."""
-    print(f"{direction.end}'s lists" if direction.end else "lists")
+    print(f"{end}'s lists" if end else "lists")
     for name, text in rows(numbers):
         print(f"  {name:<24}{text}")
     if numbers.bytes_of_lists:
         line = blocks(numbers.bytes_of_lists, BLOCKS if is_unicode else BLOCKS_OF_ASCII)
         print(f"  {'bytes a list, in order':<24}{line} {min(numbers.bytes_of_lists)} to {max(numbers.bytes_of_lists)}")
-
-
-def count_all(connection: Connection) -> List[Tuple[Direction, Numbers]]:
-    """Returns each direction of a connection with its numbers."""
-    return [(it, count(it)) for it in connection.directions]

@@ -3,19 +3,20 @@
 import argparse
 import json
 import locale
-import os
 import sys
 from pathlib import Path
-from typing import Any, Callable, Dict, List, NoReturn, Optional
+from typing import Any, Callable, Dict, List, NoReturn, Optional, Protocol
 
-from . import ReportError
-from .again import load_library, try_capacities
-from .connection import Connection, read_connection
-from .page import write_page
+from qpk_main import complain, run
+
+from .again import Lists, load_library, try_capacities
+from .connection import Connection, Event, Reading
+from .page import connection_data, room_of_page, write_page
 from .recording import Recording, Source, read_recordings
-from .stats import as_object, count_all, print_numbers
+from .stats import Count, as_object, print_numbers
 from .table import choose, find_entries, life_as_object, life_as_text, tables_as_objects, tables_as_text
 
+REFUSED_PART = 2  # the status where the answer is there, and something in the recording is refused
 FILE = "FILE is a recording, as qpk show reads it (qpk help show), or a capture. A minus is standard input."
 OPTIONS = """\
 --keys KEYLOG      the secrets of a capture's connections; a capture that contains them needs none
@@ -81,7 +82,8 @@ class Parser(argparse.ArgumentParser):
     """A parser that refuses words as qpk does: the usage, the reason, and status 1."""
 
     def error(self, message: str) -> NoReturn:
-        print(f"{self.usage}\nqpk: {message}", file=sys.stderr)
+        print(self.usage, file=sys.stderr)
+        complain(f"qpk: {message}")
         sys.exit(1)
 
 
@@ -157,27 +159,58 @@ def is_unicode() -> bool:
     return encoding.lower().replace("-", "") == "utf8"
 
 
-def run_report(words: argparse.Namespace, connections: List[Connection]) -> None:
-    """Writes the page."""
-    page = write_page(connections)
+class Observer(Protocol):
+    """Takes the events of a connection, one after another."""
+
+    def take(self, event: Event) -> None:
+        """Takes an event."""
+
+
+def read(recording: Recording, *observers: Observer) -> Reading:
+    """Has qpk read a recording, and gives each event to the observers."""
+    reading = Reading(recording.show(), recording.pieces())
+    for event in reading.events():
+        for it in observers:
+            it.take(event)
+    return reading
+
+
+def run_report(words: argparse.Namespace, recordings: List[Recording]) -> bool:
+    """Writes the page, and returns whether something is refused."""
+    room, is_refused, data = room_of_page(), False, []
+    for recording in recordings:
+        connection, count = Connection(recording, room), Count()
+        reading = read(recording, count, connection)
+        connection.finish(reading.ends())
+        data.append(connection_data(connection, count.numbers(reading)))
+        is_refused = is_refused or reading.is_refused
+    page = write_page(data)
     if words.output in (None, "-"):
         sys.stdout.buffer.write(page.encode())
     else:
         Path(words.output).write_bytes(page.encode())
+    return is_refused
 
 
-def run_stats(words: argparse.Namespace, connections: List[Connection]) -> None:
-    """Prints the numbers of each connection."""
+def run_stats(words: argparse.Namespace, recordings: List[Recording]) -> bool:
+    """Prints the numbers of each connection, and returns whether something is refused."""
     library = load_library() if words.capacities else None
-    for connection in connections:
-        print_head(connection.recording, words.json)
-        for direction, counted in count_all(connection):
-            tried = list(try_capacities(direction, words.capacities, words.max_blocked, library)) if library else []
+    is_refused = False
+    for recording in recordings:
+        count, lists = Count(), Lists(library)
+        reading = read(recording, count, *([lists] if library else []))
+        counted = list(count.numbers(reading))
+        print_head(recording, words.json)
+        for end, counting, numbers in counted:
+            again = (lists.directions[end], counting.settings, words.capacities, words.max_blocked, library)
+            tried = list(try_capacities(*again)) if library else []
             if words.json:
-                print_object({**as_object(direction, counted), **({"tried": tried} if tried else {})})
+                print_object({**as_object(end, numbers), **({"tried": tried} if tried else {})})
             else:
-                print_numbers(direction, counted, is_unicode())
-                print_tried(tried, counted.sections)
+                print_numbers(end, numbers, is_unicode())
+                print_tried(tried, numbers.sections)
+        is_refused = is_refused or reading.is_refused
+    return is_refused
 
 
 def print_tried(tried: List[Dict[str, int]], lists: int) -> None:
@@ -188,11 +221,16 @@ def print_tried(tried: List[Dict[str, int]], lists: int) -> None:
         print(f"  encoded again at capacity {it['capacity']}: {it['bytes']} bytes, {mean:.1f} a list: {parts}")
 
 
-def run_table(words: argparse.Namespace, connections: List[Connection]) -> None:
-    """Prints the tables of each connection at a moment, or the life of an entry."""
-    for connection in connections:
+def run_table(words: argparse.Namespace, recordings: List[Recording]) -> bool:
+    """Prints the tables of each connection at a moment, or the life of an entry. Returns whether something is refused."""
+    is_refused = False
+    for recording in recordings:
+        connection = Connection(recording)
+        reading = read(recording, connection)
+        connection.finish(reading.ends())
+        is_refused = is_refused or reading.is_refused
         directions = choose(connection, words.end)
-        print_head(connection.recording, words.json)
+        print_head(recording, words.json)
         if words.entry is None:
             moment = connection.moment_of(words.at)
             objects, lines = tables_as_objects(directions, moment), tables_as_text(directions, moment)
@@ -205,9 +243,10 @@ def run_table(words: argparse.Namespace, connections: List[Connection]) -> None:
                 print_object(it)
         else:
             print(*lines, sep="\n")
+    return is_refused
 
 
-COMMANDS: Dict[str, Callable[[argparse.Namespace, List[Connection]], None]] = {
+COMMANDS: Dict[str, Callable[[argparse.Namespace, List[Recording]], bool]] = {
     "report": run_report,
     "stats": run_stats,
     "table": run_table,
@@ -243,27 +282,14 @@ def find_fault(words: argparse.Namespace, rest: List[str]) -> Optional[str]:
 
 def answer(words: argparse.Namespace) -> int:
     """Does what the words ask for, and returns the status."""
+    sys.stdout.reconfigure(errors="backslashreplace")  # type: ignore[attr-defined]
     source = Source(
         words.file, words.keys, words.pdml, words.connection, words.max_capacity, words.max_blocked, words.qif
     )
-    try:
-        connections = [read_connection(it) for it in read_recordings(source)]
-        COMMANDS[words.command](words, connections)
-        sys.stdout.flush()
-    except BrokenPipeError:
-        raise
-    except (ReportError, OSError) as error:
-        print(f"qpk {words.command}: {error}", file=sys.stderr)
-        return 1
-    return 2 if any(it.is_refused for it in connections) else 0
+    return REFUSED_PART if COMMANDS[words.command](words, read_recordings(source)) else 0
 
 
 def main() -> int:
     """Answers the words of the script, and returns the status."""
-    sys.stdout.reconfigure(errors="backslashreplace")
-    try:
-        return answer(read_words(sys.argv[1:]))
-    except BrokenPipeError:
-        os.dup2(os.open(os.devnull, os.O_WRONLY), sys.stdout.fileno())  # so that the end of Python writes nothing
-        print("qpk: refused: output", file=sys.stderr)
-        return 1
+    words = read_words(sys.argv[1:])
+    return run(f"qpk {words.command}", lambda: answer(words))

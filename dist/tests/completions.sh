@@ -52,7 +52,7 @@ for shell in bash zsh; do
     if command -v "$shell" >/dev/null; then
         try "the completion of $shell is that of qpk.1" compare "ask_$shell"
     else
-        echo "$script: left out, as it is not installed: $shell"
+        not_shown "the completion of qpk in $shell" "without $shell"
     fi
 done
 tell_count

@@ -8,6 +8,7 @@ set -uo pipefail
 cd "$(dirname "$0")" || exit 1
 script=dist/tests/package.sh
 . ../../tests/counted
+. ../../tests/licence
 room=$(mktemp -d) || exit 1
 trap 'rm -rf --one-file-system "$room"' EXIT
 root=$room/root
@@ -80,6 +81,12 @@ check_files() {
         cmp "$share/zsh/vendor-completions/_qpk" ../completions/_qpk
 }
 
+# The copyright of each package has the notices of the licence.
+check_copyright() {
+    local package
+    for package in libh3-qpack0 libh3-qpack-dev qpk; do has_notices "$root/usr/share/doc/$package/copyright" || return; done
+}
+
 # Runs lintian, which finds no error and nothing to warn of.
 run_lintian() {
     lintian --allow-root --fail-on error,warning "$room"/packages/*.changes
@@ -87,7 +94,7 @@ run_lintian() {
 
 missing=$(list_missing dpkg-buildpackage dh cc pkg-config | paste -s -d ' ')
 if [ -n "$missing" ]; then
-    echo "$script: nothing was tested, without $missing"
+    not_shown "the Debian packages" "without $missing"
     tell_count
     exit
 fi
@@ -96,7 +103,7 @@ try "build the packages" ../package "$room/packages" || { tell_count; exit; }
 if [ -z "$(list_missing lintian)" ]; then
     try "lintian" run_lintian
 else
-    echo "$script: left out, as it is not installed: lintian"
+    not_shown "what lintian says of the Debian packages" "without lintian"
 fi
 libraries=$root/usr/lib/$(dpkg-architecture -qDEB_HOST_MULTIARCH)
 if make_system; then
@@ -112,4 +119,5 @@ try "a program over the shared library" try_program
 try "a program over the static library" try_statically
 try "qpk" try_qpk
 try "the manual page and the completions" check_files
+try "the copyright of each package" check_copyright
 tell_count

@@ -9,9 +9,16 @@ void stop_at(const char *file, int line, const char *what) {
 }
 
 void add(bytes *b, const void *p, size_t len) {
-  if (b->len + len > b->room) {
-    b->room = 2 * (b->len + len) + 64;
-    CHECK((b->at = realloc(b->at, b->room)) != NULL);
+  if (b->is_short) return;
+  if (!b->at || b->len + len > b->room) {
+    size_t room = 2 * (b->len + len) + 64;
+    uint8_t *larger = realloc(b->at, room);
+    if (!larger) {
+      b->is_short = 1;
+      return;
+    }
+    b->at = larger;
+    b->room = room;
   }
   if (len) memcpy(b->at + b->len, p, len);
   b->len += len;
@@ -27,8 +34,8 @@ void add_text(bytes *b, const char *format, ...) {
 void add_text_of(bytes *b, const char *format, va_list arguments) {
   char text[1024];
   int len = vsnprintf(text, sizeof text, format, arguments);
-  CHECK(len >= 0 && (size_t)len < sizeof text);
-  add(b, text, (size_t)len);
+  if (len < 0 || (size_t)len >= sizeof text) b->is_short = 1;
+  else add(b, text, (size_t)len);
 }
 
 void add_varint(bytes *b, uint64_t value) {
@@ -37,16 +44,6 @@ void add_varint(bytes *b, uint64_t value) {
   for (int i = 0; i < len; i++) at[i] = (uint8_t)(value >> 8 * (len - 1 - i));
   at[0] |= bits;
   add(b, at, (size_t)len);
-}
-
-int take_varint(const uint8_t **at, const uint8_t *end, uint64_t *value) {
-  if (*at == end) return 0;
-  int len = 1 << (**at >> 6);
-  if (end - *at < len) return 0;
-  *value = **at & 0x3f;
-  for (int i = 1; i < len; i++) *value = *value << 8 | (*at)[i];
-  *at += len;
-  return 1;
 }
 
 void add_hex(bytes *b, const uint8_t *p, size_t len) {
@@ -70,5 +67,5 @@ void add_json(bytes *b, const uint8_t *p, size_t len) {
 
 void drop(bytes *b) {
   free(b->at);
-  *b = (bytes){NULL, 0, 0};
+  *b = (bytes){NULL, 0, 0, 0};
 }

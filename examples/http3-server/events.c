@@ -2,15 +2,19 @@
 #include <stdlib.h>
 #include "server.h"
 
-/* So many bytes of a connection are kept at most. */
-#define MOST_EVENTS (16u << 20)
+static FILE *log;
 
+int open_log(void) {
+  if (option.log) log = fopen(option.log, "w");
+  return !option.log || log;
+}
+
+/* Without memory, or room for the line, the events of the connection end before it. */
 static void end_event(connection *c, bytes *line) {
-  static FILE *log;
   add(line, "}\n", 2);
-  if (c->events.len < MOST_EVENTS) add(&c->events, line->at, line->len);
-  if (option.log && !log) CHECK((log = fopen(option.log, "w")) != NULL);
-  if (log) {
+  if (line->is_short || line->len > MOST_EVENTS - c->events.len) c->events.is_short = 1;
+  else add(&c->events, line->at, line->len);
+  if (log && !line->is_short) {
     fwrite(line->at, 1, line->len, log);
     fflush(log);
   }
@@ -18,7 +22,7 @@ static void end_event(connection *c, bytes *line) {
 }
 
 static bytes begin_event(const connection *c, const char *kind) {
-  bytes line = {NULL, 0, 0};
+  bytes line = {NULL, 0, 0, 0};
   add_text(&line, "{\"connection\":%u,\"event\":\"%s\"", c->number, kind);
   return line;
 }

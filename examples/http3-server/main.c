@@ -1,4 +1,5 @@
 /* An HTTP/3 server whose QPACK is h3_qpack.h: the options of its command line. */
+#include <errno.h>
 #include <stdlib.h>
 #include <string.h>
 #include "server.h"
@@ -35,7 +36,7 @@ static int set_option(const char *name, const char *value) {
   else if (!strcmp(name, "--key")) option.key = value;
   else if (!strcmp(name, "--log")) option.log = value;
   else if (!is_number) return 0;
-  else if (!strcmp(name, "--port")) option.port = (int)number;
+  else if (!strcmp(name, "--port") && number < 65536) option.port = (int)number;
   else if (!strcmp(name, "--capacity")) option.capacity = number;
   else if (!strcmp(name, "--blocked") && number < 65535) option.blocked = number;
   else if (!strcmp(name, "--limit")) option.limit = number;
@@ -52,6 +53,10 @@ int main(int argc, char **argv) {
       fputs(usage, stderr);
       return 2;
     }
+  if (!open_log()) {
+    fprintf(stderr, "http3-server: --log %s: %s\n", option.log, strerror(errno));
+    return 1;
+  }
   fprintf(stderr, "http3-server: https://localhost:%d, table %llu bytes, %llu blocked streams\n", option.port,
           (unsigned long long)option.capacity, (unsigned long long)option.blocked);
   serve();

@@ -18,7 +18,7 @@ static gnutls_certificate_credentials_t credentials;
 static int udp;
 static struct sockaddr_in here;
 static connection *connections;
-static unsigned count;
+static unsigned count, open_count; /* connections, ever and now */
 
 uint64_t now(void) {
   struct timespec t;
@@ -39,10 +39,13 @@ stream *stream_of(connection *c, int64_t id) {
   return s;
 }
 
-static stream *open_stream(connection *c, int64_t id) {
-  stream *s = calloc(1, sizeof *s);
-  CHECK(s);
-  *s = (stream){.id = id, .type = -1, .next = c->streams};
+/* Returns a stream of the peer, which begins if it is new, or NULL without memory. */
+static stream *find_stream(connection *c, int64_t id) {
+  stream *s = stream_of(c, id);
+  if (s) return s;
+  if (!(s = calloc(1, sizeof *s))) return NULL;
+  *s = (stream){.id = id, .type = -1, .next = c->streams, .file = -1};
+  open_reader(s);
   return c->streams = s;
 }
 
@@ -67,8 +70,13 @@ static void unqueue(connection *c, stream *s) {
 void send_on(connection *c, stream *s, const uint8_t *p, size_t len) {
   if (s->is_shut || !len) return;
   chunk *k = malloc(sizeof *k + len);
-  CHECK(k);
+  if (!k) {
+    fail_for_memory(c);
+    return;
+  }
   *k = (chunk){.len = len};
+  s->queued += len;
+  c->queued += len;
   memcpy(k->at, p, len);
   if (s->last) s->last->next = k;
   else s->first = k;
@@ -84,9 +92,18 @@ void end_stream(connection *c, stream *s) {
 
 void reset_stream(connection *c, stream *s, uint64_t code) {
   s->is_given_up = s->is_shut = 1;
-  s->in.len = 0;
   unqueue(c, s);
   ngtcp2_conn_shutdown_stream(c->quic, s->id, code);
+}
+
+void stop_reading(connection *c, stream *s, uint64_t code) {
+  ngtcp2_conn_shutdown_stream_read(c->quic, s->id, code);
+}
+
+/* Flow control is the brake: the peer may send on only as fast as its bytes are read. */
+void extend_windows(connection *c, stream *s, size_t len) {
+  ngtcp2_conn_extend_max_stream_offset(c->quic, s->id, len);
+  ngtcp2_conn_extend_max_offset(c->quic, len);
 }
 
 void end_connection(connection *c, uint64_t code, const char *why) {
@@ -110,11 +127,9 @@ static int make_id(ngtcp2_conn *quic, ngtcp2_cid *id, uint8_t *token, size_t len
 static int on_data(ngtcp2_conn *quic, uint32_t flags, int64_t id, uint64_t offset, const uint8_t *data, size_t len,
                    void *user, void *stream_user) {
   connection *c = user;
-  stream *s = stream_of(c, id);
-  (void)offset, (void)stream_user;
-  ngtcp2_conn_extend_max_stream_offset(quic, id, len);
-  ngtcp2_conn_extend_max_offset(quic, len);
-  if (!s) s = open_stream(c, id);
+  stream *s = find_stream(c, id);
+  (void)quic, (void)offset, (void)stream_user;
+  if (!s) return NGTCP2_ERR_CALLBACK_FAILURE;
   add(&s->in, data, len);
   if (flags & NGTCP2_STREAM_DATA_FLAG_FIN) s->has_ended = 1;
   receive_on(c, s);
@@ -137,6 +152,8 @@ static int on_acknowledged(ngtcp2_conn *quic, int64_t id, uint64_t offset, uint6
     if (k->acknowledged < k->len) break;
     s->first = k->next;
     if (s->last == k) s->last = NULL;
+    s->queued -= k->len;
+    c->queued -= k->len;
     free(k);
   }
   return 0;
@@ -151,30 +168,28 @@ static int on_close(ngtcp2_conn *quic, uint32_t flags, int64_t id, uint64_t code
   unqueue(c, s);
   while (*at != s) at = &(*at)->next;
   *at = s->next;
+  ngtcp2_conn_extend_max_offset(quic, s->in.len);
+  c->queued -= s->queued;
   free_stream(s);
   free(s);
-  if (!(id & 2)) ngtcp2_conn_extend_max_streams_bidi(quic, 1);
+  if (id & 2) ngtcp2_conn_extend_max_streams_uni(quic, 1);
+  else ngtcp2_conn_extend_max_streams_bidi(quic, 1);
   return 0;
 }
 
 static int on_reset(ngtcp2_conn *quic, int64_t id, uint64_t size, uint64_t code, void *user, void *stream_user) {
   connection *c = user;
-  stream *s = stream_of(c, id);
+  stream *s = find_stream(c, id);
   (void)quic, (void)size, (void)stream_user;
-  if (!s) s = open_stream(c, id);
-  if (s->is_given_up || id & 2) return 0;
+  if (!s) return NGTCP2_ERR_CALLBACK_FAILURE;
+  if (id & 2) { /* a critical stream may not end */
+    s->has_ended = 1;
+    receive_on(c, s);
+    return 0;
+  }
+  if (s->is_given_up) return 0;
   give_up(c, s);
   reset_stream(c, s, code);
-  return 0;
-}
-
-static int on_stop(ngtcp2_conn *quic, int64_t id, uint64_t code, void *user, void *stream_user) {
-  connection *c = user;
-  stream *s = stream_of(c, id);
-  (void)quic, (void)code, (void)stream_user;
-  if (!s) return 0;
-  unqueue(c, s);
-  s->is_shut = 1;
   return 0;
 }
 
@@ -188,7 +203,6 @@ static const ngtcp2_callbacks callbacks = {
     .acked_stream_data_offset = on_acknowledged,
     .stream_close = on_close,
     .stream_reset = on_reset,
-    .stream_stop_sending = on_stop,
     .rand = fill,
     .get_new_connection_id = make_id,
     .update_key = ngtcp2_crypto_update_key_cb,
@@ -200,67 +214,50 @@ static const ngtcp2_callbacks callbacks = {
 
 /* ---- Connections */
 
-static ngtcp2_path path_of(connection *c) {
-  return (ngtcp2_path){{(struct sockaddr *)&here, sizeof here}, {(struct sockaddr *)&c->peer, sizeof c->peer}, NULL};
+static ngtcp2_path path_to(const struct sockaddr_in *peer) {
+  return (ngtcp2_path){{(struct sockaddr *)&here, sizeof here}, {(struct sockaddr *)(uintptr_t)peer, sizeof *peer}, NULL};
 }
 
 static ngtcp2_conn *quic_of(ngtcp2_crypto_conn_ref *ref) { return ((connection *)ref->user_data)->quic; }
 
-static void start_tls(connection *c) {
+/* Returns 0 if it fails. */
+static int start_tls(connection *c) {
   static const gnutls_datum_t protocol = {(unsigned char *)"h3", 2};
-  CHECK(!gnutls_init(&c->tls, GNUTLS_SERVER | GNUTLS_NO_AUTO_SEND_TICKET));
-  CHECK(!gnutls_priority_set_direct(c->tls, "%DISABLE_TLS13_COMPAT_MODE:NORMAL:-VERS-ALL:+VERS-TLS1.3", NULL));
-  CHECK(!ngtcp2_crypto_gnutls_configure_server_session(c->tls));
   c->ref = (ngtcp2_crypto_conn_ref){quic_of, c};
+  if (gnutls_init(&c->tls, GNUTLS_SERVER | GNUTLS_NO_AUTO_SEND_TICKET)) return 0;
   gnutls_session_set_ptr(c->tls, &c->ref);
-  CHECK(!gnutls_credentials_set(c->tls, GNUTLS_CRD_CERTIFICATE, credentials));
-  CHECK(!gnutls_alpn_set_protocols(c->tls, &protocol, 1, GNUTLS_ALPN_MANDATORY));
   ngtcp2_conn_set_tls_native_handle(c->quic, c->tls);
+  return !gnutls_priority_set_direct(c->tls, "%DISABLE_TLS13_COMPAT_MODE:NORMAL:-VERS-ALL:+VERS-TLS1.3", NULL) &&
+         !ngtcp2_crypto_gnutls_configure_server_session(c->tls) &&
+         !gnutls_credentials_set(c->tls, GNUTLS_CRD_CERTIFICATE, credentials) &&
+         !gnutls_alpn_set_protocols(c->tls, &protocol, 1, GNUTLS_ALPN_MANDATORY);
 }
 
-static connection *begin(const ngtcp2_pkt_hd *header, const struct sockaddr_in *peer) {
-  connection *c = calloc(1, sizeof *c);
-  ngtcp2_settings settings;
+/* The bounds of server.h are the peer's limits. The connection's window has room for that of each stream, so that a
+ * stream that waits does not hold the encoder stream back, which it waits for (RFC 9204, section 2.1.3). */
+static ngtcp2_transport_params limits_for(const ngtcp2_pkt_hd *header) {
   ngtcp2_transport_params parameters;
+  ngtcp2_transport_params_default(&parameters);
+  parameters.initial_max_streams_bidi = MOST_REQUESTS;
+  parameters.initial_max_streams_uni = MOST_UNIDIRECTIONAL;
+  parameters.initial_max_data = (MOST_REQUESTS + MOST_UNIDIRECTIONAL) * (uint64_t)STREAM_WINDOW;
+  parameters.initial_max_stream_data_bidi_remote = STREAM_WINDOW;
+  parameters.initial_max_stream_data_uni = STREAM_WINDOW;
+  parameters.max_idle_timeout = 30 * NGTCP2_SECONDS;
+  parameters.original_dcid = header->dcid;
+  return parameters;
+}
+
+static int open_quic(connection *c, const ngtcp2_pkt_hd *header, const struct sockaddr_in *peer) {
+  ngtcp2_settings settings;
+  ngtcp2_transport_params parameters = limits_for(header);
   ngtcp2_cid own = {.datalen = ID_LENGTH};
-  CHECK(c);
-  c->number = ++count;
-  c->peer = *peer;
-  c->first_id = header->dcid;
-  for (int i = 0; i < OWN_STREAMS; i++) c->own[i].id = -1;
+  ngtcp2_path path = path_to(peer);
   fill(own.data, own.datalen, NULL);
   ngtcp2_settings_default(&settings);
   settings.initial_ts = now();
-  ngtcp2_transport_params_default(&parameters);
-  parameters.initial_max_streams_bidi = 100;
-  parameters.initial_max_streams_uni = 20;
-  parameters.initial_max_data = 1 << 24;
-  parameters.initial_max_stream_data_bidi_remote = 1 << 20;
-  parameters.initial_max_stream_data_uni = 1 << 20;
-  parameters.max_idle_timeout = 30 * NGTCP2_SECONDS;
-  parameters.original_dcid = header->dcid;
-  ngtcp2_path path = path_of(c);
-  if (ngtcp2_conn_server_new(&c->quic, &header->scid, &own, &path, header->version, &callbacks, &settings, &parameters,
-                             NULL, c)) {
-    free(c);
-    return NULL;
-  }
-  start_tls(c);
-  ngtcp2_connection_close_error_default(&c->error);
-  open_qpack(c);
-  c->next = connections;
-  return connections = c;
-}
-
-/* The handshake is complete: opens the control stream and both streams of QPACK (RFC 9114, section 6.2). */
-static void open_connection(connection *c) {
-  c->is_open = 1;
-  for (int i = 0; i < OWN_STREAMS; i++)
-    if (ngtcp2_conn_open_uni_stream(c->quic, &c->own[i].id, NULL)) {
-      end_connection(c, 0x103, "too few streams"); /* H3_STREAM_CREATION_ERROR */
-      return;
-    }
-  open_http3(c);
+  return !ngtcp2_conn_server_new(&c->quic, &header->scid, &own, &path, header->version, &callbacks, &settings,
+                                 &parameters, NULL, c);
 }
 
 static void free_connection(connection *c) {
@@ -272,9 +269,38 @@ static void free_connection(connection *c) {
   for (int i = 0; i < OWN_STREAMS; i++) free_stream(&c->own[i]);
   close_qpack(c);
   drop(&c->events);
-  ngtcp2_conn_del(c->quic);
-  gnutls_deinit(c->tls);
+  if (c->quic) ngtcp2_conn_del(c->quic);
+  if (c->tls) gnutls_deinit(c->tls);
   free(c);
+  open_count--;
+}
+
+/* Returns a new connection, or NULL without memory. */
+static connection *begin(const ngtcp2_pkt_hd *header, const struct sockaddr_in *peer) {
+  connection *c = calloc(1, sizeof *c);
+  if (!c) return NULL;
+  open_count++;
+  c->number = ++count;
+  c->first_id = header->dcid;
+  for (int i = 0; i < OWN_STREAMS; i++) c->own[i].id = c->own[i].file = -1;
+  ngtcp2_connection_close_error_default(&c->error);
+  if (!open_quic(c, header, peer) || !start_tls(c) || !open_qpack(c)) {
+    free_connection(c);
+    return NULL;
+  }
+  c->next = connections;
+  return connections = c;
+}
+
+/* The handshake is complete: opens the control stream and both streams of QPACK (RFC 9114, section 6.2). */
+static void open_connection(connection *c) {
+  c->is_open = 1;
+  for (int i = 0; i < OWN_STREAMS; i++)
+    if (ngtcp2_conn_open_uni_stream(c->quic, &c->own[i].id, NULL)) {
+      end_connection(c, H3_STREAM_CREATION_ERROR, "too few streams");
+      return;
+    }
+  open_http3(c);
 }
 
 static connection *connection_of(const ngtcp2_version_cid *to) {
@@ -292,16 +318,23 @@ static connection *connection_of(const ngtcp2_version_cid *to) {
 
 /* ---- Datagrams */
 
-static void send_datagram(const struct sockaddr_in *peer, const uint8_t *p, size_t len) {
-  if (sendto(udp, p, len, 0, (const struct sockaddr *)peer, sizeof *peer) < 0 && errno != EAGAIN) perror("sendto");
+static void send_datagram(const struct sockaddr *peer, socklen_t peerlen, const uint8_t *p, size_t len) {
+  if (sendto(udp, p, len, 0, peer, peerlen) < 0 && errno != EAGAIN) perror("sendto");
+}
+
+/* Sends a packet on the path that ngtcp2 chose for it. */
+static void send_packet(const ngtcp2_path_storage *to, const uint8_t *p, size_t len) {
+  send_datagram(to->path.remote.addr, to->path.remote.addrlen, p, len);
 }
 
 static void close_connection(connection *c) {
   uint8_t packet[PACKET];
   ngtcp2_pkt_info info;
+  ngtcp2_path_storage to;
+  ngtcp2_path_storage_zero(&to);
   ngtcp2_ssize len =
-      ngtcp2_conn_write_connection_close(c->quic, NULL, &info, packet, sizeof packet, &c->error, now());
-  if (len > 0) send_datagram(&c->peer, packet, (size_t)len);
+      ngtcp2_conn_write_connection_close(c->quic, &to.path, &info, packet, sizeof packet, &c->error, now());
+  if (len > 0) send_packet(&to, packet, (size_t)len);
   c->is_over = 1;
 }
 
@@ -312,13 +345,17 @@ static void fail_quic(connection *c, int error) {
   c->is_closing = 1;
 }
 
-/* Notes what ngtcp2 took of a stream. */
+/* Notes what ngtcp2 took of a stream, and has the next piece of its answer read once all of this one is taken. */
 static void pass(connection *c, stream *s, size_t len) {
   if (s->unsent) {
     s->unsent->sent += len;
     if (s->unsent->sent == s->unsent->len) s->unsent = s->unsent->next;
   }
   if (s->unsent) return;
+  if (s->has_more) {
+    send_more(c, s);
+    return;
+  }
   s->is_ended = s->ends;
   unqueue(c, s);
 }
@@ -340,14 +377,17 @@ static void write_packets(connection *c) {
     if (s && s->unsent) data = (ngtcp2_vec){s->unsent->at + s->unsent->sent, s->unsent->len - s->unsent->sent};
     if (s && s->ends && (!s->unsent || !s->unsent->next)) flags |= NGTCP2_WRITE_STREAM_FLAG_FIN;
     ngtcp2_pkt_info info;
-    ngtcp2_ssize taken = -1, len = ngtcp2_conn_writev_stream(c->quic, NULL, &info, packet, sizeof packet, &taken, flags,
-                                                             s ? s->id : -1, &data, s != NULL, now());
+    ngtcp2_path_storage to;
+    ngtcp2_path_storage_zero(&to);
+    ngtcp2_ssize taken = -1, len = ngtcp2_conn_writev_stream(c->quic, &to.path, &info, packet, sizeof packet, &taken,
+                                                             flags, s ? s->id : -1, &data, s != NULL, now());
     if (s && taken >= 0) pass(c, s, (size_t)taken);
     if (len == NGTCP2_ERR_WRITE_MORE) continue;
     if (len == NGTCP2_ERR_STREAM_DATA_BLOCKED) {
       s->is_full = 1;
     } else if (len == NGTCP2_ERR_STREAM_SHUT_WR || len == NGTCP2_ERR_STREAM_NOT_FOUND) {
-      unqueue(c, s);
+      unqueue(c, s); /* the peer takes no more of it */
+      close_answer(s);
       s->is_shut = 1;
     } else if (len < 0) {
       fail_quic(c, (int)len);
@@ -356,7 +396,7 @@ static void write_packets(connection *c) {
     } else if (!len) {
       break;
     } else {
-      send_datagram(&c->peer, packet, (size_t)len);
+      send_packet(&to, packet, (size_t)len);
       packets++;
     }
   }
@@ -369,7 +409,24 @@ static void answer_version(const ngtcp2_version_cid *of, const struct sockaddr_i
   fill(&random, 1, NULL);
   ngtcp2_ssize len = ngtcp2_pkt_write_version_negotiation(packet, sizeof packet, random, of->scid, of->scidlen,
                                                           of->dcid, of->dcidlen, versions, 1);
-  if (len > 0) send_datagram(peer, packet, (size_t)len);
+  if (len > 0) send_datagram((const struct sockaddr *)peer, sizeof *peer, packet, (size_t)len);
+}
+
+/* There are too many connections: the peer may try again later. */
+static void refuse_connection(const ngtcp2_pkt_hd *header, const struct sockaddr_in *peer) {
+  uint8_t packet[PACKET];
+  ngtcp2_ssize len = ngtcp2_crypto_write_connection_close(packet, sizeof packet, header->version, &header->scid,
+                                                          &header->dcid, NGTCP2_CONNECTION_REFUSED, NULL, 0);
+  if (len > 0) send_datagram((const struct sockaddr *)peer, sizeof *peer, packet, (size_t)len);
+}
+
+/* Returns the connection that a datagram to no other one begins, or NULL. */
+static connection *accept_connection(const uint8_t *p, size_t len, const struct sockaddr_in *peer) {
+  ngtcp2_pkt_hd header;
+  if (ngtcp2_accept(&header, p, len) || header.type != NGTCP2_PKT_INITIAL) return NULL;
+  if (open_count < MOST_CONNECTIONS) return begin(&header, peer);
+  refuse_connection(&header, peer);
+  return NULL;
 }
 
 static void read_datagram(const uint8_t *p, size_t len, const struct sockaddr_in *peer) {
@@ -378,12 +435,8 @@ static void read_datagram(const uint8_t *p, size_t len, const struct sockaddr_in
   if (error == NGTCP2_ERR_VERSION_NEGOTIATION) answer_version(&to, peer);
   if (error) return;
   connection *c = connection_of(&to);
-  if (!c) {
-    ngtcp2_pkt_hd header;
-    if (ngtcp2_accept(&header, p, len) || header.type != NGTCP2_PKT_INITIAL || !(c = begin(&header, peer))) return;
-  }
-  c->peer = *peer;
-  ngtcp2_path path = path_of(c);
+  if (!c && !(c = accept_connection(p, len, peer))) return;
+  ngtcp2_path path = path_to(peer);
   ngtcp2_pkt_info info = {0};
   error = ngtcp2_conn_read_pkt(c->quic, &path, &info, p, len, now());
   if (error == NGTCP2_ERR_DRAINING || error == NGTCP2_ERR_DROP_CONN || error == NGTCP2_ERR_RETRY) c->is_over = 1;
@@ -456,7 +509,7 @@ void serve(void) {
     struct pollfd readable = {udp, POLLIN, 0};
     if (poll(&readable, 1, first > time ? (int)((first - time) / NGTCP2_MILLISECONDS) + 1 : 0) > 0) read_datagrams();
   }
-  for (connection *c = connections; c; c = c->next) end_connection(c, 0x100, "the server stops");
+  for (connection *c = connections; c; c = c->next) end_connection(c, H3_NO_ERROR, "the server stops");
   while (connections) write_all();
   gnutls_certificate_free_credentials(credentials);
 }

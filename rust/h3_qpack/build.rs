@@ -1,5 +1,6 @@
 //! Links the archive that `H3_QPACK_LIB` names, itself or by its folder, in the place of the crate's own assembly. Where it
-//! is not set, nothing is to be done.
+//! is not set, it writes that assembly with a prefix before each name that a linker sees. So a program can link the crate
+//! and the library in C, which has the same names.
 
 use std::env;
 use std::path::{Path, PathBuf};
@@ -8,11 +9,44 @@ use std::process::exit;
 /// The name that the archive has to the linker.
 const ARCHIVE: &str = "libh3_qpack.a";
 
+/// What is put before the names of the assembly.
+const PREFIX: &str = "h3_qpack_rs_";
+
+/// How the names begin that a linker sees: the exports, and the functions for memory.
+const NAMES: [&str; 2] = ["h3q_", "rattle_"];
+
+/// The files of the folder `generated`.
+const ASSEMBLY: [&str; 4] = ["x86_64-elf.s", "heap-x86_64-elf.s", "aarch64-elf.s", "heap-aarch64-elf.s"];
+
 fn main() {
     println!("cargo:rerun-if-env-changed=H3_QPACK_LIB");
-    if let Some(named) = env::var_os("H3_QPACK_LIB") {
-        link(&find_archive(PathBuf::from(named)));
+    let prefix = match env::var_os("H3_QPACK_LIB") {
+        Some(named) => {
+            link(&find_archive(PathBuf::from(named)));
+            ""
+        }
+        None => {
+            ASSEMBLY.iter().for_each(|name| write_prefixed(name));
+            PREFIX
+        }
+    };
+    println!("cargo:rustc-env=H3_QPACK_PREFIX={prefix}");
+}
+
+/// Returns the folder that cargo gives a build.
+fn out_folder() -> PathBuf {
+    PathBuf::from(env::var_os("OUT_DIR").expect("cargo sets OUT_DIR"))
+}
+
+/// Writes a file of assembly with the prefix to the folder of the build.
+fn write_prefixed(name: &str) {
+    let source = Path::new("generated").join(name);
+    println!("cargo:rerun-if-changed={}", source.display());
+    let mut text = std::fs::read_to_string(&source).expect("the crate has its assembly");
+    for begin in NAMES {
+        text = text.replace(begin, &format!("{PREFIX}{begin}"));
     }
+    std::fs::write(out_folder().join(name), text).expect("OUT_DIR can be written");
 }
 
 /// Returns the archive of a path that is its own or its folder's. Ends the build if there is none.
@@ -27,7 +61,7 @@ fn find_archive(named: PathBuf) -> PathBuf {
 
 /// Has an archive linked, and the assembly left out.
 fn link(archive: &Path) {
-    let out = PathBuf::from(env::var_os("OUT_DIR").expect("cargo sets OUT_DIR"));
+    let out = out_folder();
     std::fs::copy(archive, out.join(ARCHIVE)).expect("the archive can be read, and OUT_DIR written");
     println!("cargo:rerun-if-changed={}", archive.display());
     println!("cargo:rustc-cfg=h3_qpack_archive");

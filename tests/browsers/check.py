@@ -183,7 +183,7 @@ def main():
     for browser in BROWSERS:
         lacking = [program for program in browser.programs if not shutil.which(program)]
         if lacking:
-            print(f'tests/browsers: nothing was tested with {browser.name}, without {" and ".join(lacking)}')
+            print(f'not shown: the example server with {browser.name}, without {" and ".join(lacking)}')
         else:
             browsers.append(browser)
     passed = failed = 0

@@ -281,7 +281,7 @@ def take_picture(browser, room, path):
 def main():
     """Runs all checks."""
     if not shutil.which(devtools.PROGRAM):
-        print(f'tests/browsers/report.py: nothing was tested, without {devtools.PROGRAM}\n0 passed, 0 failed')
+        print(f'not shown: the page of qpk report in a browser, without {devtools.PROGRAM}\n0 passed, 0 failed')
         return 0
     passed = failed = 0
     with tempfile.TemporaryDirectory() as room:

@@ -22,7 +22,7 @@ b'authorization' b'Basic Og==' True
 An error is a QpackError. If it is a QpackConnectionError, close the connection with its code.
 """
 
-from ._decoder import Decoder
+from ._decoder import Decoder, longest_section
 from ._encoder import Encoded, Encoder
 from ._errors import (
     DecoderStreamError,
@@ -66,4 +66,5 @@ __all__ = [
     "decode_stateless",
     "encode_stateless",
     "library_version",
+    "longest_section",
 ]

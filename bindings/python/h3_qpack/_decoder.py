@@ -6,7 +6,15 @@ from typing import List, Optional
 from . import _library as lib
 from ._end import End, stream_number
 from ._errors import check
-from ._fields import Bytes, Field, lend_bytes, list_fields, make_room, taken
+from ._fields import Bytes, Field, lend_bytes, list_fields, make_places, make_room, taken
+
+
+def longest_section(max_section_size: int) -> int:
+    """Returns the length, in bytes, of the longest section whose fields can be within a `max_section_size`.
+
+    A decoder refuses a longer one unread, with SectionTooLarge, so a buffer for a HEADERS frame needs no more room.
+    """
+    return 4 * max_section_size + 20
 
 
 class Decoder(End):
@@ -54,9 +62,9 @@ class Decoder(End):
         with self._lock:
             decoded = self._call("decode", stream_number(stream_id), lent, len(lent))
             check(decoded.status, result=decoded)
-            fields, room = (lib.CopiedField * decoded.fields)(), make_room(decoded.len)
-            check(self._call("fields", fields, len(fields), room, len(room)).status)
-        return list_fields(fields, taken(room, decoded.len))
+            places, room = make_places(decoded.fields), make_room(decoded.len)
+            check(self._call("fields", places, len(places), room, len(room)).status)
+        return list_fields(places[: decoded.fields], taken(room, decoded.len))
 
     def next_ready(self) -> Optional[int]:
         """Returns a blocked stream whose section can be decoded now, or None.

@@ -68,9 +68,9 @@ class Encoder(End):
 
         Raises InvalidArgument for a stream of 2^62 or more, and DecoderStreamError if `receive` did.
         """
-        nva, room = lend_fields(fields), make_room(USUAL_SECTION)
+        (nva, count), room = lend_fields(fields), make_room(USUAL_SECTION)
         with self._lock:
-            encoded = self._call("encode", stream_number(stream_id), nva, len(nva), room, len(room))
+            encoded = self._call("encode", stream_number(stream_id), nva, count, room, len(room))
             if encoded.status == lib.NO_ROOM:
                 room = make_room(encoded.len)
                 check(self._call("section", room, len(room)).status)

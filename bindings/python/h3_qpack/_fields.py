@@ -2,6 +2,7 @@
 
 import ctypes
 import enum
+import functools
 from typing import Any, Iterable, List, NamedTuple, Tuple, Union
 
 from . import _library as lib
@@ -45,10 +46,11 @@ def lend_bytes(data: Bytes) -> bytes:
     return data if isinstance(data, bytes) else bytes(memoryview(data))
 
 
-def lend_fields(fields: Iterable[FieldLike]) -> Any:
-    """Returns an array of fields for the library. It refers to their bytes."""
+def lend_fields(fields: Iterable[FieldLike]) -> Tuple[Any, int]:
+    """Returns an array of fields for the library, which refers to their bytes, and how many there are."""
     lent = [Field(*field) for field in fields]
-    return (lib.Nv * len(lent))(*[lib.Nv(it.name, len(it.name), it.value, len(it.value), it.flags) for it in lent])
+    nva = [lib.Nv(it.name, len(it.name), it.value, len(it.value), it.flags) for it in lent]
+    return array_type(lib.Nv, len(nva))(*nva), len(nva)
 
 
 def list_fields(copied: Iterable[lib.CopiedField], text: bytes) -> List[Field]:
@@ -62,9 +64,27 @@ def list_fields(copied: Iterable[lib.CopiedField], text: bytes) -> List[Field]:
     return fields
 
 
+def array_type(item: Any, size: int) -> Any:
+    """Returns a type of arrays with room for that many items."""
+    return array_type_of_bits(item, max(size - 1, 0).bit_length())
+
+
+@functools.lru_cache(maxsize=None)
+def array_type_of_bits(item: Any, bits: int) -> Any:
+    """Returns a type of arrays whose room is a power of two. ctypes would make a new type for each size, which takes
+    longer than a call."""
+    return item * (1 << bits)
+
+
+def make_places(count: int) -> Any:
+    """Returns room for the lengths of that many fields, or of more."""
+    return array_type(lib.CopiedField, count)()
+
+
 def make_room(size: int) -> "ctypes.Array[ctypes.c_char]":
-    """Returns a buffer of that many bytes."""
-    return ctypes.create_string_buffer(size)
+    """Returns a buffer of that many bytes, or of more."""
+    room: "ctypes.Array[ctypes.c_char]" = array_type(ctypes.c_char, size)()
+    return room
 
 
 def taken(room: "ctypes.Array[ctypes.c_char]", size: int) -> bytes:

@@ -5,7 +5,7 @@ from typing import Iterable, List
 from . import _library as lib
 from ._end import in_range
 from ._errors import check
-from ._fields import Bytes, Field, FieldLike, lend_bytes, lend_fields, list_fields, make_room, taken
+from ._fields import Bytes, Field, FieldLike, lend_bytes, lend_fields, list_fields, make_places, make_room, taken
 
 # The room that most sections need, in fields and in bytes.
 USUAL_FIELDS = 32
@@ -18,11 +18,11 @@ def encode_stateless(fields: Iterable[FieldLike]) -> bytes:
     >>> encode_stateless([(b":method", b"GET")]).hex()
     '0000d1'
     """
-    nva, room = lend_fields(fields), make_room(USUAL_SECTION)
-    written = lib.calls.encode_stateless(nva, len(nva), room, len(room))
+    (nva, count), room = lend_fields(fields), make_room(USUAL_SECTION)
+    written = lib.calls.encode_stateless(nva, count, room, len(room))
     if written.status == lib.NO_ROOM:
         room = make_room(written.len)
-        written = lib.calls.encode_stateless(nva, len(nva), room, len(room))
+        written = lib.calls.encode_stateless(nva, count, room, len(room))
     check(written.status)
     return taken(room, written.len)
 
@@ -36,10 +36,10 @@ def decode_stateless(section: Bytes, max_section_size: int = 65536) -> List[Fiel
     b'GET'
     """
     limit, lent = in_range(max_section_size, 1 << 64, "max_section_size must be below 2^64"), lend_bytes(section)
-    fields, room = (lib.CopiedField * USUAL_FIELDS)(), make_room(USUAL_SECTION)
-    decoded = lib.calls.decode_stateless(lent, len(lent), limit, fields, len(fields), room, len(room))
+    places, room = make_places(USUAL_FIELDS), make_room(USUAL_SECTION)
+    decoded = lib.calls.decode_stateless(lent, len(lent), limit, places, len(places), room, len(room))
     if decoded.status == lib.NO_ROOM:
-        fields, room = (lib.CopiedField * decoded.fields)(), make_room(decoded.len)
-        decoded = lib.calls.decode_stateless(lent, len(lent), limit, fields, len(fields), room, len(room))
+        places, room = make_places(decoded.fields), make_room(decoded.len)
+        decoded = lib.calls.decode_stateless(lent, len(lent), limit, places, len(places), room, len(room))
     check(decoded.status, result=decoded)
-    return list_fields(fields[: decoded.fields], taken(room, decoded.len))
+    return list_fields(places[: decoded.fields], taken(room, decoded.len))

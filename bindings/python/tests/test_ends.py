@@ -1,6 +1,7 @@
 """Both ends of a connection: round trips, blocked and cancelled streams, tables, refusals."""
 
 import contextlib
+import ctypes
 import gc
 import resource
 import threading
@@ -26,7 +27,10 @@ from h3_qpack import (
     SettingsError,
     StreamBlocked,
     Wish,
+    decode_stateless,
+    encode_stateless,
     library_version,
+    longest_section,
 )
 
 REQUEST = [
@@ -164,6 +168,13 @@ class EndsTest(unittest.TestCase):
             decoder.cancel_stream(0)
             self.assertEqual(decoder.decode(4, METHOD), REQUEST[:1])
 
+    def test_the_longest_section(self) -> None:
+        decoder = Decoder(max_section_size=50)
+        longest = METHOD.ljust(longest_section(50), b"\x00")
+        self.assertEqual([longest_section(it) for it in (0, 50, 65536)], [20, 220, 262164])
+        self.refused(SectionTooLarge, decoder.decode, 0, longest + b"\x00")
+        self.refused(DecompressionFailed, decoder.decode, 0, longest)  # a line of it is wrong, and so it was read
+
     def test_default_limit(self) -> None:
         encoder, decoder = self.pair(0, 0)
         encoded = encoder.encode(0, [(b"x", 65536 * b"y")])
@@ -292,6 +303,23 @@ class EndsTest(unittest.TestCase):
             with little_memory():
                 self.refused(OutOfMemory, decoder.decode, 0, encoded.section)
             self.assertEqual(decoder.decode(0, encoded.section), [fields[0]._replace(wish=Wish.NONE)])
+
+    def test_types(self) -> None:
+        """Lengths that vary make no types: ctypes takes longer for one than for a call."""
+        encoder, decoder = self.pair()
+        gc.collect()
+        gc.disable()  # it would collect types that were made
+        self.addCleanup(gc.enable)
+        before = len(ctypes.Array.__subclasses__())
+        for size in range(1, 600):
+            fields = [Field(b"x", b"y" * size), *[Field(b"n", b"%d" % it) for it in range(size % 40)]]
+            encoded = encoder.encode(4 * size, fields)
+            decoder.receive(encoder.take_encoder_stream())
+            self.assertEqual(decoder.decode(4 * size, encoded.section), fields)
+            encoder.receive(decoder.take_decoder_stream())
+            self.assertEqual(decode_stateless(encode_stateless(fields)), fields)
+        made = len(ctypes.Array.__subclasses__()) - before
+        self.assertLessEqual(made, 40)
 
     def test_threads(self) -> None:
         encoder, decoder = self.pair(0, 0)

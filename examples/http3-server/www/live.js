@@ -156,7 +156,8 @@ async function update() {
       show('received', 'Browser to server: the library decodes', received, tables.received);
       show('sent', 'Server to browser: the library encodes', sent, tables.sent);
     }
-    document.getElementById('error').textContent = '';
+    document.getElementById('error').textContent = tables && tables.full ?
+      'The server keeps no more events of this connection. Restart the browser to begin another.' : '';
   } catch (error) {
     document.getElementById('error').textContent = String(error);
   }

@@ -38,7 +38,7 @@ mod error;
 
 pub use crate::copied::Fields;
 pub use crate::field::{FieldLine, Wish, WishedField};
-pub use decoder::{ConnectionDecoder, DecoderSettings, Reading};
+pub use decoder::{longest_section, ConnectionDecoder, DecoderSettings, Reading};
 pub use encoder::{ConnectionEncoder, EncoderSettings};
 pub use entries::Entries;
 pub use error::{

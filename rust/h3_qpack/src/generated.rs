@@ -1,18 +1,18 @@
 //! The library, as the assembly that was generated from its proved code, and the functions that it calls for memory, as
 //! assembly that was generated from C. The files are those of the repository's folder `dist`: its README says how they
-//! are made, and how they are checked against the proof.
+//! are made, and how they are checked against the proof. build.rs puts a prefix before their names.
 
 #[cfg(all(target_os = "linux", target_arch = "x86_64", target_pointer_width = "64"))]
 std::arch::global_asm!(
-    include_str!("../generated/x86_64-elf.s"),
-    include_str!("../generated/heap-x86_64-elf.s"),
+    include_str!(concat!(env!("OUT_DIR"), "/x86_64-elf.s")),
+    include_str!(concat!(env!("OUT_DIR"), "/heap-x86_64-elf.s")),
     options(att_syntax, raw)
 );
 
 #[cfg(all(target_os = "linux", target_arch = "aarch64", target_pointer_width = "64", target_endian = "little"))]
 std::arch::global_asm!(
-    include_str!("../generated/aarch64-elf.s"),
-    include_str!("../generated/heap-aarch64-elf.s"),
+    include_str!(concat!(env!("OUT_DIR"), "/aarch64-elf.s")),
+    include_str!(concat!(env!("OUT_DIR"), "/heap-aarch64-elf.s")),
     options(raw)
 );
 

@@ -137,7 +137,20 @@ struct Handle {
     at: *mut c_void,
 }
 
-extern "C" {
+/// Declares exports. build.rs puts a prefix before the names of those that the crate includes as assembly, so that a
+/// program can link the library in C too.
+macro_rules! declare {
+    ($(fn $name:ident($($argument:ident: $kind:ty),* $(,)?) $(-> $result:ty)?;)*) => {
+        extern "C" {
+            $(
+                #[link_name = concat!(env!("H3_QPACK_PREFIX"), stringify!($name))]
+                fn $name($($argument: $kind),*) $(-> $result)?;
+            )*
+        }
+    };
+}
+
+declare! {
     fn h3q_version() -> u32;
     fn h3q_encoder_new(
         max_capacity: usize,

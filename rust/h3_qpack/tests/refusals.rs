@@ -4,8 +4,8 @@ mod common;
 
 use common::{decoder, prefix};
 use h3_qpack::connection::{
-    ConnectionDecoder, ConnectionEncoder, DecoderSettings, DecodingError, EncoderSettings, EncodingError, FieldLine,
-    Place, Reading, SettingsError,
+    longest_section, ConnectionDecoder, ConnectionEncoder, DecoderSettings, DecodingError, EncoderSettings,
+    EncodingError, FieldLine, Place, Reading, SettingsError,
 };
 use h3_qpack::{decode_stateless, DecoderError};
 
@@ -103,6 +103,19 @@ fn a_decoder_is_over_behind_a_section_that_means_nothing() {
     assert_eq!(decoder.decode(4, b"\x00\x00\xd1"), Err(error));
     assert_eq!(decoder.fields().unwrap().len(), 0);
     assert_eq!(decoder.cancel(0).unwrap_err().code(), Some(0x200));
+}
+
+#[test]
+fn a_decoder_reads_no_section_above_the_longest() {
+    assert_eq!([0, 50, u64::MAX].map(longest_section), [20, 220, u64::MAX]);
+    let settings = DecoderSettings { max_capacity: 0, max_blocked: 0, max_section_size: 50 };
+    let mut decoder = ConnectionDecoder::new(settings).unwrap();
+    let mut section = vec![0; longest_section(50) as usize + 1];
+    section[2] = 0xd1;
+    assert_eq!(decoder.decode(0, &section), Err(DecodingError::TooLarge));
+    section.pop();
+    let error = decoder.decode(0, &section).unwrap_err(); // a line of it is wrong, and so it was read
+    assert_eq!(error.code(), Some(0x200));
 }
 
 #[test]

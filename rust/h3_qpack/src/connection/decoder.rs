@@ -18,6 +18,17 @@ pub struct DecoderSettings {
     pub max_section_size: u64,
 }
 
+/// Returns the length, in bytes, of the longest section whose fields can be within a `max_section_size`; at most
+/// [`u64::MAX`]. A decoder refuses a longer one unread, with [`DecodingError::TooLarge`], so a buffer for a HEADERS frame
+/// needs no more room.
+///
+/// ```
+/// assert_eq!(h3_qpack::connection::longest_section(65_536), 262_164);
+/// ```
+pub fn longest_section(max_section_size: u64) -> u64 {
+    max_section_size.saturating_mul(4).saturating_add(20)
+}
+
 /// The result of decoding a section.
 #[derive(Debug, Clone, Copy, PartialEq, Eq)]
 pub enum Reading {

@@ -1,0 +1,166 @@
+#!/usr/bin/env bash
+# Plants faults in a copy of dist/ and of its sources, and has dist/check find each: it names the file, and its status is
+# not 0. Each fault has its sum in SUMS. The copy has stand-ins for the objects that were proved: what the kit's clang
+# makes of the assembly before the fault. Without the kit nothing is shown, and a line says so. The last line is
+# 'N passed, M failed'.
+# shellcheck disable=SC2046,SC2086 # the names of files are words
+set -uo pipefail
+cd "$(dirname "$0")/../.." || exit 1
+script=dist/tests/check.sh
+. tests/counted
+room=$(mktemp -d) || exit 1
+trap 'rm -rf "$room"' EXIT
+top=$room/tree
+. dist/lists
+
+# Copies what dist/check reads, without what is built.
+copy_tree() {
+    mkdir "$top" "$top/c" &&
+        tar --exclude=out --exclude=must-fail --exclude=dist/build -cf - \
+            crates.txt LICENSE crates dist include .ci c/h3_qpack.c c/examples | tar -xf - -C "$top"
+}
+
+# Writes SUMS of the files, the sources and the kit that are here.
+write_sums() {
+    local crate
+    {
+        echo "version 0.0.0"
+        echo "kit $kit_here"
+        for crate in h3_qpack_c qpk_program; do echo "sources $crate $("$top/dist/sources" "$crate")"; done
+        (cd "$top/dist" && sha256sum -- $(list_made))
+    } >"$top/dist/SUMS"
+}
+
+# Prints the files that SUMS has sums of.
+list_made() {
+    local target
+    list_texts | cut -d ' ' -f 1
+    for target in $(list_targets); do name_heap "$target"; done
+    list_copies | cut -d ' ' -f 1
+}
+
+# Makes the copy one in which nothing differs: the copies, the assembly of heap.c, the objects and SUMS.
+make_equal() {
+    local file original target
+    while read -r file original _; do
+        [ "dist/$file" = "$original" ] || cp "$top/$original" "$top/dist/$file" || return
+    done < <(list_copies)
+    (
+        . "$top/dist/texts"
+        kit=$(dirname "$(rt doc)")
+        for target in $(list_targets); do write_heap "$target" >"$top/dist/$(name_heap "$target")"; done
+        while read -r file crate target _; do assemble "$file" "$crate" "$target" || exit; done < <(list_texts)
+    ) && write_sums
+}
+
+# Makes the stand-in of a file's object where dist/check looks for it.
+assemble() {
+    local object words="--target=$3"
+    object=$top/$(name_object "$1" "$2")
+    case $3 in x86_64-*) words="$words -march=x86-64-v2" ;; esac
+    mkdir -p "${object%/*}" && read_text <"$top/dist/$1" >"$room/text.s" &&
+        "$kit/toolchain/bin/clang" $words -c "$room/text.s" -o "$room/object.o" || return
+    case $object in
+    *.a) rm -f "$object" && ar rc "$object" "$room/object.o" ;;
+    *) cp "$room/object.o" "$object" ;;
+    esac
+}
+
+# Runs dist/check of the copy. Holds it to a status, and to the files and crates that it names, and no others.
+expect() {
+    local status
+    "$top/dist/check" >"$room/checked" 2>&1
+    status=$?
+    cat "$room/checked"
+    [ "$status" = "$1" ] || { echo "the status is $status, and not $1"; return 1; }
+    shift
+    diff <(list_named <"$room/checked") <(printf '%s\n' "$@" | sed '/^$/d' | sort -u)
+}
+
+# Prints the files and the crates that dist/check names.
+list_named() {
+    sed -nE 's/^dist\/check: not compared: ([^ ,]+),.*/\1/p
+        s/^dist\/[a-z]+: ([^ ,]+) is not .*/\1/p
+        s/^dist\/[a-z]+: the sources of (.*) are not .*/\1/p' | sort -u
+}
+
+# Plants a fault by sed in a file of the copy, with its sum in SUMS.
+plant() {
+    local file=$1
+    mkdir -p "$room/kept" && (cd "$top" && cp -p --parents "$file" "$room/kept") && sed -i "$2" "$top/$file" || return
+    if cmp -s "$room/kept/$file" "$top/$file"; then echo "$file has nothing to plant a fault in"; return 1; fi
+    case $file in
+    dist/*) (cd "$top/dist" && sed -i "s/^[0-9a-f]*  ${file#dist/}\$/$(sha256sum -- "${file#dist/}")/" SUMS) ;;
+    esac
+}
+
+# Puts back what faults were planted in, and SUMS.
+put_back() {
+    cp -pR "$room/kept/." "$top" && rm -r "$room/kept" && cp "$room/SUMS" "$top/dist/SUMS"
+}
+
+# A digit more in each file of assembly, before the first constant that is compared or moved.
+refuse_constants() {
+    local front
+    for file in "$@"; do
+        front='\tcmpq\t\$'
+        case $file in *aarch64*) front='\tmov\tw[0-9]*, #' ;; esac
+        plant "dist/$file" "0,/^$front/s/^$front/&1/" || return
+    done
+    expect 1 "$@" && put_back
+}
+
+# A blank more in the first line of each file.
+refuse_blanks() {
+    for file in "$@"; do plant "dist/$file" '1s/$/ /' || return; done
+    expect 1 "$@" && put_back
+}
+
+# A fault in one file, and what is named for it.
+refuse() {
+    plant "$1" "$2" && shift 2 && expect 1 "$@" && put_back
+}
+
+# A file that is not there, and one without a sum.
+refuse_lost() {
+    mv "$top/dist/$1" "$room/lost" && sed -i "/  $2\$/d" "$top/dist/SUMS" && expect 1 "$1" "$2" &&
+        mv "$room/lost" "$top/dist/$1" && cp "$room/SUMS" "$top/dist/SUMS"
+}
+
+# An object that is not there, and one that is older than the sources, are not compared with.
+skip_objects() {
+    local lost=$top/crates/h3_qpack_c/out/aarch64-elf older=$top/crates/qpk_program/out/qpk-x86_64-elf
+    mv "$lost" "$room/object" && touch -d 2000-01-01 "$older" && expect 2 aarch64-elf.s qpk-x86_64-elf.s &&
+        mv "$room/object" "$lost" && touch "$older"
+}
+
+# Without the kit, and with another, no file that the kit made is compared.
+skip_made() {
+    local made
+    made=$(list_made | grep '\.s$')
+    sed -i 's/^kit .*/kit another/' "$top/dist/SUMS" && expect 2 $made && cp "$room/SUMS" "$top/dist/SUMS" &&
+        (PATH=/usr/bin:/bin && ! command -v rt >/dev/null && expect 2 $made)
+}
+
+if ! command -v rt >/dev/null; then
+    not_shown "what dist/check finds" "without rt, the command of the kit"
+    tell_count
+    exit
+fi
+kit_here=$(rt version)
+texts=$(list_texts | cut -d ' ' -f 1)
+heaps=$(list_made | grep '^heap-')
+copies='LICENSE h3_qpack.c h3_qpack.h roundtrip.c'
+try "copy dist/ and its sources" copy_tree && try "make the copy equal" make_equal && try "nothing differs" expect 0 ||
+    { tell_count; exit 1; }
+cp "$top/dist/SUMS" "$room/SUMS"
+# A fault that is not found stays, and the tests after it would fail for it: the first one ends the script.
+try "another constant in each file of assembly" refuse_constants $texts &&
+    try "a blank in each other file" refuse_blanks $heaps $copies &&
+    try "another body in heap.c" refuse dist/heap.c 's/malloc(len ? len : align)/malloc(len)/' $heaps &&
+    try "os.c that is not there, and heap.c without a sum" refuse_lost os.c heap.c &&
+    try "objects that are not there, or older" skip_objects &&
+    try "no kit, and another kit" skip_made &&
+    try "a comment in a source of both crates" refuse crates/qpack_base/src/bytes.rt '$a // planted' \
+        h3_qpack_c qpk_program $texts
+tell_count
