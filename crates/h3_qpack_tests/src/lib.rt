@@ -1,21 +1,22 @@
-//! Cases of h3's names: the dynamic table, the encoder and the decoder over one, and sections without a table, in
-//! the format of `qpack_testing::cases`.
+//! Cases of h3's names: the dynamic table, the encoder and the decoder over one, sections without a table, and lists of
+//! at most two bytes, in the format of `qpack_testing::cases`.
 #![tactic(auto)]
 
-mod answers;
 mod decoder;
 mod encoder;
 mod repeated;
+mod short_lists;
 mod stateless;
+mod strict;
 mod table;
 
-use anyhow::{Result, bail};
+use anyhow::Result;
 use decoder::H3Decoder;
 use encoder::H3Encoder;
 use h3_qpack::dynamic::{Index, NoIndex};
-use qpack_testing::cases::{Kinds, Line, Words, hold, hold_files};
+use qpack_testing::cases::{Kinds, Run, answer_calls, hold, hold_files};
+use short_lists::ShortLists;
 use stateless::Stateless;
-use std::alloc::Global;
 use table::{Received, Table};
 
 /// The files of cases.
@@ -33,21 +34,16 @@ const FILES: [&str; 7] = [
 struct Names;
 
 impl Kinds for Names {
-    fn hold_kind(
-        alloc: Global,
-        kind: &str,
-        settings: &mut Words<'_>,
-        size: usize,
-        calls: &[Line<'_>],
-    ) -> Result<()> {
+    fn hold_kind(kind: &str, run: &mut Run<'_>) {
         match kind {
-            "table" => hold::<Table>(alloc, settings, size, calls),
-            "received-table" => hold::<Received>(alloc, settings, size, calls),
-            "h3-encoder" => hold::<H3Encoder>(alloc, settings, size, calls),
-            "h3-decoder" => hold::<H3Decoder<Index>>(alloc, settings, size, calls),
-            "h3-received-decoder" => hold::<H3Decoder<NoIndex>>(alloc, settings, size, calls),
-            "stateless" => hold::<Stateless>(alloc, settings, size, calls),
-            _ => bail!("there is no {kind}"),
+            "table" => hold::<Table>(run),
+            "received-table" => hold::<Received>(run),
+            "h3-encoder" => hold::<H3Encoder>(run),
+            "h3-decoder" => hold::<H3Decoder<Index>>(run),
+            "h3-received-decoder" => hold::<H3Decoder<NoIndex>>(run),
+            "stateless" => hold::<Stateless>(run),
+            "short-lists" => hold::<ShortLists>(run),
+            _ => run.fail("there is no such kind"),
         }
     }
 }
@@ -55,4 +51,9 @@ impl Kinds for Names {
 /// Runs the tests. Fails at the first one that does not hold.
 pub fn run(rt: &HostRuntime) -> Result<()> {
     hold_files::<Names>(rt, &FILES)
+}
+
+/// Prints the answers of calls.
+pub fn answer(rt: &HostRuntime, calls: &str) -> Result<()> {
+    answer_calls::<Names>(rt, calls)
 }

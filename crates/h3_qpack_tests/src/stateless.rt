@@ -1,17 +1,13 @@
 //! Sections without a table, and errors that no call returns.
 
-use crate::answers::{push_decoded, push_value};
-use anyhow::{Context, Result, bail};
+use crate::decoder::show_decoded;
 use h3_qpack::coding::Cursor;
 use h3_qpack::{
     DecoderError, EncoderError, Error, HeaderField, decode_stateless, encode_stateless,
     prefix_string, vas,
 };
 use linked_list_allocator::LocalHeap;
-use qpack_testing::again;
-use qpack_testing::cases::{Subject, Words, push_bytes, read_headers};
-use std::alloc::Global;
-use std::fmt::Write;
+use qpack_testing::cases::{Call, Subject};
 
 /// Calls without a table, and the sections that they wrote. A section may be decoded up to a size.
 #[derive(Drop)]
@@ -37,68 +33,75 @@ const NEVER_RETURNED: &[Error] = &[
 ];
 
 impl Subject for Stateless {
-    fn begin(alloc: Global, settings: &mut Words<'_>, _size: usize) -> Result<Stateless> {
-        Ok(Stateless {
-            max_size: settings.number()?,
-            sections: Vec::with_capacity(alloc, ROOM)?,
-        })
+    fn begin(call: &mut Call<'_>, _size: usize) -> Option<Stateless> {
+        let max_size = call.number();
+        let sections = Vec::with_capacity(call.alloc(), ROOM).ok()?;
+        Some(Stateless { max_size, sections })
     }
 
-    fn call(
-        &mut self,
-        alloc: Global,
-        word: &str,
-        words: &mut Words<'_>,
-        answer: &mut String,
-    ) -> Result<()> {
+    fn make(&mut self, word: &str, call: &mut Call<'_>) {
         match word {
-            "decodes" => self.decode(alloc, &words.bytes(alloc)?, answer),
-            "encodes-on-heap" => self.encode_on_heap(alloc, words, answer),
-            "holds" => push_bytes(answer, &self.sections),
-            "error" => push_error(answer, words.count()?),
-            _ => bail!("there is no call {word} without a table"),
+            "decodes" => self.decode(call),
+            "encodes" => self.encode(call),
+            "encodes-on-heap" => self.encode_on_heap(call),
+            "holds" => call.show_bytes(&self.sections),
+            "error" => show_error(call),
+            _ => call.fail("there is no such call without a table"),
         }
     }
 }
 
 impl Stateless {
     /// Decodes a section, a second time in case memory was refused.
-    fn decode(&self, alloc: Global, section: &[u8], answer: &mut String) -> Result<()> {
-        let decoded = again(|| decode_stateless(alloc, &mut Cursor::new(section), self.max_size));
-        push_decoded(answer, &decoded)
+    fn decode(&self, call: &mut Call<'_>) {
+        let section = call.bytes();
+        let mut decoded = decode_stateless(call.alloc(), &mut Cursor::new(&section), self.max_size);
+        if let Err(DecoderError::Memory) = decoded {
+            decoded = decode_stateless(call.alloc(), &mut Cursor::new(&section), self.max_size);
+        }
+        show_decoded(call, &decoded);
+    }
+
+    /// Encodes fields in the place of the sections. Appends the size of the fields.
+    fn encode(&mut self, call: &mut Call<'_>) {
+        let headers = call.headers();
+        self.sections.clear();
+        call.show_value(&encode_stateless(&mut self.sections, headers.iter()));
     }
 
     /// Encodes fields with the sections on a heap. The words are the bytes of the heap, the room in a vector there, and
     /// the fields.
-    fn encode_on_heap(
-        &mut self,
-        alloc: Global,
-        words: &mut Words<'_>,
-        answer: &mut String,
-    ) -> Result<()> {
-        let (size, room) = (words.count()?, words.count()?);
-        let headers = read_headers(alloc, words)?;
-        let heap = again(|| LocalHeap::new(alloc, size))?;
-        let mut sections = Vec::with_capacity(&heap, room)?;
-        self.encode_to(&mut sections, &headers, answer)
+    fn encode_on_heap(&mut self, call: &mut Call<'_>) {
+        let (size, room) = (call.count(), call.count());
+        let headers = call.headers();
+        match LocalHeap::new(call.alloc(), size) {
+            Ok(heap) => self.encode_to(call, &mut Vec::new(&heap), room, &headers),
+            Err(_) => call.lack_memory(),
+        }
     }
 
     /// Encodes fields after the other sections, all in an empty vector. Appends the size of the fields.
     fn encode_to(
         &mut self,
+        call: &mut Call<'_>,
         sections: &mut Vec<u8, &LocalHeap>,
+        room: usize,
         headers: &[HeaderField],
-        answer: &mut String,
-    ) -> Result<()> {
-        sections.extend_from_slice(&self.sections)?;
-        push_value(answer, &encode_stateless(sections, headers.iter()))?;
+    ) {
+        let is_held = sections.reserve(room).is_ok();
+        let is_held = is_held && sections.extend_from_slice(&self.sections).is_ok();
+        call.holds(is_held, "the heap has no room for the sections");
+        call.show_value(&encode_stateless(sections, headers.iter()));
         self.sections.clear();
-        Ok(self.sections.extend_from_slice(sections)?)
+        let is_kept = self.sections.extend_from_slice(sections).is_ok();
+        call.holds(is_kept, "the sections are too long");
     }
 }
 
 /// Appends what an error is printed as.
-fn push_error(answer: &mut String, index: usize) -> Result<()> {
-    let error = NEVER_RETURNED.get(index).context("no error")?;
-    Ok(write!(answer, "{error}")?)
+fn show_error(call: &mut Call<'_>) {
+    match NEVER_RETURNED.get(call.count()) {
+        Some(error) => call.show(error),
+        None => call.fail("there is no such error"),
+    }
 }

@@ -1,14 +1,11 @@
 //! The dynamic table, as an encoder uses it and as a decoder does.
 
-use crate::answers::{push_done, push_refused, push_value};
-use anyhow::{Result, bail, ensure};
 use h3_qpack::HeaderField;
 use h3_qpack::dynamic::{
     DynamicTable, DynamicTableEncoder, EntryIndex, Error, Index, NoIndex, ReceivedTable,
 };
-use qpack_testing::cases::{Subject, Words, push_capacity, push_count, push_field, read_headers};
+use qpack_testing::cases::{Call, Subject};
 use std::alloc::Global;
-use std::fmt::Write;
 
 /// A table of an encoder.
 #[derive(Drop)]
@@ -42,55 +39,57 @@ impl Kind for NoIndex {
 }
 
 /// Makes a table of settings: its capacity, the maximum that is agreed on or `any`, and fields that are put.
-pub(crate) fn table_of<I: Kind>(
-    alloc: Global,
-    settings: &mut Words<'_>,
-) -> Result<DynamicTable<I>> {
-    let mut table = I::empty(alloc);
-    set_up(alloc, &mut table, settings)?;
-    Ok(table)
+pub(crate) fn table_of<I: Kind>(call: &mut Call<'_>) -> DynamicTable<I> {
+    let mut table = I::empty(call.alloc());
+    set_up(call, &mut table);
+    table
 }
 
 /// Sets an empty table up as words say.
-fn set_up<I: EntryIndex>(
-    alloc: Global,
-    table: &mut DynamicTable<I>,
-    settings: &mut Words<'_>,
-) -> Result<()> {
-    let capacity = settings.count()?;
-    match settings.word() {
+fn set_up<I: EntryIndex>(call: &mut Call<'_>, table: &mut DynamicTable<I>) {
+    let capacity = call.count();
+    match call.word() {
         "" | "any" => {}
-        maximum => agree(table, maximum.parse()?)??,
+        maximum => {
+            let agreed = agree(table, maximum.parse().unwrap_or(0));
+            must_be_done(call, agreed);
+        }
     }
-    table.set_max_size(capacity)?;
-    Ok(put_all(alloc, table, settings)??)
+    must_be_done(call, table.set_max_size(capacity));
+    let done = put_all(call, table);
+    must_be_done(call, done);
+}
+
+/// Notes that a setting was refused, or its memory.
+fn must_be_done(call: &mut Call<'_>, done: Result<(), Error>) {
+    match done {
+        Ok(()) => {}
+        Err(Error::Memory) => call.lack_memory(),
+        Err(_) => call.fail("a setting is refused"),
+    }
 }
 
 /// Appends an entry, or why there is none.
-fn push_entry(answer: &mut String, entry: Result<&HeaderField, Error>) -> Result<()> {
+fn show_entry(call: &mut Call<'_>, entry: Result<&HeaderField, Error>) {
     match entry {
         Ok(field) => {
-            answer.push_str("entry")?;
-            push_field(answer, field.as_line())
+            call.say("entry");
+            call.show_field(field.as_line());
         }
-        Err(error) => push_refused(answer, &error),
+        Err(error) => call.show_done(&Err(error)),
     }
 }
 
 /// Puts the fields of words. Returns the result of the last.
-fn put_all<I: EntryIndex>(
-    alloc: Global,
-    table: &mut DynamicTable<I>,
-    words: &mut Words<'_>,
-) -> Result<Result<(), Error>> {
+fn put_all<I: EntryIndex>(call: &mut Call<'_>, table: &mut DynamicTable<I>) -> Result<(), Error> {
     let mut done = Ok(());
-    for field in &read_headers(alloc, words)? {
-        done = put(alloc, table, field);
+    for field in &call.headers() {
+        done = put(call.alloc(), table, field);
         if done == Err(Error::Memory) {
-            done = put(alloc, table, field);
+            done = put(call.alloc(), table, field);
         }
     }
-    Ok(done)
+    done
 }
 
 /// Puts a copy of a field.
@@ -103,89 +102,76 @@ fn put<I: EntryIndex>(
 }
 
 /// Agrees on a maximum, as long as nothing was inserted and the capacity is within it.
-fn agree<I: EntryIndex>(table: &mut DynamicTable<I>, max: usize) -> Result<Result<(), Error>> {
-    ensure!(
-        table.total_inserted() == 0 && table.max_mem_size() <= max,
-        "a table can't agree on {max} now"
-    );
-    Ok(table.set_agreed_max(max))
+pub(crate) fn agree<I: EntryIndex>(table: &mut DynamicTable<I>, max: usize) -> Result<(), Error> {
+    if table.total_inserted() == 0 && table.max_mem_size() <= max {
+        return table.set_agreed_max(max);
+    }
+    Err(Error::InvalidTrackingCount)
 }
 
 /// Makes a call that each table has.
-fn call_any<I: EntryIndex>(
-    alloc: Global,
-    table: &mut DynamicTable<I>,
-    word: &str,
-    words: &mut Words<'_>,
-    answer: &mut String,
-) -> Result<()> {
+fn call_any<I: EntryIndex>(word: &str, call: &mut Call<'_>, table: &mut DynamicTable<I>) {
     match word {
-        "puts" => push_done(answer, &put_all(alloc, table, words)?),
-        "sets" => push_done(answer, &table.set_max_size(words.count()?)),
-        "agrees" => push_done(answer, &agree(table, words.count()?)?),
-        _ => call_for_state(table, word, words, answer),
+        "puts" => {
+            let done = put_all(call, table);
+            call.show_done(&done);
+        }
+        "sets" => {
+            let done = table.set_max_size(call.count());
+            call.show_done(&done);
+        }
+        "agrees" => {
+            let done = agree(table, call.count());
+            call.show_done(&done);
+        }
+        _ => show_state(word, call, table),
     }
 }
 
 /// Appends a part of the state of a table.
-pub(crate) fn call_for_state<I: EntryIndex>(
-    table: &DynamicTable<I>,
-    word: &str,
-    words: &mut Words<'_>,
-    answer: &mut String,
-) -> Result<()> {
+pub(crate) fn show_state<I: EntryIndex>(word: &str, call: &mut Call<'_>, table: &DynamicTable<I>) {
     match word {
-        "capacity" => push_capacity(answer, table.max_mem_size(), table.agreed_max()),
-        "inserted" => push_count(answer, table.total_inserted()),
-        "relative" => push_entry(answer, table.get_relative(words.count()?)),
+        "capacity" => call.show_capacity(table.max_mem_size(), table.agreed_max()),
+        "inserted" => call.show(&table.total_inserted()),
+        "relative" => {
+            let index = call.count();
+            show_entry(call, table.get_relative(index));
+        }
         "relative-under" => {
-            let base = words.count()?;
-            push_entry(answer, table.decoder(base).get_relative(words.count()?))
+            let (base, index) = (call.count(), call.count());
+            show_entry(call, table.decoder(base).get_relative(index));
         }
         "post-base" => {
-            let base = words.count()?;
-            push_entry(answer, table.decoder(base).get_postbase(words.count()?))
+            let (base, index) = (call.count(), call.count());
+            show_entry(call, table.decoder(base).get_postbase(index));
         }
-        _ => bail!("there is no call {word}"),
+        _ => call.fail("there is no such call"),
     }
 }
 
 impl Subject for Received {
-    fn begin(alloc: Global, settings: &mut Words<'_>, _size: usize) -> Result<Received> {
-        Ok(Received {
-            table: table_of::<NoIndex>(alloc, settings)?,
+    fn begin(call: &mut Call<'_>, _size: usize) -> Option<Received> {
+        Some(Received {
+            table: table_of::<NoIndex>(call),
         })
     }
 
-    fn call(
-        &mut self,
-        alloc: Global,
-        word: &str,
-        words: &mut Words<'_>,
-        answer: &mut String,
-    ) -> Result<()> {
-        call_any(alloc, &mut self.table, word, words, answer)
+    fn make(&mut self, word: &str, call: &mut Call<'_>) {
+        call_any(word, call, &mut self.table);
     }
 }
 
 impl Subject for Table {
-    fn begin(alloc: Global, settings: &mut Words<'_>, _size: usize) -> Result<Table> {
-        Ok(Table {
-            table: table_of::<Index>(alloc, settings)?,
+    fn begin(call: &mut Call<'_>, _size: usize) -> Option<Table> {
+        Some(Table {
+            table: table_of::<Index>(call),
             lacked_memory: false,
         })
     }
 
-    fn call(
-        &mut self,
-        alloc: Global,
-        word: &str,
-        words: &mut Words<'_>,
-        answer: &mut String,
-    ) -> Result<()> {
-        let made = self.make(alloc, word, words, answer);
-        self.lacked_memory |= answer.as_str().contains("refused Memory");
-        made
+    fn make(&mut self, word: &str, call: &mut Call<'_>) {
+        self.make_any(word, call);
+        self.lacked_memory |= call.answer().contains("refused Memory");
     }
 
     fn lacked_memory(&self) -> bool {
@@ -195,59 +181,37 @@ impl Subject for Table {
 
 impl Table {
     /// Makes a call, whether or not memory is refused.
-    fn make(
-        &mut self,
-        alloc: Global,
-        word: &str,
-        words: &mut Words<'_>,
-        answer: &mut String,
-    ) -> Result<()> {
-        let table = &mut self.table;
+    fn make_any(&mut self, word: &str, call: &mut Call<'_>) {
         match word {
-            "finds" | "inserts" | "block" => {
-                push_given_up(answer, table, word, &read_headers(alloc, words)?)
-            }
-            "sends-found" | "sends-inserted" => {
-                let stream = words.number()?;
-                push_sent(answer, table, stream, word, &read_headers(alloc, words)?)
-            }
+            "finds" | "inserts" | "block" => self.show_given_up(word, call),
+            "sends-found" | "sends-inserted" => self.show_sent(word, call),
             "limits" | "sends-nothing" | "receives" | "acknowledges" | "cancels" => {
-                let done = call_with_number(table, word, words.count()?);
-                push_done(answer, &done)
+                let done = call_with_number(&mut self.table, word, call.count());
+                call.show_done(&done);
             }
-            _ => call_any(alloc, table, word, words, answer),
+            _ => call_any(word, call, &mut self.table),
         }
     }
-}
 
-/// Appends the answers of a block, which is given up then.
-fn push_given_up(
-    answer: &mut String,
-    table: &mut DynamicTable,
-    word: &str,
-    fields: &[HeaderField],
-) -> Result<()> {
-    let mut block = table.encoder(8);
-    let pushed = push_block(answer, &mut block, word, fields);
-    block.release();
-    pushed
-}
+    /// Appends the answers of a block, which is given up then.
+    fn show_given_up(&mut self, word: &str, call: &mut Call<'_>) {
+        let fields = call.headers();
+        let mut block = self.table.encoder(8);
+        show_block(word, call, &mut block, &fields);
+        block.release();
+    }
 
-/// Appends the answers of a block, which is sent on a stream then, and how many insertions it requires.
-fn push_sent(
-    answer: &mut String,
-    table: &mut DynamicTable,
-    stream: u64,
-    word: &str,
-    fields: &[HeaderField],
-) -> Result<()> {
-    let mut block = table.encoder(stream);
-    let pushed = push_block(answer, &mut block, word, fields);
-    let required = block.required_insert_count();
-    let sent = block.commit(required).map(|()| required);
-    pushed?;
-    answer.push_str(" requires ")?;
-    push_value(answer, &sent)
+    /// Appends the answers of a block, which is sent on a stream then, and how many insertions it requires.
+    fn show_sent(&mut self, word: &str, call: &mut Call<'_>) {
+        let stream = call.number();
+        let fields = call.headers();
+        let mut block = self.table.encoder(stream);
+        show_block(word, call, &mut block, &fields);
+        let required = block.required_insert_count();
+        let sent = block.commit(required).map(|()| required);
+        call.say(" requires ");
+        call.show_value(&sent);
+    }
 }
 
 /// Makes a call with a number, which changes what the table knows of the decoder, or allows it.
@@ -268,39 +232,43 @@ fn call_with_number(table: &mut DynamicTable, word: &str, number: usize) -> Resu
 }
 
 /// Appends what a block finds for each of some fields, or how it inserts each.
-fn push_block(
-    answer: &mut String,
-    block: &mut DynamicTableEncoder<'_>,
+fn show_block(
     word: &str,
+    call: &mut Call<'_>,
+    block: &mut DynamicTableEncoder<'_>,
     fields: &[HeaderField],
-) -> Result<()> {
+) {
     if word == "block" {
-        return push_whole_block(answer, block, fields);
+        show_whole_block(call, block, fields);
+        return;
     }
+    let finds = matches!(word, "finds" | "sends-found");
     for field in fields {
-        match word {
-            "finds" | "sends-found" => push_value(answer, &block.find(field))?,
-            _ => push_value(answer, &block.insert(field))?,
+        if finds {
+            call.show_value(&block.find(field));
+        } else {
+            call.show_value(&block.insert(field));
         }
     }
-    Ok(())
 }
 
 /// Appends the base of a block and its bounds, what it finds for the first of some fields, and how it inserts each.
-fn push_whole_block(
-    answer: &mut String,
+fn show_whole_block(
+    call: &mut Call<'_>,
     block: &mut DynamicTableEncoder<'_>,
     fields: &[HeaderField],
-) -> Result<()> {
-    let (capacity, maximum) = (block.max_size(), block.agreed_max());
-    write!(answer, "base {}, {capacity} of {maximum}", block.base())?;
+) {
+    call.say_number("base ", block.base());
+    call.say(", ");
+    call.show_capacity(block.max_size(), block.agreed_max());
     if let Some(first) = fields.first() {
-        answer.push_str("; ")?;
-        push_value(answer, &block.find(first))?;
+        call.say("; ");
+        call.show_value(&block.find(first));
     }
     for field in fields {
-        answer.push_str("; ")?;
-        push_value(answer, &block.insert(field))?;
+        call.say("; ");
+        call.show_value(&block.insert(field));
     }
-    Ok(write!(answer, "; {} inserted", block.total_inserted())?)
+    call.say_number("; ", block.total_inserted());
+    call.say(" inserted");
 }

@@ -1,88 +1,81 @@
 //! Calls that begin an end or need none, and texts of errors that occur in no case.
 
+use crate::answers::show_refusal;
 use crate::{decoder, encoder};
-use anyhow::{Result, bail};
 use qpack_ends::decoder::{ConnectionDecoder, DecodingError, SettingsError};
 use qpack_ends::encoder::{ConnectionEncoder, EncodingError};
 use qpack_ends::{
     DECODER_STREAM_ERROR, DECOMPRESSION_FAILED, ENCODER_STREAM_ERROR, EncoderStreamError,
     LineError, SectionError, longest_section,
 };
-use qpack_testing::cases::{Subject, Words, push_refusal};
-use std::alloc::Global;
-use std::fmt::Write;
+use qpack_testing::cases::{Call, Subject};
 
 /// Calls.
 #[derive(Drop)]
 pub(crate) struct Calls;
 
 impl Subject for Calls {
-    fn begin(_alloc: Global, _settings: &mut Words<'_>, _size: usize) -> Result<Calls> {
-        Ok(Calls)
+    fn begin(_call: &mut Call<'_>, _size: usize) -> Option<Calls> {
+        Some(Calls)
     }
 
-    fn call(
-        &mut self,
-        alloc: Global,
-        word: &str,
-        words: &mut Words<'_>,
-        answer: &mut String,
-    ) -> Result<()> {
+    fn make(&mut self, word: &str, call: &mut Call<'_>) {
         match word {
-            "begins-decoder" => begin_decoder(alloc, words, answer),
-            "begins-encoder" => begin_encoder(alloc, words, answer),
-            "longest-section" => push_longest_section(answer, words.number()?),
-            "codes" => push_codes(answer),
-            "lacks-memory" => push_lack_of_memory(words.word(), answer),
-            _ => bail!("there is no call {word}"),
+            "begins-decoder" => begin_decoder(call),
+            "begins-encoder" => begin_encoder(call),
+            "longest-section" => {
+                let limit = call.number();
+                call.show(&longest_section(limit));
+            }
+            "codes" => show_codes(call),
+            "lacks-memory" => show_lack_of_memory(call),
+            _ => call.fail("there is no such call"),
         }
     }
 }
 
 /// Begins a decoding end with the settings of words.
-fn begin_decoder(alloc: Global, words: &mut Words<'_>, answer: &mut String) -> Result<()> {
-    let settings = decoder::read_settings(words)?;
-    push_begun(answer, ConnectionDecoder::new(alloc, settings).err())
+fn begin_decoder(call: &mut Call<'_>) {
+    let settings = decoder::read_settings(call);
+    show_begun(call, ConnectionDecoder::new(call.alloc(), settings).err());
 }
 
 /// Begins an encoding end with the settings of words.
-fn begin_encoder(alloc: Global, words: &mut Words<'_>, answer: &mut String) -> Result<()> {
-    let settings = encoder::read_settings(words)?;
-    push_begun(answer, ConnectionEncoder::new(alloc, settings).err())
-}
-
-/// Appends the length of the longest section of a limit.
-fn push_longest_section(answer: &mut String, limit: u64) -> Result<()> {
-    Ok(write!(answer, "{}", longest_section(limit))?)
-}
-
-/// Appends the codes of the errors that end a connection.
-fn push_codes(answer: &mut String) -> Result<()> {
-    Ok(write!(
-        answer,
-        "{DECOMPRESSION_FAILED:#x} {ENCODER_STREAM_ERROR:#x} {DECODER_STREAM_ERROR:#x}"
-    )?)
+fn begin_encoder(call: &mut Call<'_>) {
+    let settings = encoder::read_settings(call);
+    show_begun(call, ConnectionEncoder::new(call.alloc(), settings).err());
 }
 
 /// Appends that an end begins, or why its settings are refused.
-fn push_begun(answer: &mut String, refusal: Option<SettingsError>) -> Result<()> {
+fn show_begun(call: &mut Call<'_>, refusal: Option<SettingsError>) {
     match refusal {
-        None => Ok(answer.push_str("begins")?),
-        Some(error) => push_refusal(answer, None, &error),
+        None => call.say("begins"),
+        Some(error) => call.show_refusal(None, &error),
+    }
+}
+
+/// Appends the codes of the errors that end a connection.
+fn show_codes(call: &mut Call<'_>) {
+    for code in [
+        DECOMPRESSION_FAILED,
+        ENCODER_STREAM_ERROR,
+        DECODER_STREAM_ERROR,
+    ] {
+        if !call.answer().is_empty() {
+            call.say(" ");
+        }
+        call.show_code(code);
     }
 }
 
 /// Appends the error of a call that was refused memory.
-fn push_lack_of_memory(word: &str, answer: &mut String) -> Result<()> {
-    match word {
-        "section" => push_refusal(answer, SectionError::Memory.code(), &SectionError::Memory),
-        "line" => push_refusal(answer, LineError::Memory.code(), &LineError::Memory),
-        "encoder-stream" => {
-            let error = EncoderStreamError::Memory;
-            push_refusal(answer, error.code(), &error)
-        }
-        "decoder" => push_refusal(answer, DecodingError::Memory.code(), &DecodingError::Memory),
-        "encoder" => push_refusal(answer, EncodingError::Memory.code(), &EncodingError::Memory),
-        _ => bail!("there is no {word}"),
+fn show_lack_of_memory(call: &mut Call<'_>) {
+    match call.word() {
+        "section" => call.show_refusal(SectionError::Memory.code(), &SectionError::Memory),
+        "line" => call.show_refusal(LineError::Memory.code(), &LineError::Memory),
+        "encoder-stream" => show_refusal(call, &EncoderStreamError::Memory),
+        "decoder" => show_refusal(call, &DecodingError::Memory),
+        "encoder" => show_refusal(call, &EncodingError::Memory),
+        _ => call.fail("there is no such end or stream"),
     }
 }

@@ -1,15 +1,11 @@
 //! The decoding end of a connection.
 
-use crate::answers::{push_done, push_failure};
-use crate::fields::push_reading;
-use anyhow::{Result, bail, ensure};
+use crate::answers::{show_count, show_done, show_failure, show_reading, show_refusal};
 use h3_qpack::coding::Cursor;
 use h3_qpack::stream::{DecoderLine, HeaderAck, InsertCountIncrement, StreamCancel, next_line};
-use qpack_ends::decoder::{ConnectionDecoder, DecoderSettings, DecodingError};
+use qpack_ends::decoder::{ConnectionDecoder, DecoderSettings};
 use qpack_ends::{FieldSection, Reading};
-use qpack_testing::cases::{Subject, Words, push_bytes, push_capacity, push_refusal};
-use std::alloc::Global;
-use std::fmt::Write;
+use qpack_testing::cases::{Call, Subject};
 
 /// A decoding end, and the fields that it decoded last.
 #[derive(Drop)]
@@ -20,31 +16,33 @@ pub(crate) struct Decoder {
 }
 
 impl Subject for Decoder {
-    fn begin(alloc: Global, settings: &mut Words<'_>, size: usize) -> Result<Decoder> {
-        let settings = read_settings(settings)?;
-        Ok(Decoder {
-            end: ConnectionDecoder::new(alloc, settings)?,
-            fields: FieldSection::new(alloc),
+    fn begin(call: &mut Call<'_>, size: usize) -> Option<Decoder> {
+        let settings = read_settings(call);
+        let end = ConnectionDecoder::new(call.alloc(), settings).ok()?;
+        Some(Decoder {
+            end,
+            fields: FieldSection::new(call.alloc()),
             size,
         })
     }
 
-    fn call(
-        &mut self,
-        alloc: Global,
-        word: &str,
-        words: &mut Words<'_>,
-        answer: &mut String,
-    ) -> Result<()> {
+    fn make(&mut self, word: &str, call: &mut Call<'_>) {
         match word {
-            "receives" => self.receive(&words.bytes(alloc)?, answer),
-            "decodes" => self.decode(words.number()?, &words.bytes(alloc)?, answer),
-            "cancels" => push_done(answer, self.end.cancel(words.number()?)),
-            "sends" => self.send(answer),
-            "drops" => self.drop_bytes(words.count()?, answer),
-            "holds" => push_bytes(answer, self.end.decoder_stream()),
-            "tells" => push_told(alloc, answer, self.end.decoder_stream()),
-            _ => self.push_state(word, answer),
+            "receives" => self.receive(call),
+            "decodes" => self.decode(call),
+            "cancels" => {
+                let cancelled = self.end.cancel(call.number());
+                show_done(call, &cancelled);
+            }
+            "sends" => self.send(call),
+            "drops" => {
+                let bytes = call.count();
+                self.end.sent(bytes);
+                call.show_bytes(self.end.decoder_stream());
+            }
+            "holds" => call.show_bytes(self.end.decoder_stream()),
+            "tells" => show_told(call, self.end.decoder_stream()),
+            _ => self.show_state(word, call),
         }
     }
 
@@ -61,119 +59,120 @@ impl Subject for Decoder {
 }
 
 /// The settings of words.
-pub(crate) fn read_settings(words: &mut Words<'_>) -> Result<DecoderSettings> {
-    Ok(DecoderSettings {
-        max_capacity: words.count()?,
-        max_blocked: words.count()?,
-        max_section_size: words.number()?,
-    })
-}
-
-/// Appends an error of a decoding end.
-fn push_error(answer: &mut String, error: DecodingError) -> Result<()> {
-    push_refusal(answer, error.code(), &error)
+pub(crate) fn read_settings(call: &mut Call<'_>) -> DecoderSettings {
+    DecoderSettings {
+        max_capacity: call.count(),
+        max_blocked: call.count(),
+        max_section_size: call.number(),
+    }
 }
 
 impl Decoder {
-    /// Receives bytes of the encoder stream in pieces, and returns how many insertions were made, or the last error.
-    fn receive(&mut self, bytes: &[u8], answer: &mut String) -> Result<()> {
+    /// Receives bytes of the encoder stream in pieces, and appends how many insertions were made, or the last error.
+    fn receive(&mut self, call: &mut Call<'_>) {
+        let bytes = call.bytes();
         let mut received = self.end.receive(&mut Cursor::new(b""));
         for piece in bytes.chunks(self.size.max(1)) {
             received = self.end.receive(&mut Cursor::new(piece));
         }
-        match received {
-            Ok(inserted) => Ok(write!(answer, "{inserted}")?),
-            Err(error) => push_error(answer, error),
-        }
+        show_count(call, &received);
     }
 
     /// Appends the decoder stream, and takes it away.
-    fn send(&mut self, answer: &mut String) -> Result<()> {
-        push_bytes(answer, self.end.decoder_stream())?;
+    fn send(&mut self, call: &mut Call<'_>) {
+        call.show_bytes(self.end.decoder_stream());
         self.end.sent(usize::MAX);
-        Ok(())
     }
 
-    /// Takes bytes of the decoder stream away, and appends the others.
-    fn drop_bytes(&mut self, bytes: usize, answer: &mut String) -> Result<()> {
-        self.end.sent(bytes);
-        push_bytes(answer, self.end.decoder_stream())
-    }
-
-    /// Decodes a section; if it waits, returns how many streams are blocked too.
-    fn decode(&mut self, stream: u64, section: &[u8], answer: &mut String) -> Result<()> {
+    /// Decodes a section; if it waits, appends how many streams are blocked too.
+    fn decode(&mut self, call: &mut Call<'_>) {
+        let stream = call.number();
+        let section = call.bytes();
         self.fields.clear();
-        match self.end.decode(stream, section, &mut self.fields) {
-            Ok(reading) => {
-                push_reading(answer, reading, &self.fields)?;
-                if let Reading::Blocked { .. } = reading {
-                    write!(answer, ", {} blocked", self.end.blocked())?;
-                }
-                Ok(())
-            }
+        match self.end.decode(stream, &section, &mut self.fields) {
+            Ok(reading) => self.show_decoded(reading, call),
             Err(error) => {
-                ensure!(self.fields.is_empty(), "a refused section gives fields");
-                push_error(answer, error)
+                call.holds(self.fields.is_empty(), "a refused section gives fields");
+                show_refusal(call, &error);
             }
+        }
+    }
+
+    /// Appends what a section was decoded to.
+    fn show_decoded(&self, reading: Reading, call: &mut Call<'_>) {
+        show_reading(call, reading, &self.fields);
+        if let Reading::Blocked { .. } = reading {
+            call.say_number(", ", self.end.blocked());
+            call.say(" blocked");
         }
     }
 
     /// Appends a part of its state.
-    fn push_state(&self, word: &str, answer: &mut String) -> Result<()> {
+    fn show_state(&self, word: &str, call: &mut Call<'_>) {
         let (end, table) = (&self.end, self.end.table());
         match word {
-            "has" => push_ready(answer, end.blocked(), end.next_ready()),
-            "state" => self.push_counts(answer),
-            "settings" => Ok(write!(answer, "{:?}", end.settings())?),
-            "capacity" => push_capacity(answer, table.max_mem_size(), table.agreed_max()),
-            "failure" => push_failure(answer, end.failure()),
-            _ => bail!("a decoder has no call {word}"),
+            "has" => self.show_ready(call),
+            "state" => self.show_counts(call),
+            "settings" => call.show_parts(&end.settings()),
+            "capacity" => call.show_capacity(table.max_mem_size(), table.agreed_max()),
+            "failure" => show_failure(call, &end.failure()),
+            "keeps" => self.show_kept(call),
+            _ => call.fail("a decoder has no such call"),
         }
     }
 
-    /// Appends the counts of its state.
-    fn push_counts(&self, answer: &mut String) -> Result<()> {
-        let end = &self.end;
-        Ok(write!(
-            answer,
-            "{} to send, {} blocked, {} waiting, {} inserted",
-            end.decoder_stream().len(),
-            end.blocked(),
-            end.waiting(),
-            end.table().total_inserted()
-        )?)
+    /// Appends how many streams are blocked, and the one that is ready next.
+    fn show_ready(&self, call: &mut Call<'_>) {
+        call.show(&self.end.blocked());
+        call.say(" blocked, ready ");
+        call.show_parts(&self.end.next_ready());
     }
-}
 
-/// Appends how many streams are blocked, and the one that is ready next.
-fn push_ready(answer: &mut String, blocked: usize, ready: Option<u64>) -> Result<()> {
-    Ok(write!(answer, "{blocked} blocked, ready {ready:?}")?)
+    /// Appends whether the insertion of a number, the first being 1, is in the table, or not made yet.
+    fn show_kept(&self, call: &mut Call<'_>) {
+        let (table, number) = (self.end.table(), call.count());
+        let newer = table.total_inserted().checked_sub(number);
+        call.show(&newer.is_none_or(|newer| table.get_relative(newer).is_ok()));
+    }
+
+    /// Appends the counts of its state.
+    fn show_counts(&self, call: &mut Call<'_>) {
+        call.show(&self.end.decoder_stream().len());
+        call.say_number(" to send, ", self.end.blocked());
+        call.say_number(" blocked, ", self.end.waiting());
+        call.say_number(" waiting, ", self.end.table().total_inserted());
+        call.say(" inserted");
+    }
 }
 
 /// Appends what a decoder stream reports: how many insertions were received, and the streams that are acknowledged and
 /// cancelled, in turn.
-fn push_told(alloc: Global, answer: &mut String, stream: &[u8]) -> Result<()> {
+fn show_told(call: &mut Call<'_>, stream: &[u8]) {
     let mut received = 0usize;
     let mut cursor = Cursor::new(stream);
     for _ in stream {
-        let line = next_line(alloc, &mut cursor)?;
-        received = received.saturating_add(push_line(answer, line)?);
+        let line = next_line(call.alloc(), &mut cursor).unwrap_or(None);
+        received = received.saturating_add(show_line(call, line));
     }
-    ensure!(cursor.remaining() == 0, "an instruction is cut");
-    Ok(write!(answer, "{received} received")?)
+    call.holds(cursor.remaining() == 0, "an instruction is cut");
+    call.show(&received);
+    call.say(" received");
 }
 
 /// Appends the stream of an instruction, and returns how many insertions it reports.
-fn push_line(answer: &mut String, line: Option<DecoderLine>) -> Result<usize> {
-    match line {
+fn show_line(call: &mut Call<'_>, line: Option<DecoderLine>) -> usize {
+    let stream = match line {
         Some(DecoderLine::InsertCountIncrement(InsertCountIncrement(increment))) => {
-            return Ok(increment);
+            return increment;
         }
-        Some(DecoderLine::HeaderAck(HeaderAck(stream))) => write!(answer, "{stream}, ")?,
+        Some(DecoderLine::HeaderAck(HeaderAck(stream))) => stream,
         Some(DecoderLine::StreamCancel(StreamCancel(stream))) => {
-            write!(answer, "cancelled {stream}, ")?;
+            call.say("cancelled ");
+            stream
         }
-        None => {}
-    }
-    Ok(0)
+        None => return 0,
+    };
+    call.show(&stream);
+    call.say(", ");
+    0
 }

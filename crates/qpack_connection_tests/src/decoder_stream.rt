@@ -1,14 +1,11 @@
 //! The decoder stream, received strictly.
 
-use crate::answers::push_done;
-use anyhow::{Result, bail};
+use crate::answers::show_done;
 use h3_qpack::HeaderField;
 use h3_qpack::coding::Cursor;
 use h3_qpack::dynamic::{DynamicLookupResult, DynamicTable, DynamicTableEncoder, Error};
 use qpack_ends::{DecoderStream, DecoderStreamError};
-use qpack_testing::cases::{Subject, Words, push_count};
-use std::alloc::Global;
-use std::fmt::Write;
+use qpack_testing::cases::{Call, Subject};
 
 /// A decoder stream, and its table.
 #[derive(Drop)]
@@ -16,20 +13,6 @@ pub(crate) struct Hearing {
     stream: DecoderStream,
     table: DynamicTable,
     size: usize,
-}
-
-/// A table of a capacity and a limit of blocked streams.
-fn table_of(alloc: Global, capacity: usize, max_blocked: usize) -> Result<DynamicTable> {
-    let mut table = DynamicTable::new(alloc);
-    set_bounds(&mut table, capacity, max_blocked)?;
-    Ok(table)
-}
-
-/// Sets the capacity of a table and its limit of blocked streams.
-fn set_bounds(table: &mut DynamicTable, capacity: usize, max_blocked: usize) -> Result<()> {
-    table.set_max_size(capacity)?;
-    table.set_max_blocked(max_blocked)?;
-    Ok(())
 }
 
 /// References the entry of a field, which is inserted if there is none.
@@ -57,61 +40,48 @@ fn send(table: &mut DynamicTable, stream: u64, field: &HeaderField) -> Result<us
 }
 
 impl Subject for Hearing {
-    fn begin(alloc: Global, settings: &mut Words<'_>, size: usize) -> Result<Hearing> {
-        let (capacity, max_blocked) = (settings.count()?, settings.count()?);
-        Ok(Hearing {
+    /// The settings are the capacity of the table, and its limit of blocked streams.
+    fn begin(call: &mut Call<'_>, size: usize) -> Option<Hearing> {
+        let mut table = DynamicTable::new(call.alloc());
+        let is_set = table.set_max_size(call.count()).is_ok();
+        let is_limited = table.set_max_blocked(call.count()).is_ok();
+        call.holds(is_set && is_limited, "the table's settings are refused");
+        Some(Hearing {
             stream: DecoderStream::new(),
-            table: table_of(alloc, capacity, max_blocked)?,
+            table,
             size,
         })
     }
 
-    fn call(
-        &mut self,
-        alloc: Global,
-        word: &str,
-        words: &mut Words<'_>,
-        answer: &mut String,
-    ) -> Result<()> {
+    fn make(&mut self, word: &str, call: &mut Call<'_>) {
         match word {
-            "sends" => self.send_words(alloc, words, answer),
+            "sends" => self.send(call),
             "receives" => {
-                let received = self.receive(&words.bytes(alloc)?);
-                push_done(answer, received)
+                let received = self.receive(&call.bytes());
+                show_done(call, &received);
             }
             "oldest" => {
-                let required = self.table.oldest_required(words.number()?);
-                Ok(write!(answer, "{required:?}")?)
+                let stream = call.number();
+                call.show_parts(&self.table.oldest_required(stream));
             }
-            _ => push_count(answer, self.count(word)?),
+            "waits" => call.show(&self.stream.waiting()),
+            "known" => call.show(&self.table.known_received_count()),
+            "unacknowledged" => call.show(&self.table.unacknowledged_blocks()),
+            "blocked" => call.show(&self.table.blocked_blocks()),
+            _ => call.fail("a decoder stream has no such call"),
         }
     }
 }
 
 impl Hearing {
-    /// Returns a count of its state.
-    fn count(&self, word: &str) -> Result<usize> {
-        Ok(match word {
-            "waits" => self.stream.waiting(),
-            "known" => self.table.known_received_count(),
-            "unacknowledged" => self.table.unacknowledged_blocks(),
-            "blocked" => self.table.blocked_blocks(),
-            _ => bail!("a decoder stream has no call {word}"),
-        })
-    }
-
     /// Sends a section on a stream of words that references the entry of a name, and appends how many insertions it
     /// requires.
-    fn send_words(
-        &mut self,
-        alloc: Global,
-        words: &mut Words<'_>,
-        answer: &mut String,
-    ) -> Result<()> {
-        let stream = words.number()?;
-        let field = HeaderField::from_pair(alloc, words.word().as_bytes(), b"bar")?;
-        let sent = send(&mut self.table, stream, &field);
-        push_count(answer, sent?)
+    fn send(&mut self, call: &mut Call<'_>) {
+        let stream = call.number();
+        let name = call.word().as_bytes();
+        if let Ok(field) = HeaderField::from_pair(call.alloc(), name, b"bar") {
+            call.show_value(&send(&mut self.table, stream, &field));
+        }
     }
 
     /// Receives bytes in pieces, until one is refused.

@@ -1,19 +1,13 @@
 //! The encoding end of a connection.
 
-use crate::answers::{push_done, push_failure};
-use crate::fields::{push_reading, wish_fields};
-use anyhow::{Result, bail, ensure};
+use crate::answers::{show_count, show_done, show_failure, show_reading};
 use h3_qpack::coding::Cursor;
 use h3_qpack::encoder::AsField;
 use qpack_ends::decoder::{ConnectionDecoder, DecoderSettings};
 use qpack_ends::encoder::{ConnectionEncoder, EncoderSettings, EncodingError};
-use qpack_ends::{FieldLine, FieldSection, WishedField};
-use qpack_testing::cases::{
-    Field, Subject, Words, header_fields, push_bytes, push_capacity, push_count, push_refusal,
-    read_fields,
-};
+use qpack_ends::{FieldLine, FieldSection, Wish, WishedField};
+use qpack_testing::cases::{Call, Field, Subject};
 use std::alloc::Global;
-use std::fmt::Write;
 
 /// An encoding end, the last section that it encoded, and the decoding end of its peer with what that decoded last.
 #[derive(Drop)]
@@ -30,36 +24,42 @@ pub(crate) struct Encoder {
 /// The greatest limit of blocked streams that a decoding end may have.
 const MOST_BLOCKED: usize = 65_534;
 
+/// What the marks of cases ask.
+const WISHES: [Wish; 4] = [Wish::Unmarked, Wish::Never, Wish::Reuse, Wish::Insert];
+
 impl Subject for Encoder {
-    fn begin(alloc: Global, settings: &mut Words<'_>, size: usize) -> Result<Encoder> {
-        let end = read_settings(settings)?;
-        let is_of_header_fields = is_of_header_fields(settings.word())?;
-        let peer = peer_of(alloc, end)?;
-        Ok(Encoder {
-            end: ConnectionEncoder::new(alloc, end)?,
-            section: Vec::new(alloc),
+    fn begin(call: &mut Call<'_>, size: usize) -> Option<Encoder> {
+        let settings = read_settings(call);
+        let is_of_header_fields = call.word() == "of-header-fields";
+        let peer = peer_of(call.alloc(), settings)?;
+        Some(Encoder {
+            end: ConnectionEncoder::new(call.alloc(), settings).ok()?,
+            section: Vec::new(call.alloc()),
             peer,
-            fields: FieldSection::new(alloc),
+            fields: FieldSection::new(call.alloc()),
             is_of_header_fields,
             size,
         })
     }
 
-    fn call(
-        &mut self,
-        alloc: Global,
-        word: &str,
-        words: &mut Words<'_>,
-        answer: &mut String,
-    ) -> Result<()> {
+    fn make(&mut self, word: &str, call: &mut Call<'_>) {
         match word {
-            "encodes" | "fills" | "passes" => self.call_with_fields(alloc, word, words, answer),
-            "hands-on" => self.hand_on(alloc, words, answer),
-            "decodes-alone" => decode_alone(alloc, &self.section, answer),
-            "receives" => self.receive(&words.bytes(alloc)?, answer),
-            "takes-settings" => self.take_settings(alloc, words, answer),
-            "sets" => push_done(answer, self.end.set_capacity(words.count()?)),
-            _ => self.push_streams(word, words, answer),
+            "encodes" | "fills" | "passes" => self.call_with_fields(word, call),
+            "hands-on" => self.hand_on(call),
+            "decodes-alone" => decode_alone(call, &self.section),
+            "receives" => self.receive(call),
+            "takes-settings" => self.take_settings(call),
+            "sets" => {
+                let set = self.end.set_capacity(call.count());
+                show_done(call, &set);
+            }
+            "drops" => {
+                self.end.sent(call.count());
+                call.show_bytes(self.end.encoder_stream());
+            }
+            "writes" => call.show_bytes(&self.section),
+            "holds" => call.show_bytes(self.end.encoder_stream()),
+            _ => self.show_state(word, call),
         }
     }
 
@@ -75,61 +75,68 @@ impl Subject for Encoder {
     }
 }
 
-/// Whether header fields are passed, by the word of a setting.
-fn is_of_header_fields(word: &str) -> Result<bool> {
-    match word {
-        "" => Ok(false),
-        "of-header-fields" => Ok(true),
-        _ => bail!("an encoder has no setting {word}"),
-    }
-}
-
 /// A seed of the table's hashes, on which no byte depends.
 const SEED: u64 = 0x5EED;
 
 /// The settings of words.
-pub(crate) fn read_settings(words: &mut Words<'_>) -> Result<EncoderSettings> {
-    Ok(EncoderSettings {
-        max_capacity: words.count()?,
-        max_blocked: words.count()?,
-        capacity: words.count()?,
-        most_unacknowledged: words.count()?,
+pub(crate) fn read_settings(call: &mut Call<'_>) -> EncoderSettings {
+    EncoderSettings {
+        max_capacity: call.count(),
+        max_blocked: call.count(),
+        capacity: call.count(),
+        most_unacknowledged: call.count(),
         seed: SEED,
-    })
+    }
 }
 
 /// A decoding end that sent these settings.
-fn peer_of(alloc: Global, settings: EncoderSettings) -> Result<ConnectionDecoder> {
+fn peer_of(alloc: Global, settings: EncoderSettings) -> Option<ConnectionDecoder> {
     let of_peer = DecoderSettings {
         max_capacity: settings.max_capacity,
         max_blocked: settings.max_blocked.min(MOST_BLOCKED),
         max_section_size: 1_000_000,
     };
-    Ok(ConnectionDecoder::new(alloc, of_peer)?)
-}
-
-/// Reads the fields of the words that are left.
-fn fields_of(alloc: Global, words: &mut Words<'_>) -> Result<Vec<Field>> {
-    let fields = read_fields(alloc, words.rest)?;
-    words.rest = "";
-    Ok(fields)
+    ConnectionDecoder::new(alloc, of_peer).ok()
 }
 
 /// Appends what a section is decoded to with no table at all.
-fn decode_alone(alloc: Global, section: &[u8], answer: &mut String) -> Result<()> {
-    let mut end = peer_of(alloc, EncoderSettings::new(0, 0))?;
-    decode_by(&mut end, section, &mut FieldSection::new(alloc), answer)
+fn decode_alone(call: &mut Call<'_>, section: &[u8]) {
+    let peer = peer_of(call.alloc(), EncoderSettings::new(0, 0));
+    call.holds(peer.is_some(), "no end without a table");
+    if let Some(mut peer) = peer {
+        decode_by(call, &mut peer, section);
+    }
 }
 
 /// Appends what an end decodes a section to.
-fn decode_by(
-    end: &mut ConnectionDecoder,
-    section: &[u8],
-    fields: &mut FieldSection,
-    answer: &mut String,
-) -> Result<()> {
-    let reading = end.decode(8, section, fields)?;
-    push_reading(answer, reading, fields)
+fn decode_by(call: &mut Call<'_>, end: &mut ConnectionDecoder, section: &[u8]) {
+    let mut fields = FieldSection::new(call.alloc());
+    match end.decode(8, section, &mut fields) {
+        Ok(reading) => show_reading(call, reading, &fields),
+        Err(_) => call.fail("the peer refuses a section"),
+    }
+}
+
+/// Borrows fields, each with its wish.
+fn wishes_of<'a>(call: &mut Call<'_>, fields: &'a [Field]) -> Vec<WishedField<'a>> {
+    let mut wished = Vec::new(call.alloc());
+    for field in fields {
+        let wish = WishedField {
+            line: field.as_line(),
+            wish: field.mark.among(WISHES),
+        };
+        call.holds(wished.push(wish).is_ok(), "out of memory");
+    }
+    wished
+}
+
+/// Borrows fields that were decoded.
+fn lines_of<'a>(call: &mut Call<'_>, fields: &'a FieldSection) -> Vec<FieldLine<'a>> {
+    let mut lines = Vec::new(call.alloc());
+    for field in fields.iter() {
+        call.holds(lines.push(field).is_ok(), "out of memory");
+    }
+    lines
 }
 
 impl Encoder {
@@ -140,214 +147,135 @@ impl Encoder {
     }
 
     /// Makes a call for the fields of words, and a stream or a number of streams.
-    fn call_with_fields(
-        &mut self,
-        alloc: Global,
-        word: &str,
-        words: &mut Words<'_>,
-        answer: &mut String,
-    ) -> Result<()> {
-        let number = words.number()?;
-        let fields = fields_of(alloc, words)?;
-        match word {
-            "fills" => self.fill(alloc, number, &fields, answer),
-            "passes" => self.encode_and_pass(alloc, number, &fields, answer),
-            _ => self.encode_and_push(alloc, number, &fields, answer),
+    fn call_with_fields(&mut self, word: &str, call: &mut Call<'_>) {
+        let number = call.number();
+        if word == "fills" {
+            self.fill(number, call);
+            return;
+        }
+        let encoded = self.encode_words(number, call);
+        if word == "passes" {
+            call.holds(encoded.is_ok(), "a section is refused");
+            self.pass(number, call);
+        } else {
+            self.show_encoded(&encoded, call);
         }
     }
 
-    /// Encodes fields on a stream, and appends how many insertions the section requires, or why it was not encoded.
-    fn encode_and_push(
-        &mut self,
-        alloc: Global,
-        stream: u64,
-        fields: &[Field],
-        answer: &mut String,
-    ) -> Result<()> {
-        let encoded = self.encode_fields(alloc, stream, fields)?;
-        self.push_encoded(answer, encoded)
-    }
-
-    /// Encodes fields on a stream, as header fields or as lines.
-    fn encode_fields(
-        &mut self,
-        alloc: Global,
-        stream: u64,
-        fields: &[Field],
-    ) -> Result<Result<usize, EncodingError>> {
+    /// Encodes the fields of words on a stream, as header fields or as lines.
+    fn encode_words(&mut self, stream: u64, call: &mut Call<'_>) -> Result<usize, EncodingError> {
         if self.is_of_header_fields {
-            let headers = header_fields(alloc, fields)?;
-            return Ok(self.encode(stream, &headers));
+            return self.encode(stream, &call.headers());
         }
-        let lines = wish_fields(alloc, fields)?;
-        Ok(self.encode(stream, &lines))
+        let fields = call.fields();
+        self.encode(stream, &wishes_of(call, &fields))
     }
 
     /// Appends how many insertions a section requires, or why it was not encoded.
-    fn push_encoded(
-        &self,
-        answer: &mut String,
-        encoded: Result<usize, EncodingError>,
-    ) -> Result<()> {
-        match encoded {
-            Ok(required) => Ok(write!(answer, "{required}")?),
-            Err(error) => {
-                ensure!(self.section.is_empty(), "a refused call writes a section");
-                push_refusal(answer, error.code(), &error)
-            }
-        }
+    fn show_encoded(&self, encoded: &Result<usize, EncodingError>, call: &mut Call<'_>) {
+        let is_clean = encoded.is_ok() || self.section.is_empty();
+        call.holds(is_clean, "a refused call writes a section");
+        show_count(call, encoded);
     }
 
-    /// Encodes fields on a stream, and sends the section. Appends what the peer decoded.
-    fn encode_and_pass(
-        &mut self,
-        alloc: Global,
-        stream: u64,
-        fields: &[Field],
-        answer: &mut String,
-    ) -> Result<()> {
-        self.encode_fields(alloc, stream, fields)??;
-        self.pass(stream, answer)
-    }
-
-    /// Encodes fields on each of this many streams, and appends how many insertions the sections require in all.
-    fn fill(
-        &mut self,
-        alloc: Global,
-        streams: u64,
-        fields: &[Field],
-        answer: &mut String,
-    ) -> Result<()> {
-        let lines = wish_fields(alloc, fields)?;
-        self.encode_on_each(streams, &lines, answer)
-    }
-
-    /// Encodes lines on each of this many streams, and appends how many insertions the sections require in all.
-    fn encode_on_each(
-        &mut self,
-        streams: u64,
-        lines: &[WishedField<'_>],
-        answer: &mut String,
-    ) -> Result<()> {
+    /// Encodes the fields of words on each of this many streams, and appends how many insertions the sections require in
+    /// all.
+    fn fill(&mut self, streams: u64, call: &mut Call<'_>) {
+        let fields = call.fields();
+        let lines = wishes_of(call, &fields);
         let mut required = 0usize;
         for stream in 0..streams {
-            required = required.saturating_add(self.encode(stream, lines)?);
+            let encoded = self.encode(stream, &lines);
+            call.holds(encoded.is_ok(), "a section is refused");
+            required = required.saturating_add(encoded.unwrap_or(0));
         }
-        push_count(answer, required)
+        call.show(&required);
     }
 
     /// Encodes the fields that the peer decoded last on a stream of words, and sends the section.
-    fn hand_on(&mut self, alloc: Global, words: &mut Words<'_>, answer: &mut String) -> Result<()> {
-        let stream = words.number()?;
-        self.encode_again(alloc, stream)??;
-        self.pass(stream, answer)
-    }
-
-    /// Takes the settings of words. The peer is then one that sent them.
-    fn take_settings(
-        &mut self,
-        alloc: Global,
-        words: &mut Words<'_>,
-        answer: &mut String,
-    ) -> Result<()> {
-        let taken = self.end.set_peer_settings(words.count()?, words.count()?);
-        if taken.is_ok() {
-            self.peer = peer_of(alloc, self.end.settings())?;
-        }
-        push_done(answer, taken)
-    }
-
-    /// Sends the encoder stream, the last section, and the decoder stream. Returns what the peer decoded.
-    fn pass(&mut self, stream: u64, answer: &mut String) -> Result<()> {
-        self.peer
-            .receive(&mut Cursor::new(self.end.encoder_stream()))?;
-        self.end.sent(usize::MAX);
-        let reading = self.peer.decode(stream, &self.section, &mut self.fields)?;
-        push_reading(answer, reading, &self.fields)?;
-        self.end
-            .receive(&mut Cursor::new(self.peer.decoder_stream()))?;
-        self.peer.sent(usize::MAX);
-        Ok(())
+    fn hand_on(&mut self, call: &mut Call<'_>) {
+        let stream = call.number();
+        let encoded = self.encode_again(stream, call);
+        call.holds(encoded.is_ok(), "a section is refused");
+        self.pass(stream, call);
     }
 
     /// Encodes the fields that the peer decoded last, as they are borrowed.
-    fn encode_again(&mut self, alloc: Global, stream: u64) -> Result<Result<usize, EncodingError>> {
-        let lines = lines_of(alloc, &self.fields)?;
+    fn encode_again(&mut self, stream: u64, call: &mut Call<'_>) -> Result<usize, EncodingError> {
+        let lines = lines_of(call, &self.fields);
         self.section.clear();
-        Ok(self.end.encode(stream, &lines, &mut self.section))
+        self.end.encode(stream, &lines, &mut self.section)
+    }
+
+    /// Takes the settings of words. The peer is then one that sent them.
+    fn take_settings(&mut self, call: &mut Call<'_>) {
+        let taken = self.end.set_peer_settings(call.count(), call.count());
+        if taken.is_ok() {
+            self.change_peer(call);
+        }
+        show_done(call, &taken);
+    }
+
+    /// Has the peer be one that sent the settings.
+    fn change_peer(&mut self, call: &mut Call<'_>) {
+        match peer_of(call.alloc(), self.end.settings()) {
+            Some(peer) => self.peer = peer,
+            None => call.fail("no peer has the settings"),
+        }
+    }
+
+    /// Sends the encoder stream, the last section, and the decoder stream. Appends what the peer decoded.
+    fn pass(&mut self, stream: u64, call: &mut Call<'_>) {
+        let instructions = &mut Cursor::new(self.end.encoder_stream());
+        let received = self.peer.receive(instructions);
+        call.holds(received.is_ok(), "the peer refuses the encoder stream");
+        self.end.sent(usize::MAX);
+        match self.peer.decode(stream, &self.section, &mut self.fields) {
+            Ok(reading) => show_reading(call, reading, &self.fields),
+            Err(_) => call.fail("the peer refuses a section"),
+        }
+        let answers = &mut Cursor::new(self.peer.decoder_stream());
+        let received = self.end.receive(answers);
+        call.holds(received.is_ok(), "the decoder stream is refused");
+        self.peer.sent(usize::MAX);
     }
 
     /// Receives bytes of the decoder stream in pieces, and appends the last result.
-    fn receive(&mut self, bytes: &[u8], answer: &mut String) -> Result<()> {
+    fn receive(&mut self, call: &mut Call<'_>) {
+        let bytes = call.bytes();
         let mut received = self.end.receive(&mut Cursor::new(b""));
         for piece in bytes.chunks(self.size.max(1)) {
             received = self.end.receive(&mut Cursor::new(piece));
         }
-        push_done(answer, received)
-    }
-
-    /// Appends the last section, or the encoder stream, of which a `drops` takes bytes away; or a part of its state.
-    fn push_streams(
-        &mut self,
-        word: &str,
-        words: &mut Words<'_>,
-        answer: &mut String,
-    ) -> Result<()> {
-        match word {
-            "drops" => {
-                self.end.sent(words.count()?);
-                push_bytes(answer, self.end.encoder_stream())
-            }
-            "writes" => push_bytes(answer, &self.section),
-            "holds" => push_bytes(answer, self.end.encoder_stream()),
-            _ => self.push_state(word, answer),
-        }
+        show_done(call, &received);
     }
 
     /// Appends a part of its state.
-    fn push_state(&self, word: &str, answer: &mut String) -> Result<()> {
+    fn show_state(&self, word: &str, call: &mut Call<'_>) {
         let (end, table) = (&self.end, self.end.table());
         match word {
-            "counts" => self.push_counts(answer),
-            "state" => self.push_all_counts(answer),
-            "waits" => push_count(answer, end.waiting()),
-            "capacity" => push_capacity(answer, table.max_mem_size(), table.agreed_max()),
-            "settings" => Ok(write!(answer, "{:?}", end.settings())?),
-            "failure" => push_failure(answer, end.failure()),
-            _ => bail!("an encoder has no call {word}"),
+            "counts" => self.show_counts(call),
+            "state" => {
+                self.show_counts(call);
+                call.say_number(", ", end.encoder_stream().len());
+                call.say_number(" to send, ", end.waiting());
+                call.say(" waiting");
+            }
+            "waits" => call.show(&end.waiting()),
+            "capacity" => call.show_capacity(table.max_mem_size(), table.agreed_max()),
+            "settings" => call.show_parts(&end.settings()),
+            "failure" => show_failure(call, &end.failure()),
+            _ => call.fail("an encoder has no such call"),
         }
     }
 
     /// Appends the counts of its sections and its table.
-    fn push_counts(&self, answer: &mut String) -> Result<()> {
-        let (end, table) = (&self.end, self.end.table());
-        Ok(write!(
-            answer,
-            "{} unacknowledged, {} blocked, {} inserted, {} known",
-            end.unacknowledged(),
-            end.blocked(),
-            table.total_inserted(),
-            table.known_received_count()
-        )?)
+    fn show_counts(&self, call: &mut Call<'_>) {
+        let table = self.end.table();
+        call.show(&self.end.unacknowledged());
+        call.say_number(" unacknowledged, ", self.end.blocked());
+        call.say_number(" blocked, ", table.total_inserted());
+        call.say_number(" inserted, ", table.known_received_count());
+        call.say(" known");
     }
-
-    /// Appends the counts of its sections, its table and its streams.
-    fn push_all_counts(&self, answer: &mut String) -> Result<()> {
-        self.push_counts(answer)?;
-        let to_send = self.end.encoder_stream().len();
-        Ok(write!(
-            answer,
-            ", {to_send} to send, {} waiting",
-            self.end.waiting()
-        )?)
-    }
-}
-
-/// Borrows fields that were decoded.
-fn lines_of(alloc: Global, fields: &FieldSection) -> Result<Vec<FieldLine<'_>>> {
-    let mut lines = Vec::new(alloc);
-    for field in fields.iter() {
-        lines.push(field)?;
-    }
-    Ok(lines)
 }

@@ -1,13 +1,11 @@
 //! The encoder stream, received strictly.
 
-use crate::answers::push_done;
-use anyhow::{Result, bail};
+use crate::answers::show_done;
+use h3_qpack::HeaderField;
 use h3_qpack::coding::Cursor;
-use h3_qpack::dynamic::DynamicTable;
+use h3_qpack::dynamic::{DynamicTable, Error};
 use qpack_ends::{EncoderStream, EncoderStreamError};
-use qpack_testing::cases::{Subject, Words, push_count};
-use std::alloc::Global;
-use std::fmt::Write;
+use qpack_testing::cases::{Call, Subject};
 
 /// An encoder stream, and its table.
 #[derive(Drop)]
@@ -17,55 +15,46 @@ pub(crate) struct Receiving {
     size: usize,
 }
 
-/// A table of capacity 0, with a maximum.
-fn table_of(alloc: Global, max_capacity: usize) -> Result<DynamicTable> {
-    let mut table = DynamicTable::new(alloc);
-    table.set_agreed_max(max_capacity)?;
-    Ok(table)
-}
-
 impl Subject for Receiving {
-    fn begin(alloc: Global, settings: &mut Words<'_>, size: usize) -> Result<Receiving> {
-        let max_capacity = settings.count()?;
-        Ok(Receiving {
-            table: table_of(alloc, max_capacity)?,
-            stream: EncoderStream::new(alloc),
+    /// The settings are the maximum of the capacity, which is 0.
+    fn begin(call: &mut Call<'_>, size: usize) -> Option<Receiving> {
+        let mut table = DynamicTable::new(call.alloc());
+        let is_agreed = table.set_agreed_max(call.count()).is_ok();
+        call.holds(is_agreed, "the maximum is refused");
+        Some(Receiving {
+            table,
+            stream: EncoderStream::new(call.alloc()),
             size,
         })
     }
 
-    fn call(
-        &mut self,
-        alloc: Global,
-        word: &str,
-        words: &mut Words<'_>,
-        answer: &mut String,
-    ) -> Result<()> {
+    fn make(&mut self, word: &str, call: &mut Call<'_>) {
         match word {
             "receives" => {
-                let received = self.receive(&words.bytes(alloc)?);
-                push_done(answer, received)
+                let received = self.receive(&call.bytes());
+                show_done(call, &received);
             }
             "entry" => {
-                let entry = self.table.get_relative(words.count()?)?;
-                Ok(write!(answer, "{entry}")?)
+                let index = call.count();
+                show_entry(call, self.table.get_relative(index));
             }
-            _ => push_count(answer, self.count(word)?),
+            "waits" => call.show(&self.stream.waiting()),
+            "capacity" => call.show(&self.table.max_mem_size()),
+            "inserted" => call.show(&self.table.total_inserted()),
+            _ => call.fail("an encoder stream has no such call"),
         }
     }
 }
 
-impl Receiving {
-    /// Returns a count of its state.
-    fn count(&self, word: &str) -> Result<usize> {
-        Ok(match word {
-            "waits" => self.stream.waiting(),
-            "capacity" => self.table.max_mem_size(),
-            "inserted" => self.table.total_inserted(),
-            _ => bail!("an encoder stream has no call {word}"),
-        })
+/// Appends an entry of a table.
+fn show_entry(call: &mut Call<'_>, entry: Result<&HeaderField, Error>) {
+    match entry {
+        Ok(field) => call.show(field),
+        Err(_) => call.fail("there is no entry"),
     }
+}
 
+impl Receiving {
     /// Receives bytes in pieces, until one is refused.
     fn receive(&mut self, bytes: &[u8]) -> Result<(), EncoderStreamError> {
         for piece in bytes.chunks(self.size.max(1)) {

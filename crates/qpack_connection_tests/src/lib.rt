@@ -7,18 +7,16 @@ mod decoder;
 mod decoder_stream;
 mod encoder;
 mod encoder_stream;
-mod fields;
 mod sections;
 
-use anyhow::{Result, bail};
+use anyhow::Result;
 use calls::Calls;
 use decoder::Decoder;
 use decoder_stream::Hearing;
 use encoder::Encoder;
 use encoder_stream::Receiving;
-use qpack_testing::cases::{Kinds, Line, Words, hold, hold_files};
+use qpack_testing::cases::{Kinds, Run, answer_calls, hold, hold_files};
 use sections::Sections;
-use std::alloc::Global;
 
 /// The files of cases.
 const FILES: [&str; 7] = [
@@ -35,21 +33,15 @@ const FILES: [&str; 7] = [
 struct Ends;
 
 impl Kinds for Ends {
-    fn hold_kind(
-        alloc: Global,
-        kind: &str,
-        settings: &mut Words<'_>,
-        size: usize,
-        calls: &[Line<'_>],
-    ) -> Result<()> {
+    fn hold_kind(kind: &str, run: &mut Run<'_>) {
         match kind {
-            "decoder" => hold::<Decoder>(alloc, settings, size, calls),
-            "encoder" => hold::<Encoder>(alloc, settings, size, calls),
-            "decoder-stream" => hold::<Hearing>(alloc, settings, size, calls),
-            "encoder-stream" => hold::<Receiving>(alloc, settings, size, calls),
-            "sections" => hold::<Sections>(alloc, settings, size, calls),
-            "calls" => hold::<Calls>(alloc, settings, size, calls),
-            _ => bail!("there is no {kind}"),
+            "decoder" => hold::<Decoder>(run),
+            "encoder" => hold::<Encoder>(run),
+            "decoder-stream" => hold::<Hearing>(run),
+            "encoder-stream" => hold::<Receiving>(run),
+            "sections" => hold::<Sections>(run),
+            "calls" => hold::<Calls>(run),
+            _ => run.fail("there is no such kind"),
         }
     }
 }
@@ -57,4 +49,9 @@ impl Kinds for Ends {
 /// Runs the tests. Fails at the first one that does not hold.
 pub fn run(rt: &HostRuntime) -> Result<()> {
     hold_files::<Ends>(rt, &FILES)
+}
+
+/// Prints the answers of calls.
+pub fn answer(rt: &HostRuntime, calls: &str) -> Result<()> {
+    answer_calls::<Ends>(rt, calls)
 }

@@ -1,11 +1,10 @@
 //! Sections read strictly, up to a limit.
 
-use crate::fields::{push_fields, push_reading};
-use anyhow::{Result, bail, ensure};
+use crate::answers::{show_fields, show_reading};
 use h3_qpack::HeaderField;
-use h3_qpack::dynamic::DynamicTable;
+use h3_qpack::dynamic::{DynamicTable, Error};
 use qpack_ends::{FieldSection, read_section};
-use qpack_testing::cases::{Subject, Words, push_refusal};
+use qpack_testing::cases::{Call, Subject};
 use std::alloc::Global;
 
 /// A table, and the fields of the section that was read last.
@@ -15,74 +14,55 @@ pub(crate) struct Sections {
     fields: FieldSection,
 }
 
-/// A table, which has an entry `NAME: bar` for each name.
-fn table_of(alloc: Global, capacity: usize, names: &str) -> Result<DynamicTable> {
-    let mut table = DynamicTable::new(alloc);
-    fill(alloc, &mut table, capacity, names)?;
-    Ok(table)
-}
-
-/// Sets the capacity of a table, and puts an entry for each name.
-fn fill(alloc: Global, table: &mut DynamicTable, capacity: usize, names: &str) -> Result<()> {
-    table.set_max_size(capacity)?;
-    for name in names.split_whitespace() {
-        put(alloc, table, name)?;
-    }
-    Ok(())
-}
-
 /// Puts a field `NAME: bar`.
-fn put(alloc: Global, table: &mut DynamicTable, name: &str) -> Result<()> {
-    table.put(HeaderField::from_pair(alloc, name.as_bytes(), b"bar")?)?;
-    Ok(())
+fn put(alloc: Global, table: &mut DynamicTable, name: &str) -> Result<(), Error> {
+    table.put(HeaderField::from_pair(alloc, name.as_bytes(), b"bar")?)
 }
 
 impl Subject for Sections {
-    fn begin(alloc: Global, settings: &mut Words<'_>, _size: usize) -> Result<Sections> {
-        let capacity = settings.count()?;
-        let names = settings.rest;
-        settings.rest = "";
-        Ok(Sections {
-            table: table_of(alloc, capacity, names)?,
-            fields: FieldSection::new(alloc),
+    /// The settings are the capacity of the table, and the name of each entry.
+    fn begin(call: &mut Call<'_>, _size: usize) -> Option<Sections> {
+        let mut table = DynamicTable::new(call.alloc());
+        let is_set = table.set_max_size(call.count()).is_ok();
+        call.holds(is_set, "the capacity is refused");
+        for name in call.rest().split_whitespace() {
+            let done = put(call.alloc(), &mut table, name);
+            call.holds(done.is_ok(), "an entry is refused");
+        }
+        call.set_rest("");
+        Some(Sections {
+            table,
+            fields: FieldSection::new(call.alloc()),
         })
     }
 
-    fn call(
-        &mut self,
-        alloc: Global,
-        word: &str,
-        words: &mut Words<'_>,
-        answer: &mut String,
-    ) -> Result<()> {
+    fn make(&mut self, word: &str, call: &mut Call<'_>) {
         match word {
-            "reads" => self.read(&words.bytes(alloc)?, 1_000_000, answer),
-            "reads-up-to" => {
-                let limit = words.number()?;
-                self.read(&words.bytes(alloc)?, limit, answer)
-            }
+            "reads" => self.read(1_000_000, call),
+            "reads-up-to" => self.read(call.number(), call),
             "puts" => {
-                put(alloc, &mut self.table, words.word())?;
-                Ok(answer.push_str("done")?)
+                let done = put(call.alloc(), &mut self.table, call.word());
+                call.show_done(&done);
             }
             "clears" => {
                 self.fields.clear();
-                answer.push_str("done")?;
-                push_fields(answer, &self.fields)
+                call.say("done");
+                show_fields(call, &self.fields);
             }
-            _ => bail!("sections have no call {word}"),
+            _ => call.fail("sections have no such call"),
         }
     }
 }
 
 impl Sections {
     /// Reads a section up to a limit, into the fields of the one before.
-    fn read(&mut self, section: &[u8], limit: u64, answer: &mut String) -> Result<()> {
-        match read_section(&self.table, section, limit, &mut self.fields) {
-            Ok(reading) => push_reading(answer, reading, &self.fields),
+    fn read(&mut self, limit: u64, call: &mut Call<'_>) {
+        let section = call.bytes();
+        match read_section(&self.table, &section, limit, &mut self.fields) {
+            Ok(reading) => show_reading(call, reading, &self.fields),
             Err(error) => {
-                ensure!(self.fields.is_empty(), "a refused section gives fields");
-                push_refusal(answer, error.code(), &error)
+                call.holds(self.fields.is_empty(), "a refused section gives fields");
+                call.show_refusal(error.code(), &error);
             }
         }
     }

@@ -18,15 +18,22 @@
 //!
 //! Bytes are in hexadecimal, and `nothing` is no byte. A field is `NAME = VALUE` after ` | `, with `never` before its
 //! name if it is never to be indexed. A name or a value is a text, or `0x` and its bytes, and `""` is an empty one.
+//!
+//! The scripts of `tests/` ask calls on standard input, and compare the answers: there a line is a case's `= KIND
+//! SETTINGS`, or a call, whose answer is printed.
+//!
+//! A check or an append that fails is noted and returns nothing: each exit of a function is a path of its own for the
+//! prover.
 
+mod call;
 mod fields;
 mod files;
-mod script;
+mod lines;
+mod run;
 mod subject;
-mod words;
 
-pub use fields::{Field, Mark, header_fields, push_field, read_fields, read_headers};
-pub use files::hold_files;
-pub use script::{Case, Line};
+pub use call::Call;
+pub use fields::{Field, Mark};
+pub use files::{answer_calls, hold_files};
+pub use run::Run;
 pub use subject::{Kinds, Subject, hold, make_call};
-pub use words::{Words, push_bytes, push_capacity, push_count, push_refusal};

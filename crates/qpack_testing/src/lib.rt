@@ -2,14 +2,12 @@
 //! `again` what was refused, and each helper here that takes memory does so itself.
 #![tactic(auto)]
 
-ghost use Rattle.std.specs.Prelude.{◌≡◌, ◌↔◌, IsOk, IfOk, IsTrue, Ok};
-ghost use Rattle.hex.specs.Hex.{decode_of};
+ghost use Rattle.std.specs.Prelude.{◌≡◌, ◌↔◌, IsOk, IfOk, IsTrue};
 ghost use Rattle.qpack_base.specs.HeaderFields.{field_of};
 
 pub mod cases;
 mod numbers;
 
-use hex::FromHexError;
 pub use numbers::Numbers;
 use qpack_base::coding::NoMemory;
 use qpack_base::field::HeaderField;
@@ -53,9 +51,6 @@ pub fn field(alloc: Global, name: &[u8], value: &[u8]) -> Result<HeaderField, No
     }
 }
 
-/// Names and values.
-pub type Pairs = &'static [(&'static [u8], &'static [u8])];
-
 /// The fields of names and values.
 pub fn fields(alloc: Global, pairs: &[(&[u8], &[u8])]) -> Result<Vec<HeaderField>, NoMemory> {
     let mut fields = again(|| Vec::with_capacity(alloc, pairs.len()))?;
@@ -63,14 +58,4 @@ pub fn fields(alloc: Global, pairs: &[(&[u8], &[u8])]) -> Result<Vec<HeaderField
         fields.push(field(alloc, name, value)?)?;
     }
     Ok(fields)
-}
-
-/// The bytes of a text in hexadecimal.
-pub fn bytes(alloc: Global, text: &[u8]) -> Result<Vec<u8>, FromHexError>
-    ensures { IfOk result (λ bytes. decode_of text.now ≡ Ok bytes.items) }
-{
-    match hex::decode(alloc, text) {
-        Ok(bytes) => Ok(bytes),
-        Err(_) => hex::decode(alloc, text),
-    }
 }

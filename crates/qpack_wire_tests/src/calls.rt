@@ -1,14 +1,11 @@
 //! The calls of cases. None keeps anything for the next.
 
-use crate::answers::push_result;
 use crate::{fields, reading, writing};
-use anyhow::Result;
 use qpack_base::parse_error::ParseError;
 use qpack_base::prefix_string::{BitWindow, Error, HuffmanEncodingError};
 use qpack_base::static_::StaticTable;
-use qpack_testing::cases::{Subject, Words};
-use std::alloc::Global;
-use std::fmt::Write;
+use qpack_testing::cases::{Call, Subject};
+use std::fmt::{Debug, Display};
 
 /// Calls.
 #[derive(Drop)]
@@ -21,57 +18,73 @@ fn is_refusal(answer: &str) -> bool {
 }
 
 impl Subject for Calls {
-    fn begin(_alloc: Global, _settings: &mut Words, _size: usize) -> Result<Calls> {
-        Ok(Calls)
+    fn begin(_call: &mut Call<'_>, _size: usize) -> Option<Calls> {
+        Some(Calls)
     }
 
-    fn call(
-        &mut self,
-        alloc: Global,
-        word: &str,
-        words: &mut Words,
-        answer: &mut String,
-    ) -> Result<()> {
-        let call = *words;
-        let made = make(alloc, word, words, answer);
-        if made.is_ok() && !is_refusal(answer.as_str()) {
-            return Ok(());
+    fn make(&mut self, word: &str, call: &mut Call<'_>) {
+        let words = call.rest();
+        make(word, call);
+        if is_refusal(call.answer()) {
+            // A second time, in case memory was refused.
+            call.clear();
+            call.set_rest(words);
+            make(word, call);
         }
-        // A second time, in case memory was refused.
-        answer.clear();
-        *words = call;
-        make(alloc, word, words, answer)
     }
 }
 
 /// Makes a call.
-fn make(alloc: Global, word: &str, words: &mut Words, answer: &mut String) -> Result<()> {
+fn make(word: &str, call: &mut Call<'_>) {
     match word {
-        "writes" => writing::push_written(alloc, words, answer),
-        "fills" => writing::push_filling(alloc, words, answer),
-        "codes" => writing::push_payload(alloc, words, answer),
-        "static" => push_result(answer, &StaticTable::get(words.count()?)),
-        "compares" | "finds" | "changes" | "shows" => fields::run(alloc, word, words, answer),
-        "windows" => push_windows(answer),
-        "unreturned" => push_unreturned(answer),
-        _ => reading::run(alloc, word, words, answer),
+        "writes" => writing::show_written(call),
+        "fills" => writing::show_filling(call),
+        "codes" => writing::show_payload(call),
+        "static" => {
+            let index = call.count();
+            show_result(call, &StaticTable::get(index));
+        }
+        "compares" | "finds" | "changes" | "shows" => fields::make(word, call),
+        "windows" => show_windows(call),
+        "unreturned" => show_unreturned(call),
+        _ => reading::make(word, call),
+    }
+}
+
+/// Appends a value, or the error in its place and the text of that, after what stands there.
+pub(crate) fn show_result<T: Debug, E: Debug + Display>(
+    call: &mut Call<'_>,
+    outcome: &Result<T, E>,
+) {
+    if !call.answer().is_empty() {
+        call.say("; ");
+    }
+    match outcome {
+        Ok(value) => call.show_parts(value),
+        Err(error) => call.show_error(error),
     }
 }
 
 /// Appends whether the first window is the default one, where it moved, and the rest of the byte there.
-fn push_windows(answer: &mut String) -> Result<()> {
+fn show_windows(call: &mut Call<'_>) {
     let mut window = BitWindow::new();
-    let is_default = window == BitWindow::default();
+    call.show(&(window == BitWindow::default()));
     window.forwards(5);
     window.forwards(6);
     window.forwards(3);
-    let rest = window.opposite_bit_window();
-    Ok(write!(answer, "{is_default}; {window:?}; {rest:?}")?)
+    call.say("; ");
+    call.show_parts(&window);
+    call.say("; ");
+    call.show_parts(&window.opposite_bit_window());
 }
 
 /// Appends the texts of errors that no call returns unless memory is refused.
-fn push_unreturned(answer: &mut String) -> Result<()> {
-    let coding = Error::HuffmanEncoding(HuffmanEncodingError);
-    let (size, memory) = (Error::BufSize, ParseError::Memory);
-    Ok(write!(answer, "{HuffmanEncodingError}; {coding}; {size}; {memory}")?)
+fn show_unreturned(call: &mut Call<'_>) {
+    call.show(&HuffmanEncodingError);
+    call.say("; ");
+    call.show(&Error::HuffmanEncoding(HuffmanEncodingError));
+    call.say("; ");
+    call.show(&Error::BufSize);
+    call.say("; ");
+    call.show(&ParseError::Memory);
 }

@@ -3,17 +3,15 @@
 //! with ample memory, what a refused growth leaves, and printed texts.
 #![tactic(auto)]
 
-mod answers;
 mod calls;
 mod fields;
 mod reading;
 mod streams;
 mod writing;
 
-use anyhow::{Result, ensure};
+use anyhow::Result;
 use calls::Calls;
-use qpack_testing::cases::{Kinds, Line, Words, hold, hold_files};
-use std::alloc::Global;
+use qpack_testing::cases::{Kinds, Run, hold, hold_files};
 
 /// The files of cases.
 const FILES: [&str; 7] = [
@@ -27,15 +25,11 @@ const FILES: [&str; 7] = [
 ];
 
 impl Kinds for Calls {
-    fn hold_kind(
-        alloc: Global,
-        kind: &str,
-        settings: &mut Words,
-        size: usize,
-        calls: &[Line],
-    ) -> Result<()> {
-        ensure!(kind == "calls", "there is no {kind}");
-        hold::<Calls>(alloc, settings, size, calls)
+    fn hold_kind(kind: &str, run: &mut Run<'_>) {
+        match kind {
+            "calls" => hold::<Calls>(run),
+            _ => run.fail("there is no such kind"),
+        }
     }
 }
 

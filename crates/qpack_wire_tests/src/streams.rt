@@ -1,16 +1,15 @@
 //! Streams of instructions: whole, truncated, and cut into pieces (RFC 9204, sections 4.3 and 4.4).
 
-use crate::answers::push_result;
-use anyhow::{Result, ensure};
+use crate::calls::show_result;
 use qpack_base::coding::Cursor;
 use qpack_base::parse_error::ParseError;
+use qpack_testing::cases::Call;
 use qpack_wire::stream::{EncoderLine, Wire, least_field_size, next_line, wanted};
 use std::alloc::Global;
-use std::fmt::{Debug, Write};
-use std::result;
+use std::fmt::Debug;
 
 /// Reads the next instruction; at the same cursor a second time, in case memory was refused.
-fn next<W: Wire>(alloc: Global, cursor: &mut Cursor) -> result::Result<Option<W>, ParseError> {
+fn next<W: Wire>(alloc: Global, cursor: &mut Cursor) -> Result<Option<W>, ParseError> {
     match next_line(alloc, cursor) {
         Err(ParseError::Memory) => next_line(alloc, cursor),
         read => read,
@@ -18,54 +17,57 @@ fn next<W: Wire>(alloc: Global, cursor: &mut Cursor) -> result::Result<Option<W>
 }
 
 /// Appends the instruction at the front of the bytes, and how many bytes are left after it.
-pub(crate) fn push_next<W: Wire + Debug>(
-    alloc: Global,
-    answer: &mut String,
-    bytes: &[u8],
-) -> Result<()> {
+pub(crate) fn show_next<W: Wire + Debug>(call: &mut Call<'_>, bytes: &[u8]) {
     let mut cursor = Cursor::new(bytes);
-    push_result(answer, &next::<W>(alloc, &mut cursor))?;
-    Ok(write!(answer, ", {} left", cursor.remaining())?)
+    show_result(call, &next::<W>(call.alloc(), &mut cursor));
+    call.say_number(", ", cursor.remaining());
+    call.say(" left");
 }
 
 /// Appends how many bytes there must be of an encoder instruction that is truncated, and the least size of its field.
-pub(crate) fn push_waiting(alloc: Global, answer: &mut String, bytes: &[u8]) -> Result<()> {
-    push_next::<EncoderLine>(alloc, answer, bytes)?;
-    let (many, size) = (wanted(bytes), least_field_size(bytes));
-    Ok(write!(answer, ", {many} wanted, a field of {size}")?)
+pub(crate) fn show_waiting(call: &mut Call<'_>, bytes: &[u8]) {
+    show_next::<EncoderLine>(call, bytes);
+    call.say_number(", ", wanted(bytes));
+    call.say_number(" wanted, a field of ", least_field_size(bytes));
 }
 
 /// Reads the whole instructions of the bytes after those that were read, and returns how many bytes they took.
-fn read_all(alloc: Global, bytes: &[u8], lines: &mut Vec<EncoderLine>) -> Result<usize> {
+fn read_all(call: &mut Call<'_>, bytes: &[u8], lines: &mut Vec<EncoderLine>) -> usize {
     let mut cursor = Cursor::new(bytes);
     for _ in bytes {
-        let Some(line) = next(alloc, &mut cursor)? else {
-            break;
-        };
-        lines.push(line)?;
+        match next(call.alloc(), &mut cursor) {
+            Ok(Some(line)) => {
+                if lines.push(line).is_err() {
+                    call.lack_memory();
+                }
+            }
+            Ok(None) => break,
+            Err(_) => call.fail("an instruction is refused"),
+        }
     }
-    Ok(cursor.position())
+    cursor.position()
 }
 
-/// Fails if a stream in two pieces, the first of this many bytes, has not the instructions of the whole.
-fn hold_cut(alloc: Global, stream: &[u8], cut: usize, whole: &Vec<EncoderLine>) -> Result<()> {
-    let mut lines = Vec::new(alloc);
-    let taken = read_all(alloc, stream.get(..cut).unwrap_or(stream), &mut lines)?;
-    let more = read_all(alloc, stream.get(taken..).unwrap_or(b""), &mut lines)?;
+/// Requires that a stream in two pieces, the first of this many bytes, has the instructions of the whole.
+fn hold_cut(call: &mut Call<'_>, stream: &[u8], cut: usize, whole: &Vec<EncoderLine>) {
+    let mut lines = Vec::new(call.alloc());
+    let taken = read_all(call, stream.get(..cut).unwrap_or(stream), &mut lines);
+    let more = read_all(call, stream.get(taken..).unwrap_or(b""), &mut lines);
     let is_same = taken.saturating_add(more) == stream.len() && lines == *whole;
-    ensure!(is_same, "other instructions with a cut at {cut}");
-    Ok(())
+    call.holds(is_same, "a cut stream has other instructions");
 }
 
 /// How many cuts are tried, spread over a stream: as many as the recorded one has bytes, so that it is cut anywhere.
 const CASES: usize = 2_699;
 
 /// Appends how many instructions an encoder stream has, wherever it is cut, and how many bytes they take.
-pub(crate) fn push_cuts(alloc: Global, answer: &mut String, stream: &[u8]) -> Result<()> {
-    let mut whole = Vec::new(alloc);
-    let taken = read_all(alloc, stream, &mut whole)?;
+pub(crate) fn show_cuts(call: &mut Call<'_>, stream: &[u8]) {
+    let mut whole = Vec::new(call.alloc());
+    let taken = read_all(call, stream, &mut whole);
     for case in 0..CASES {
-        hold_cut(alloc, stream, case.saturating_mul(taken) / CASES, &whole)?;
+        hold_cut(call, stream, case.saturating_mul(taken) / CASES, &whole);
     }
-    Ok(write!(answer, "{} instructions of {taken} bytes", whole.len())?)
+    call.show(&whole.len());
+    call.say_number(" instructions of ", taken);
+    call.say(" bytes");
 }

@@ -1,181 +1,250 @@
 //! What is written, to vectors that have room, that grow, and that can't.
 
 use crate::reading::read_size;
-use anyhow::{Context, Result, bail, ensure};
 use linked_list_allocator::LocalHeap;
-use qpack_base::coding::{BufMutExt, Cursor};
-use qpack_base::prefix_string::HpackStringEncode;
+use qpack_base::coding::{BufMutExt, Cursor, NoMemory};
+use qpack_base::prefix_string::{Error, HpackStringEncode};
 use qpack_base::{prefix_int, prefix_string};
-use qpack_testing::cases::{Words, push_bytes};
+use qpack_testing::cases::Call;
 use qpack_wire::block::{
     BlockLine, HeaderPrefix, Literal, LiteralWithNameRef, LiteralWithPostBaseNameRef,
 };
 use qpack_wire::stream::{
     DecoderLine, EncoderLine, InsertWithNameRef, InsertWithoutNameRef, Wire, next_line,
 };
-use std::alloc::{Allocator, Global};
-use std::fmt::Write;
+use std::alloc::Allocator;
 
 /// Appends what items are written as in a vector of this room, which stays its capacity unless it is 0.
-pub(crate) fn push_written(alloc: Global, words: &mut Words, answer: &mut String) -> Result<()> {
-    let room = words.count()?;
-    let mut out = Vec::with_capacity(alloc, room)?;
-    write_items(alloc, words.rest, &mut out, answer)?;
-    words.rest = "";
-    let has_grown = room > 0 && out.capacity() != room;
-    ensure!(!has_grown, "memory was taken beside the room");
-    push_bytes(answer, &out)
+pub(crate) fn show_written(call: &mut Call<'_>) {
+    let room = call.count();
+    match Vec::with_capacity(call.alloc(), room) {
+        Ok(mut out) => show_written_to(call, room, &mut out),
+        Err(_) => call.lack_memory(),
+    }
 }
 
-/// Writes items, or appends why they are not written.
-fn write_items(alloc: Global, items: &str, out: &mut Vec<u8>, answer: &mut String) -> Result<()> {
+/// Appends what items are written as in an empty vector of this room.
+fn show_written_to(call: &mut Call<'_>, room: usize, out: &mut Vec<u8>) {
+    let items = call.rest();
     for item in items.split(" | ") {
-        if write_item(alloc, item, out).is_ok() {
-            continue;
-        }
-        // To the same vector a second time, in case memory was refused: that must leave it.
-        if let Err(error) = write_item(alloc, item, out) {
-            write!(answer, "{error}; ")?;
-        }
+        write_twice(call, item, out);
     }
-    Ok(())
+    call.set_rest("");
+    let has_grown = room > 0 && out.capacity() != room;
+    call.holds(!has_grown, "memory was taken beside the room");
+    call.show_bytes(out);
+}
+
+/// Writes an item, or appends why it is not written.
+fn write_twice<'a>(call: &mut Call<'a>, item: &'a str, out: &mut Vec<u8>) {
+    if write_item(call, item, out).is_ok() {
+        return;
+    }
+    // To the same vector a second time, in case memory was refused: that must leave it.
+    if let Err(error) = write_item(call, item, out) {
+        call.show(&error);
+        call.say("; ");
+    }
 }
 
 /// How often `fills` writes an item.
 const TIMES: usize = 200;
 
 /// Writes an item again and again to a vector of a small heap. Appends why it was refused, and whether it was written.
-pub(crate) fn push_filling(alloc: Global, words: &mut Words, answer: &mut String) -> Result<()> {
-    let heap = LocalHeap::new(alloc, words.count()?)?;
-    let (length, room) = (words.count()?, words.count()?);
-    let mut out = Vec::new(&heap);
-    for _ in 0..TIMES {
-        write_or_leave(alloc, words.rest, (length, room), &mut out, answer)?;
+pub(crate) fn show_filling(call: &mut Call<'_>) {
+    let size = call.count();
+    match LocalHeap::new(call.alloc(), size) {
+        Ok(heap) => fill(call, &mut Vec::new(&heap)),
+        Err(_) => call.lack_memory(),
     }
-    words.rest = "";
-    Ok(write!(answer, ", written {}", !out.is_empty())?)
+}
+
+/// Writes an item again and again to a vector.
+fn fill(call: &mut Call<'_>, out: &mut Vec<u8, &LocalHeap>) {
+    let (length, room) = (call.count(), call.count());
+    let item = call.rest();
+    for _ in 0..TIMES {
+        write_or_leave(call, item, (length, room), out);
+    }
+    call.set_rest("");
+    call.say(", written ");
+    call.show(&!out.is_empty());
 }
 
 /// Writes an item of this length. If it is refused the vector must be as before, with less than this room: the answer is
 /// why.
-fn write_or_leave(
-    alloc: Global,
-    item: &str,
+fn write_or_leave<'a>(
+    call: &mut Call<'a>,
+    item: &'a str,
     (length, room): (usize, usize),
     out: &mut Vec<u8, &LocalHeap>,
-    answer: &mut String,
-) -> Result<()> {
+) {
     let (before, capacity) = (out.len(), out.capacity());
-    let written = write_item(alloc, item, out);
-    let added = out.len().checked_sub(before);
-    let Err(error) = written else {
-        ensure!(added == Some(length), "{added:?} bytes were written");
-        return Ok(());
-    };
-    let is_full = capacity.saturating_sub(before) < room;
-    ensure!(is_full && added == Some(0), "{error} after {before} bytes");
-    answer.clear();
-    Ok(write!(answer, "{error}")?)
-}
-
-/// Appends the payload of the text that is left.
-pub(crate) fn push_payload(alloc: Global, words: &mut Words, answer: &mut String) -> Result<()> {
-    let text = Vec::from_slice(alloc, words.rest.as_bytes())?;
-    words.rest = "";
-    push_bytes(answer, &text.hpack_encode()?)
-}
-
-/// Writes an item.
-fn write_item<A: Allocator>(alloc: Global, item: &str, out: &mut Vec<u8, A>) -> Result<()> {
-    let words = &mut Words { rest: item };
-    match words.word() {
-        "byte" => Ok(out.write(words.word().parse::<u8>()?)?),
-        "integer" => write_integer(words, out),
-        "string" => write_string(words, out),
-        "reads" => read_onto(alloc, words, out),
-        "prefix" => write_prefix(words, out),
-        "line" => write_line(alloc, words, out),
-        "encoder" => write_instruction::<EncoderLine, A>(alloc, words, out),
-        "decoder" => write_instruction::<DecoderLine, A>(alloc, words, out),
-        "made" => write_made(alloc, words, out),
-        form => write_lent(form, words, out),
+    let written = write_item(call, item, out);
+    let added = out.len().saturating_sub(before);
+    call.holds(out.len() >= before, "bytes were taken away");
+    match written {
+        Ok(()) => call.holds(added == length, "other bytes were written"),
+        Err(error) => {
+            let is_full = capacity.saturating_sub(before) < room;
+            call.holds(
+                is_full && added == 0,
+                "a refused item was written, or had room",
+            );
+            call.clear();
+            call.show(&error);
+        }
     }
 }
 
+/// Appends the payload of the text that is left.
+pub(crate) fn show_payload(call: &mut Call<'_>) {
+    let text = call.copy(call.rest().as_bytes());
+    call.set_rest("");
+    match text.hpack_encode() {
+        Ok(payload) => call.show_bytes(&payload),
+        Err(_) => call.lack_memory(),
+    }
+}
+
+/// Returns why a write is refused that needs memory alone.
+fn refusal_of(written: Result<(), NoMemory>) -> Result<(), Error> {
+    match written {
+        Ok(()) => Ok(()),
+        Err(_) => Err(Error::Memory),
+    }
+}
+
+/// Writes an item.
+fn write_item<'a, A: Allocator>(
+    call: &mut Call<'a>,
+    item: &'a str,
+    out: &mut Vec<u8, A>,
+) -> Result<(), Error> {
+    call.set_rest(item);
+    match call.word() {
+        "byte" => write_byte(call, out),
+        "integer" => write_integer(call, out),
+        "string" => write_string(call, out),
+        "reads" => read_onto(call, out),
+        "prefix" => write_prefix(call, out),
+        "line" => write_line(call, out),
+        "encoder" => write_instruction::<EncoderLine, A>(call, out),
+        "decoder" => write_instruction::<DecoderLine, A>(call, out),
+        "made" => write_made(call, out),
+        form => write_lent(form, call, out),
+    }
+}
+
+/// Reads a number that a byte has.
+fn read_byte(call: &mut Call<'_>) -> u8 {
+    let byte = call.word().parse::<u8>();
+    call.holds(byte.is_ok(), "a word is no byte");
+    byte.unwrap_or(0)
+}
+
+/// Writes a byte.
+fn write_byte<A: Allocator>(call: &mut Call<'_>, out: &mut Vec<u8, A>) -> Result<(), Error> {
+    refusal_of(out.write(read_byte(call)))
+}
+
 /// Writes an integer with a prefix of a size, under flags.
-fn write_integer<A: Allocator>(words: &mut Words, out: &mut Vec<u8, A>) -> Result<()> {
-    let size = read_size(words, 1)?;
-    let (flags, value) = (words.word().parse::<u8>()?, words.number()?);
-    Ok(prefix_int::encode(size, flags, value, out)?)
+fn write_integer<A: Allocator>(call: &mut Call<'_>, out: &mut Vec<u8, A>) -> Result<(), Error> {
+    let size = read_size(call, 1);
+    let (flags, value) = (read_byte(call), call.number());
+    refusal_of(prefix_int::encode(size, flags, value, out))
 }
 
 /// Writes the string of the text that is left with a prefix of a size, under flags.
-fn write_string<A: Allocator>(words: &mut Words, out: &mut Vec<u8, A>) -> Result<()> {
-    let size = read_size(words, 2)?;
-    let flags = words.word().parse::<u8>()?;
-    Ok(prefix_string::encode(size, flags, words.rest.as_bytes(), out)?)
+fn write_string<A: Allocator>(call: &mut Call<'_>, out: &mut Vec<u8, A>) -> Result<(), Error> {
+    let size = read_size(call, 2);
+    let flags = read_byte(call);
+    prefix_string::encode(size, flags, call.rest().as_bytes(), out)
 }
 
 /// Reads a string with a prefix of a size, and writes its text.
-fn read_onto<A: Allocator>(alloc: Global, words: &mut Words, out: &mut Vec<u8, A>) -> Result<()> {
-    let size = read_size(words, 2)?;
-    let bytes = words.bytes(alloc)?;
-    Ok(prefix_string::decode_onto(size, &mut Cursor::new(&bytes), out)?)
+fn read_onto<A: Allocator>(call: &mut Call<'_>, out: &mut Vec<u8, A>) -> Result<(), Error> {
+    let size = read_size(call, 2);
+    let bytes = call.bytes();
+    prefix_string::decode_onto(size, &mut Cursor::new(&bytes), out)
 }
 
 /// Writes the prefix of a required insert count, a base, a number of insertions and a maximum capacity.
-fn write_prefix<A: Allocator>(words: &mut Words, out: &mut Vec<u8, A>) -> Result<()> {
-    let (required, base) = (words.count()?, words.count()?);
-    let (inserted, capacity) = (words.count()?, words.count()?);
+fn write_prefix<A: Allocator>(call: &mut Call<'_>, out: &mut Vec<u8, A>) -> Result<(), Error> {
+    let (required, base) = (call.count(), call.count());
+    let (inserted, capacity) = (call.count(), call.count());
     let is_possible = required <= inserted && capacity >= 32;
-    let is_empty = required == 0 || capacity == 0;
-    ensure!(is_possible || is_empty, "no section has the prefix");
-    Ok(HeaderPrefix::new(required, base, inserted, capacity).encode(out)?)
+    if is_possible || required == 0 || capacity == 0 {
+        return refusal_of(HeaderPrefix::new(required, base, inserted, capacity).encode(out));
+    }
+    call.fail("no section has the prefix");
+    Ok(())
 }
 
 /// Reads a line, and writes it.
-fn write_line<A: Allocator>(alloc: Global, words: &mut Words, out: &mut Vec<u8, A>) -> Result<()> {
-    let bytes = words.bytes(alloc)?;
-    let line = BlockLine::decode(alloc, &mut Cursor::new(&bytes))?;
-    Ok(line.encode(out)?)
+fn write_line<A: Allocator>(call: &mut Call<'_>, out: &mut Vec<u8, A>) -> Result<(), Error> {
+    let bytes = call.bytes();
+    match BlockLine::decode(call.alloc(), &mut Cursor::new(&bytes)) {
+        Ok(line) => line.encode(out),
+        Err(_) => Err(Error::UnexpectedEnd),
+    }
 }
 
 /// Reads an instruction, and writes it.
 fn write_instruction<W: Wire, A: Allocator>(
-    alloc: Global,
-    words: &mut Words,
+    call: &mut Call<'_>,
     out: &mut Vec<u8, A>,
-) -> Result<()> {
-    let bytes = words.bytes(alloc)?;
-    let read: Option<W> = next_line(alloc, &mut Cursor::new(&bytes))?;
-    let instruction = read.context("the instruction is truncated")?;
-    Ok(instruction.encode(out)?)
+) -> Result<(), Error> {
+    let bytes = call.bytes();
+    match next_line::<W>(call.alloc(), &mut Cursor::new(&bytes)) {
+        Ok(Some(instruction)) => refusal_of(instruction.encode(out)),
+        _ => Err(Error::UnexpectedEnd),
+    }
 }
 
 /// Writes a line or an instruction that owns an index or a name, and a value.
-fn write_made<A: Allocator>(alloc: Global, words: &mut Words, out: &mut Vec<u8, A>) -> Result<()> {
-    let (form, index) = (words.word(), words.first_number() as usize);
-    let name = Vec::from_slice(alloc, words.word().as_bytes())?;
-    let value = Vec::from_slice(alloc, words.rest.as_bytes())?;
-    let written = match form {
+fn write_made<A: Allocator>(call: &mut Call<'_>, out: &mut Vec<u8, A>) -> Result<(), Error> {
+    let (form, index) = (call.word(), call.first_number() as usize);
+    let name = call.word();
+    let value = call.copy(call.rest().as_bytes());
+    match form {
         "static-name" => LiteralWithNameRef::new_static(index, value).encode(out),
         "name" => LiteralWithNameRef::new_dynamic(index, value).encode(out),
         "post-base-name" => LiteralWithPostBaseNameRef::new(index, value).encode(out),
-        "literal" => Literal::new(name, value).encode(out),
         "insert-static-name" => InsertWithNameRef::new_static(index, value).encode(out),
         "insert-name" => InsertWithNameRef::new_dynamic(index, value).encode(out),
+        _ => write_named(form, call.copy(name.as_bytes()), value, call, out),
+    }
+}
+
+/// Writes a line or an instruction that owns a name and a value.
+fn write_named<A: Allocator>(
+    form: &str,
+    name: Vec<u8>,
+    value: Vec<u8>,
+    call: &mut Call<'_>,
+    out: &mut Vec<u8, A>,
+) -> Result<(), Error> {
+    match form {
+        "literal" => Literal::new(name, value).encode(out),
         "insert" => InsertWithoutNameRef::new(name, value).encode(out),
-        _ => bail!("there is no form {form}"),
-    };
-    Ok(written?)
+        _ => {
+            call.fail("there is no such form");
+            Ok(())
+        }
+    }
 }
 
 /// Writes a line or an instruction of an index or a name, and a value, that are lent.
-fn write_lent<A: Allocator>(form: &str, words: &mut Words, out: &mut Vec<u8, A>) -> Result<()> {
-    let index = words.first_number() as usize;
-    let name = words.word().as_bytes();
-    let value = words.rest.as_bytes();
-    let written = match form {
+fn write_lent<A: Allocator>(
+    form: &str,
+    call: &mut Call<'_>,
+    out: &mut Vec<u8, A>,
+) -> Result<(), Error> {
+    let index = call.first_number() as usize;
+    let name = call.word().as_bytes();
+    let value = call.rest().as_bytes();
+    match form {
         "static-name" => LiteralWithNameRef::write_static(index, value, out),
         "name" => LiteralWithNameRef::write_dynamic(index, value, out),
         "post-base-name" => LiteralWithPostBaseNameRef::write(index, value, out),
@@ -183,7 +252,9 @@ fn write_lent<A: Allocator>(form: &str, words: &mut Words, out: &mut Vec<u8, A>)
         "insert-static-name" => InsertWithNameRef::write_static(index, value, out),
         "insert-name" => InsertWithNameRef::write_dynamic(index, value, out),
         "insert" => InsertWithoutNameRef::write(name, value, out),
-        _ => bail!("there is no form {form}"),
-    };
-    Ok(written?)
+        _ => {
+            call.fail("there is no such form");
+            Ok(())
+        }
+    }
 }

@@ -1,6 +1,6 @@
 //! The streams of a run, in memory.
 
-use std::alloc::{AllocError, Global};
+use std::alloc::Global;
 use std::io::{self, ErrorKind, Read, Write};
 
 /// An input. A broken one gives a byte at a time, and fails after the last.
@@ -28,31 +28,31 @@ impl Read for Input<'_> {
 #[derive(Drop)]
 pub(crate) struct Output {
     pub(crate) taken: Vec<u8>,
-    room: Option<usize>,
+    room: usize,
     is_interrupted: bool,
 }
 
 impl Output {
-    /// An output with a room for this many bytes, for which it has the memory; or one that takes all.
-    pub(crate) fn new(alloc: Global, room: Option<usize>) -> Result<Output, AllocError> {
-        Ok(Output {
-            taken: Vec::with_capacity(alloc, room.unwrap_or(0))?,
+    /// An output with a room for this many bytes; the greatest number is no room: it takes all.
+    pub(crate) fn new(alloc: Global, room: usize) -> Output {
+        Output {
+            taken: Vec::new(alloc),
             room,
             is_interrupted: false,
-        })
+        }
     }
 }
 
 impl Write for Output {
     fn write(&mut self, buf: &[u8]) -> io::Result<usize> {
-        let Some(room) = self.room else {
+        if self.room == usize::MAX {
             return self.taken.write(buf);
-        };
+        }
         self.is_interrupted = !self.is_interrupted;
         if self.is_interrupted {
             return Err(io::Error::from(ErrorKind::Interrupted));
         }
-        if self.taken.len() >= room {
+        if self.taken.len() >= self.room {
             return Err(io::Error::from(ErrorKind::BrokenPipe));
         }
         let Some(first) = buf.first() else {

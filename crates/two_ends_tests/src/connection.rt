@@ -1,18 +1,14 @@
 //! A connection: two ends as the peers of a connection have them, and what is between them.
 
-use crate::answers::{push_numbered, push_refused, push_word};
 use crate::lawful::{Ends, Rest};
-use anyhow::{Context, Result, ensure};
 use qpack_connection::decoder::{DecoderSettings, DecodingError};
 use qpack_connection::encoder::EncodingError;
 use qpack_connection::{
     ConnectionSettings, Event, FieldSection, Outcome, OwnedFieldLine, Reading, Skip, Wish,
     connection,
 };
-use qpack_testing::again;
-use qpack_testing::cases::{Subject, Words, push_field, read_fields};
+use qpack_testing::cases::{Call, Field, Subject};
 use std::alloc::Global;
-use std::fmt::Write;
 
 /// A connection. It is given an event again that was refused memory.
 #[derive(Drop)]
@@ -23,41 +19,44 @@ pub(crate) struct Connection {
 
 /// Reads settings: the maximum capacity, the limit of blocked streams, the encoder's capacity, and how many sections
 /// may be unacknowledged.
-pub(crate) fn read_settings(settings: &mut Words<'_>) -> Result<ConnectionSettings> {
-    Ok(ConnectionSettings {
+pub(crate) fn read_settings(call: &mut Call<'_>) -> ConnectionSettings {
+    ConnectionSettings {
         decoder: DecoderSettings {
-            max_capacity: settings.count()?,
-            max_blocked: settings.count()?,
+            max_capacity: call.count(),
+            max_blocked: call.count(),
             max_section_size: 1_000,
         },
-        capacity: settings.count()?,
-        most_unacknowledged: settings.count()?,
-    })
+        capacity: call.count(),
+        most_unacknowledged: call.count(),
+    }
 }
 
 impl Subject for Connection {
-    fn begin(alloc: Global, settings: &mut Words<'_>, _size: usize) -> Result<Connection> {
-        let settings = read_settings(settings)?;
-        Ok(Connection {
-            ends: connection::Connection::new(alloc, settings)?,
+    fn begin(call: &mut Call<'_>, _size: usize) -> Option<Connection> {
+        let settings = read_settings(call);
+        Some(Connection {
+            ends: connection::Connection::new(call.alloc(), settings).ok()?,
             lacked_memory: false,
         })
     }
 
-    fn call(
-        &mut self,
-        alloc: Global,
-        word: &str,
-        words: &mut Words<'_>,
-        answer: &mut String,
-    ) -> Result<()> {
+    fn make(&mut self, word: &str, call: &mut Call<'_>) {
         if word == "acks" {
             // A connection acknowledges by itself.
-            words.number()?;
-            return push_word(answer, "skipped 4");
+            call.number();
+            call.say("skipped 4");
+            return;
         }
-        let outcome = self.step(alloc, word, words)?;
-        push_outcome(answer, &outcome)
+        let words = call.rest();
+        let outcome = self.step(word, call);
+        if wants_memory(&outcome) {
+            self.lacked_memory = true;
+            call.set_rest(words);
+            let outcome = self.step_again(word, call);
+            show_outcome(call, &outcome);
+        } else {
+            show_outcome(call, &outcome);
+        }
     }
 
     fn lacked_memory(&self) -> bool {
@@ -66,17 +65,19 @@ impl Subject for Connection {
 }
 
 impl Connection {
-    /// Gives the event of a call, a second time if it was refused memory.
-    fn step(&mut self, alloc: Global, word: &str, words: &mut Words<'_>) -> Result<Outcome> {
-        let call = *words;
-        let event = event_of(alloc, word, words)?;
-        let outcome = self.ends.step(event);
-        if !wants_memory(&outcome) {
-            return Ok(outcome);
+    /// Gives the event of a call.
+    fn step(&mut self, word: &str, call: &mut Call<'_>) -> Outcome {
+        let event = event_of(word, call);
+        self.ends.step(event)
+    }
+
+    /// Gives an event after one that was refused memory: the same, or a delivery of no bytes more, since some of a number
+    /// of bytes may have been taken.
+    fn step_again(&mut self, word: &str, call: &mut Call<'_>) -> Outcome {
+        if word == "to-decoder" && call.amount() != usize::MAX {
+            return self.ends.step(Event::ToDecoder(0));
         }
-        self.lacked_memory = true;
-        let event = event_again(alloc, word, call)?;
-        Ok(self.ends.step(event))
+        self.step(word, call)
     }
 }
 
@@ -85,68 +86,56 @@ impl Ends for Connection {
         self.ends.decoder().table().total_inserted()
     }
 
-    fn rest(&self) -> Result<Rest> {
+    fn rest(&self) -> Rest {
         let (encoder, decoder) = (self.ends.encoder(), self.ends.decoder());
         let failed = encoder.failure().is_some() || decoder.failure().is_some();
-        ensure!(!failed, "an end failed");
-        let waiting = (encoder.waiting(), decoder.waiting(), decoder.blocked());
-        ensure!(waiting == (0, 0, 0), "an end waits: {waiting:?}");
-        Ok(Rest {
+        let waits = (encoder.waiting(), decoder.waiting(), decoder.blocked()) != (0, 0, 0);
+        Rest {
+            is_sound: !failed && !waits,
             unacknowledged: encoder.unacknowledged(),
             blocked: encoder.blocked(),
-        })
+        }
     }
-}
-
-/// Reads the event that is given after one that was refused memory: the same, or a delivery of no bytes more, since
-/// some of a number of bytes may have been taken.
-fn event_again(alloc: Global, word: &str, call: Words<'_>) -> Result<Event> {
-    let mut words = call;
-    if word == "to-decoder" && call.rest != "all" {
-        return Ok(Event::ToDecoder(0));
-    }
-    event_of(alloc, word, &mut words)
 }
 
 /// Reads the event of a call.
-pub(crate) fn event_of(alloc: Global, word: &str, words: &mut Words<'_>) -> Result<Event> {
+pub(crate) fn event_of(word: &str, call: &mut Call<'_>) -> Event {
     if word == "encodes" {
-        return Ok(Event::Encode(words.number()?, owned_fields(alloc, words)?));
+        return Event::Encode(call.number(), owned_fields(call));
     }
-    numbered_event(word, words.amount()?).context("a connection has no such call")
-}
-
-/// Returns the event of a number that a word names.
-fn numbered_event(word: &str, number: usize) -> Option<Event> {
-    Some(match word {
+    let number = call.amount();
+    match word {
         "decodes" => Event::Decode(number as u64),
         "to-decoder" => Event::ToDecoder(number),
         "to-encoder" => Event::ToEncoder(number),
         "cancels" => Event::Cancel(number as u64),
         "sets" => Event::SetCapacity(number),
-        _ => return None,
-    })
+        _ => {
+            call.fail("a connection has no such call");
+            Event::ToDecoder(0)
+        }
+    }
 }
 
 /// What the marks of cases ask.
 const WISHES: [Wish; 4] = [Wish::Unmarked, Wish::Never, Wish::Reuse, Wish::Insert];
 
-/// Reads the fields of the words that are left, each with its wish, a second time in case memory was refused.
-fn owned_fields(alloc: Global, words: &mut Words<'_>) -> Result<Vec<OwnedFieldLine>> {
-    let text = words.rest;
-    words.rest = "";
-    again(|| copy_fields(alloc, text))
+/// Reads the fields of the words that are left, each with its wish.
+fn owned_fields(call: &mut Call<'_>) -> Vec<OwnedFieldLine> {
+    let mut owned = Vec::new(call.alloc());
+    for field in &call.fields() {
+        if push_owned(call.alloc(), &mut owned, field).is_none() {
+            call.lack_memory();
+        }
+    }
+    owned
 }
 
-/// Reads fields, each with its wish.
-fn copy_fields(alloc: Global, text: &str) -> Result<Vec<OwnedFieldLine>> {
-    let mut owned = Vec::new(alloc);
-    for field in &read_fields(alloc, text)? {
-        let mut line = OwnedFieldLine::copy(alloc, field.as_line())?;
-        line.wish = field.mark.among(WISHES);
-        owned.push(line)?;
-    }
-    Ok(owned)
+/// Appends a field with its wish. Returns nothing if memory was refused.
+fn push_owned(alloc: Global, owned: &mut Vec<OwnedFieldLine>, field: &Field) -> Option<()> {
+    let mut line = OwnedFieldLine::copy(alloc, field.as_line()).ok()?;
+    line.wish = field.mark.among(WISHES);
+    owned.push(line).ok()
 }
 
 /// Whether an event was refused memory.
@@ -164,44 +153,59 @@ fn wants_memory(outcome: &Outcome) -> bool {
 
 /// Appends an outcome, in the words of a session: a section that was decoded is its required insert count, whether that
 /// is above 0, and its fields.
-pub(crate) fn push_outcome(answer: &mut String, outcome: &Outcome) -> Result<()> {
+pub(crate) fn show_outcome(call: &mut Call<'_>, outcome: &Outcome) {
     match outcome {
-        Outcome::Encoded(Ok(required)) => push_numbered(answer, "encoded", *required),
-        Outcome::Delivered(Ok(received)) => push_numbered(answer, "received", *received),
-        Outcome::Heard(Ok(())) => push_word(answer, "heard"),
-        Outcome::Cancelled(Ok(())) => push_word(answer, "cancelled"),
-        Outcome::CapacitySet(Ok(())) => push_word(answer, "capacity"),
-        Outcome::Skipped(Skip::NothingToDecode) => push_word(answer, "skipped 2"),
-        Outcome::Skipped(Skip::StreamCancelled) => push_word(answer, "skipped 3"),
-        Outcome::Decoded(Ok(reading), fields) => push_reading(answer, *reading, fields),
+        Outcome::Encoded(Ok(required)) => call.say_number("encoded ", *required),
+        Outcome::Delivered(Ok(received)) => call.say_number("received ", *received),
+        Outcome::Decoded(Ok(reading), fields) => show_reading(call, *reading, fields),
         Outcome::Decoded(Err(error), _)
         | Outcome::Delivered(Err(error))
-        | Outcome::Cancelled(Err(error)) => push_refused(answer, error),
+        | Outcome::Cancelled(Err(error)) => show_decoding_error(call, *error),
         Outcome::Encoded(Err(error))
         | Outcome::CapacitySet(Err(error))
-        | Outcome::Heard(Err(error)) => push_refused(answer, error),
-        Outcome::NoRoom => push_word(answer, "refused Memory"),
+        | Outcome::Heard(Err(error)) => show_encoding_error(call, *error),
+        _ => call.say(word_of(outcome)),
     }
+}
+
+/// The word for an outcome that has no part.
+fn word_of(outcome: &Outcome) -> &'static str {
+    match outcome {
+        Outcome::Heard(Ok(())) => "heard",
+        Outcome::Cancelled(Ok(())) => "cancelled",
+        Outcome::CapacitySet(Ok(())) => "capacity",
+        Outcome::Skipped(Skip::NothingToDecode) => "skipped 2",
+        Outcome::Skipped(Skip::StreamCancelled) => "skipped 3",
+        _ => "refused Memory",
+    }
+}
+
+/// Appends why a decoding end refuses an event.
+fn show_decoding_error(call: &mut Call<'_>, error: DecodingError) {
+    call.say("refused ");
+    call.show_parts(&error);
+}
+
+/// Appends why an encoding end refuses an event.
+fn show_encoding_error(call: &mut Call<'_>, error: EncodingError) {
+    call.say("refused ");
+    call.show_parts(&error);
 }
 
 /// Appends what a section was read as. One that waits has no fields.
-fn push_reading(answer: &mut String, reading: Reading, fields: &FieldSection) -> Result<()> {
+fn show_reading(call: &mut Call<'_>, reading: Reading, fields: &FieldSection) {
     match reading {
         Reading::Fields { required } => {
-            write!(answer, "decoded {required} {}", required > 0)?;
-            push_fields(answer, fields)
+            call.say_number("decoded ", required);
+            call.say(" ");
+            call.show(&(required > 0));
         }
         Reading::Blocked { required } => {
-            ensure!(fields.is_empty(), "a section that waits has fields");
-            push_numbered(answer, "missing", required)
+            call.say_number("missing ", required);
+            call.holds(fields.is_empty(), "a section that waits has fields");
         }
     }
-}
-
-/// Appends the fields of a section.
-fn push_fields(answer: &mut String, fields: &FieldSection) -> Result<()> {
     for field in fields.iter() {
-        push_field(answer, field)?;
+        call.show_field(field);
     }
-    Ok(())
 }

@@ -1,22 +1,22 @@
 //! The rules for two ends, whatever is encoded, delivered and cancelled: each section is decoded to the fields that
 //! were passed to its encode, in order, or waits for insertions, and no stream is refused (RFC 9204, section 2).
 
-use anyhow::{Context, Result, ensure};
-use qpack_testing::cases::{Subject, Words, push_count, push_field, read_fields};
-use std::alloc::Global;
+use qpack_testing::cases::{Call, Subject};
 
 /// Two ends, and what is between them.
 pub(crate) trait Ends: Subject {
     /// Returns how many insertions the decoder received.
     fn inserted(&self) -> usize;
 
-    /// Returns what the encoder still waits for. Fails if an end failed, or waits for bytes.
-    fn rest(&self) -> Result<Rest>;
+    /// Returns what the encoder still waits for.
+    fn rest(&self) -> Rest;
 }
 
-/// How many sections the encoder waits for: unacknowledged ones, and blocked ones.
-#[derive(Clone, Copy, PartialEq)]
+/// Whether no end failed or waits for bytes, and how many sections the encoder waits for: unacknowledged ones, and
+/// blocked ones.
+#[derive(Clone, Copy)]
 pub(crate) struct Rest {
+    pub(crate) is_sound: bool,
     pub(crate) unacknowledged: usize,
     pub(crate) blocked: usize,
 }
@@ -58,7 +58,7 @@ struct Stream {
 impl Stream {
     /// The fields of the section that is decoded next.
     fn next(&self) -> Option<&str> {
-        Some(self.handed.get(self.decoded)?.as_str().trim_start())
+        Some(self.handed.get(self.decoded)?.as_str())
     }
 
     /// Whether a call on the stream may be skipped with this answer: its number is too large, a decode has no section,
@@ -72,73 +72,52 @@ impl Stream {
         }
     }
 
-    /// Notes the answer of an encode of these fields.
-    fn note_encode(&mut self, handed: String, answer: &str) -> Result<()> {
+    /// Notes the answer of an encode of these fields. Returns whether it may give that.
+    fn note_encode(&mut self, handed: String, answer: &str) -> bool {
         if answer.starts_with("encoded ") {
-            return Ok(self.handed.push(handed)?);
+            return self.handed.push(handed).is_ok();
         }
-        ensure!(self.may_skip(answer), "encodes -> {answer}");
-        Ok(())
+        self.may_skip(answer)
     }
 
-    /// Notes the answer of a decode by a decoder that received this many insertions, and counts it.
-    fn note_decode(&mut self, answer: &str, inserted: usize) -> Result<Counts> {
-        let mut parts = Words { rest: answer };
-        match parts.word() {
-            "decoded" => self.count_decoded(parts),
-            "missing" => self.count_missing(parts.count()?, inserted),
-            _ => {
-                ensure!(self.may_skip(answer), "decodes -> {answer}");
-                Ok(Counts::NONE)
-            }
+    /// Notes the answer of a decode by a decoder that received this many insertions, and counts it. Returns nothing if it
+    /// may not give that.
+    fn note_decode(&mut self, answer: &str, inserted: usize) -> Option<Counts> {
+        let mut counts = Counts::NONE;
+        if let Some(section) = answer.strip_prefix("decoded ") {
+            let (_, section) = section.split_once(' ')?;
+            counts.decoded = 1;
+            counts.dynamic = usize::from(section.starts_with("true"));
+            return self.note_decoded(section).then_some(counts);
         }
-    }
-
-    /// Counts a section that was decoded, with the size, whether it required an insertion, and its fields in an answer.
-    fn count_decoded(&mut self, answer: Words<'_>) -> Result<Counts> {
-        let mut parts = answer;
-        parts.word();
-        let is_dynamic = parts.word() == "true";
-        self.note_decoded(parts.rest)?;
-        Ok(Counts {
-            decoded: 1,
-            dynamic: usize::from(is_dynamic),
-            blocked: 0,
-        })
-    }
-
-    /// Counts a section that waits for more insertions than were received.
-    fn count_missing(&self, required: usize, inserted: usize) -> Result<Counts> {
-        let waits = required > inserted && !self.is_cancelled && self.next().is_some();
-        ensure!(waits, "a section does not wait for {required} insertions");
-        Ok(Counts {
-            decoded: 0,
-            dynamic: 0,
-            blocked: 1,
-        })
-    }
-
-    /// Notes the answer of a cancellation.
-    fn note_cancel(&mut self, answer: &str) -> Result<()> {
-        if answer.starts_with("cancelled") {
-            ensure!(!self.is_cancelled, "a stream was cancelled twice");
-            self.is_cancelled = true;
-            return Ok(());
+        if let Some(required) = answer.strip_prefix("missing ") {
+            counts.blocked = 1;
+            let waits = required.parse::<usize>().ok()? > inserted;
+            let may_wait = waits && !self.is_cancelled && self.next().is_some();
+            return may_wait.then_some(counts);
         }
-        let may_skip = answer != "skipped 2" && self.may_skip(answer);
-        ensure!(may_skip, "cancels -> {answer}");
-        Ok(())
+        self.may_skip(answer).then_some(counts)
     }
 
-    /// Notes a section that was decoded to these fields.
-    fn note_decoded(&mut self, fields: &str) -> Result<()> {
-        let handed = self.next().context("no section was encoded")?;
-        ensure!(
-            fields == handed,
-            "decoded to `{fields}`, and encoded from `{handed}`"
-        );
+    /// Notes a section that was decoded: whether it required an insertion, and its fields. Returns whether these are the
+    /// fields of the next.
+    fn note_decoded(&mut self, section: &str) -> bool {
+        let fields = section.find(" | ").and_then(|at| section.get(at..));
+        let is_next = self
+            .next()
+            .is_some_and(|handed| handed == fields.unwrap_or(""));
         self.decoded = self.decoded.saturating_add(1);
-        Ok(())
+        is_next
+    }
+
+    /// Notes the answer of a cancellation. Returns whether it may give that.
+    fn note_cancel(&mut self, answer: &str) -> bool {
+        if answer.starts_with("cancelled") {
+            let is_first = !self.is_cancelled;
+            self.is_cancelled = true;
+            return is_first;
+        }
+        answer != "skipped 2" && self.may_skip(answer)
     }
 }
 
@@ -151,35 +130,34 @@ pub(crate) struct Lawful<S> {
 }
 
 impl<S: Ends> Subject for Lawful<S> {
-    fn begin(alloc: Global, settings: &mut Words<'_>, size: usize) -> Result<Lawful<S>> {
-        Ok(Lawful {
-            ends: S::begin(alloc, settings, size)?,
-            streams: Vec::new(alloc),
+    fn begin(call: &mut Call<'_>, size: usize) -> Option<Lawful<S>> {
+        Some(Lawful {
+            ends: S::begin(call, size)?,
+            streams: Vec::new(call.alloc()),
             counts: Counts::NONE,
         })
     }
 
-    fn call(
-        &mut self,
-        alloc: Global,
-        word: &str,
-        words: &mut Words<'_>,
-        answer: &mut String,
-    ) -> Result<()> {
+    fn make(&mut self, word: &str, call: &mut Call<'_>) {
         match word {
-            "encodes" => self.encode(alloc, words, answer),
-            "decodes" => self.decode(alloc, words, answer),
-            "cancels" => self.cancel(alloc, words, answer),
+            "encodes" => self.encode(call),
+            "decodes" => self.decode(call),
+            "cancels" => self.cancel(call),
             "decoded" => {
-                let at = self.place_of(alloc, words.number()?)?;
-                push_count(answer, self.streams.get(at).context("no stream")?.decoded)
+                let number = call.number();
+                let stream = self.streams.iter().find(|stream| stream.number == number);
+                call.show(&stream.map_or(0, |stream| stream.decoded));
             }
             _ => {
-                self.ends.call(alloc, word, words, answer)?;
-                ensure!(may_answer(word, answer), "{word} -> {answer}");
-                Ok(())
+                self.ends.make(word, call);
+                call.holds(may_answer(word, call.answer()), "its answer is not lawful");
             }
         }
+    }
+
+    // The trait's body again: the prover takes none from a trait if the type has parameters.
+    fn calls_that_can_fail() -> &'static [&'static str] {
+        &[]
     }
 
     fn lacked_memory(&self) -> bool {
@@ -215,10 +193,12 @@ impl<S: Ends> Lawful<S> {
         self.counts
     }
 
-    /// Returns what the encoder waits for, and whether a stream was cancelled.
-    pub(crate) fn rest(&self) -> Result<(Rest, bool)> {
+    /// Returns whether all is at rest: no end failed or waits for bytes, and each section is acknowledged, unless a stream
+    /// was cancelled.
+    pub(crate) fn is_at_rest(&self) -> bool {
+        let rest = self.ends.rest();
         let is_cancelled = self.streams.iter().any(|stream| stream.is_cancelled);
-        Ok((self.ends.rest()?, is_cancelled))
+        rest.is_sound && (is_cancelled || rest.unacknowledged == 0 && rest.blocked == 0)
     }
 
     /// Whether a stream has a section to decode, and is not cancelled.
@@ -228,93 +208,77 @@ impl<S: Ends> Lawful<S> {
         })
     }
 
-    /// Returns the place of a stream in the list, to which it is added if it is new, with room for a section. Tries a
-    /// second time in case memory was refused.
-    fn place_of(&mut self, alloc: Global, number: u64) -> Result<usize> {
-        if let Ok(at) = self.make_place(alloc, number) {
-            return Ok(at);
-        }
-        self.make_place(alloc, number)
-    }
-
-    /// Returns the place of a stream in the list, to which it is added if it is new, with room for a section.
-    fn make_place(&mut self, alloc: Global, number: u64) -> Result<usize> {
+    /// Returns the place of the stream of a call, to which it is added if it is new, with room for a section.
+    fn place_of(&mut self, call: &mut Call<'_>) -> usize {
+        let number = call.first_number();
         let known = self
             .streams
             .iter()
             .position(|stream| stream.number == number);
-        let at = match known {
-            Some(at) => at,
-            None => {
-                self.streams.push(Stream {
-                    number,
-                    handed: Vec::new(alloc),
-                    decoded: 0,
-                    is_cancelled: false,
-                })?;
-                self.streams.len().saturating_sub(1)
+        let at = known.unwrap_or(self.streams.len());
+        if known.is_none() {
+            let stream = Stream {
+                number,
+                handed: Vec::new(call.alloc()),
+                decoded: 0,
+                is_cancelled: false,
+            };
+            if self.streams.push(stream).is_err() {
+                call.lack_memory();
             }
-        };
-        self.stream_at(at)?.handed.reserve(1)?;
-        Ok(at)
+        }
+        at
     }
 
-    /// Makes a call on a stream, and returns the stream's place.
-    fn call_on_stream(
-        &mut self,
-        alloc: Global,
-        word: &str,
-        words: &mut Words<'_>,
-        answer: &mut String,
-    ) -> Result<usize> {
-        let at = self.place_of(alloc, words.first_number())?;
-        self.ends.call(alloc, word, words, answer)?;
-        Ok(at)
-    }
-
-    /// Returns the stream at a place.
-    fn stream_at(&mut self, at: usize) -> Result<&mut Stream> {
-        self.streams.get_mut(at).context("no stream")
+    /// Makes a call on a stream, and returns the stream, unless memory was refused.
+    fn call_on_stream(&mut self, word: &str, call: &mut Call<'_>) -> Option<&mut Stream> {
+        let at = self.place_of(call);
+        self.ends.make(word, call);
+        self.streams.get_mut(at)
     }
 
     /// Encodes a section, and notes its fields.
-    fn encode(&mut self, alloc: Global, words: &mut Words<'_>, answer: &mut String) -> Result<()> {
-        let handed = handed_of(alloc, *words)?;
-        let at = self.call_on_stream(alloc, "encodes", words, answer)?;
-        self.stream_at(at)?.note_encode(handed, answer)
+    fn encode(&mut self, call: &mut Call<'_>) {
+        let handed = handed_of(call);
+        let stream = self.call_on_stream("encodes", call);
+        let is_lawful = stream.is_some_and(|stream| stream.note_encode(handed, call.answer()));
+        call.holds(is_lawful, "its answer is not lawful");
     }
 
     /// Decodes a section, and notes it.
-    fn decode(&mut self, alloc: Global, words: &mut Words<'_>, answer: &mut String) -> Result<()> {
-        let at = self.call_on_stream(alloc, "decodes", words, answer)?;
+    fn decode(&mut self, call: &mut Call<'_>) {
+        let at = self.place_of(call);
+        self.ends.make("decodes", call);
         let inserted = self.ends.inserted();
-        let counts = self.stream_at(at)?.note_decode(answer, inserted)?;
-        self.counts.add(counts);
-        Ok(())
+        let stream = self.streams.get_mut(at);
+        let counts = stream.and_then(|stream| stream.note_decode(call.answer(), inserted));
+        call.holds(counts.is_some(), "its answer is not lawful");
+        self.counts.add(counts.unwrap_or(Counts::NONE));
     }
 
     /// Cancels a stream, and notes that.
-    fn cancel(&mut self, alloc: Global, words: &mut Words<'_>, answer: &mut String) -> Result<()> {
-        let at = self.call_on_stream(alloc, "cancels", words, answer)?;
-        self.stream_at(at)?.note_cancel(answer)
+    fn cancel(&mut self, call: &mut Call<'_>) {
+        let stream = self.call_on_stream("cancels", call);
+        let is_lawful = stream.is_some_and(|stream| stream.note_cancel(call.answer()));
+        call.holds(is_lawful, "its answer is not lawful");
     }
 }
 
-/// Returns the fields of an encode as a decode prints them, after a space. Tries a second time in case memory was refused.
-fn handed_of(alloc: Global, words: Words<'_>) -> Result<String> {
-    let mut words = words;
-    words.number()?;
-    if let Ok(handed) = write_handed(alloc, words.rest) {
-        return Ok(handed);
+/// Returns the fields of an encode as a decode prints them. Leaves the words.
+fn handed_of(call: &mut Call<'_>) -> String {
+    let words = call.rest();
+    call.number();
+    for field in &call.fields() {
+        call.show_field(field.as_line());
     }
-    write_handed(alloc, words.rest)
-}
-
-/// Writes fields as a decode prints them.
-fn write_handed(alloc: Global, text: &str) -> Result<String> {
-    let mut handed = String::new(alloc);
-    for field in &read_fields(alloc, text)? {
-        push_field(&mut handed, field.as_line())?;
+    call.set_rest(words);
+    let handed = String::from_str(call.alloc(), call.answer());
+    call.clear();
+    match handed {
+        Ok(handed) => handed,
+        Err(_) => {
+            call.lack_memory();
+            String::new(call.alloc())
+        }
     }
-    Ok(handed)
 }

@@ -1,7 +1,6 @@
 //! Cases of sessions and connections: both ends and what is between them, in the format of `qpack_testing::cases`.
 #![tactic(auto)]
 
-mod answers;
 mod connection;
 mod lawful;
 mod round;
@@ -9,14 +8,13 @@ mod runs;
 mod scripts;
 mod session;
 
-use anyhow::{Result, bail};
+use anyhow::Result;
 use connection::Connection;
 use lawful::Lawful;
-use qpack_testing::cases::{Kinds, Line, Words, hold, hold_files};
+use qpack_testing::cases::{Kinds, Run, answer_calls, hold, hold_files};
 use runs::Runs;
 use scripts::Scripts;
 use session::Session;
-use std::alloc::Global;
 
 /// The files of cases.
 const FILES: [&str; 6] = [
@@ -32,19 +30,13 @@ const FILES: [&str; 6] = [
 struct TwoEnds;
 
 impl Kinds for TwoEnds {
-    fn hold_kind(
-        alloc: Global,
-        kind: &str,
-        settings: &mut Words<'_>,
-        size: usize,
-        calls: &[Line<'_>],
-    ) -> Result<()> {
+    fn hold_kind(kind: &str, run: &mut Run<'_>) {
         match kind {
-            "session" => hold::<Lawful<Session>>(alloc, settings, size, calls),
-            "connection" => hold::<Lawful<Connection>>(alloc, settings, size, calls),
-            "scripts" => hold::<Scripts>(alloc, settings, size, calls),
-            "runs" => hold::<Runs>(alloc, settings, size, calls),
-            _ => bail!("there is no {kind}"),
+            "session" => hold::<Lawful<Session>>(run),
+            "connection" => hold::<Lawful<Connection>>(run),
+            "scripts" => hold::<Scripts>(run),
+            "runs" => hold::<Runs>(run),
+            _ => run.fail("there is no such kind"),
         }
     }
 }
@@ -52,4 +44,9 @@ impl Kinds for TwoEnds {
 /// Runs the tests. Fails at the first one that does not hold.
 pub fn run(rt: &HostRuntime) -> Result<()> {
     hold_files::<TwoEnds>(rt, &FILES)
+}
+
+/// Prints the answers of calls.
+pub fn answer(rt: &HostRuntime, calls: &str) -> Result<()> {
+    answer_calls::<TwoEnds>(rt, calls)
 }

@@ -2,70 +2,65 @@
 
 use crate::lawful::Lawful;
 use crate::session::Session;
-use anyhow::{Result, ensure};
-use qpack_testing::cases::{Subject, Words, make_call};
-use std::alloc::Global;
+use qpack_testing::cases::{Call, Subject, make_call};
+use std::fmt::Write;
 
 /// Sends fields round in a session of these settings, which hold one entry.
-pub(crate) fn go_round(alloc: Global, settings: &str, fields: usize) -> Result<()> {
-    let mut words = Words { rest: settings };
-    words.word();
-    let mut session: Lawful<Session> = Lawful::begin(alloc, &mut words, 0)?;
-    go_all_round(alloc, &mut session, fields)
+pub(crate) fn go_round(call: &mut Call<'_>, settings: &str, fields: usize) {
+    let mut inner = Call::new(call.alloc());
+    inner.take(settings.strip_prefix("session ").unwrap_or(""));
+    match Lawful::<Session>::begin(&mut inner, 0) {
+        Some(mut session) => send_all(call, &mut session, fields),
+        None => call.fail("the settings are refused"),
+    }
 }
 
 /// Sends the fields from `n: 1` on round.
-fn go_all_round(alloc: Global, session: &mut Lawful<Session>, fields: usize) -> Result<()> {
-    let mut answer = String::new(alloc);
+fn send_all(call: &mut Call<'_>, session: &mut Lawful<Session>, fields: usize) {
     for n in 1..=fields {
-        send(alloc, session, n, &mut answer)?;
-        answer_field(alloc, session, n, &mut answer)?;
+        let mut lines = String::new(call.alloc());
+        call.holds(write_calls(&mut lines, n), "out of memory");
+        give_all(call, session, lines.as_str());
     }
-    Ok(())
 }
 
-/// Encodes a field, which is inserted. The section names it by the insert count in a window of four (RFC 9204, section
-/// 4.5.1.1).
-fn send(alloc: Global, session: &mut Lawful<Session>, n: usize, answer: &mut String) -> Result<()> {
-    let call = format!(in alloc; "encodes 0 | n = {n}")?;
-    make_call(alloc, session, call.as_str(), answer)?;
-    let begins = format!(in alloc; "encoded {n} 0{}8010 ", n % 4 + 1)?;
-    ensure!(
-        answer.starts_with(begins.as_str()),
-        "{call} -> {answer}, and not {begins}"
-    );
-    Ok(())
+/// Writes the calls that send a field, each with its answer, or what that begins with, after a TAB. The section names the
+/// field by the insert count in a window of four (RFC 9204, section 4.5.1.1). Returns whether there was memory.
+fn write_calls(lines: &mut String, n: usize) -> bool {
+    write!(
+        lines,
+        "encodes 0 | n = {n}\tencoded {n} 0{}8010 \n",
+        n % 4 + 1
+    )
+    .is_ok()
+        && write!(lines, "to-decoder all\treceived {n} 01\n").is_ok()
+        && write!(lines, "decodes 0\tdecoded {} true | n = {n}\n", size_of(n)).is_ok()
+        && lines
+            .push_str("acks 0\tacked 80\nto-encoder all\theard\n")
+            .is_ok()
 }
 
-/// Delivers the field, decodes and acknowledges it.
-fn answer_field(
-    alloc: Global,
-    session: &mut Lawful<Session>,
-    n: usize,
-    answer: &mut String,
-) -> Result<()> {
-    let received = format!(in alloc; "received {n} 01")?;
-    is_answered(alloc, session, "to-decoder all", received.as_str(), answer)?;
-    let digits = n.to_string(alloc)?;
-    let size = digits.len().saturating_add(33);
-    let decoded = format!(in alloc; "decoded {size} true | n = {digits}")?;
-    is_answered(alloc, session, "decodes 0", decoded.as_str(), answer)?;
-    is_answered(alloc, session, "acks 0", "acked 80", answer)?;
-    is_answered(alloc, session, "to-encoder all", "heard", answer)
+/// The size of the field of a number below 10,000 (RFC 9204, section 3.2.1).
+fn size_of(n: usize) -> usize {
+    match n {
+        0..=9 => 34,
+        10..=99 => 35,
+        100..=999 => 36,
+        _ => 37,
+    }
 }
 
-/// Makes a call, which must give this answer.
-fn is_answered(
-    alloc: Global,
-    session: &mut Lawful<Session>,
-    call: &str,
-    expected: &str,
-    answer: &mut String,
-) -> Result<()> {
-    make_call(alloc, session, call, answer)?;
-    ensure!(
-        answer.as_str() == expected,
-        "{call} -> {answer}, and not {expected}"
-    );
-    Ok(())
+/// Makes the calls of lines, which must give their answers.
+fn give_all(call: &mut Call<'_>, session: &mut Lawful<Session>, lines: &str) {
+    let mut inner = Call::new(call.alloc());
+    for line in lines.lines() {
+        let (text, expected) = line.split_once('\t').unwrap_or((line, ""));
+        make_call(session, text, &mut inner);
+        let is_begun = expected.ends_with(' ') && inner.answer().starts_with(expected);
+        let is_answered = is_begun || inner.answer() == expected;
+        call.holds(
+            is_answered && inner.fault().is_empty(),
+            "a field does not go round",
+        );
+    }
 }

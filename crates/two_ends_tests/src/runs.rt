@@ -1,14 +1,10 @@
 //! Lists of events that are given at once, and what begins a session.
 
-use crate::answers::push_refused;
 use crate::{connection, session};
-use anyhow::{Result, bail};
 use h3_qpack::dynamic::{DynamicTable, Error};
 use h3_qpack::session::{Event, Outcome, Session, run};
 use qpack_connection::connection as ends;
-use qpack_testing::cases::{Subject, Words, push_capacity};
-use std::alloc::Global;
-use std::fmt::Write;
+use qpack_testing::cases::{Call, Subject};
 
 /// The calls of the events that were given so far.
 #[derive(Drop)]
@@ -23,200 +19,175 @@ type SessionRun = Result<(Session, Vec<Outcome>), Error>;
 const REFUSED: &str = "refused Memory";
 
 impl Subject for Runs {
-    fn begin(alloc: Global, _settings: &mut Words<'_>, _size: usize) -> Result<Runs> {
-        Ok(Runs {
-            events: Vec::new(alloc),
+    fn begin(call: &mut Call<'_>, _size: usize) -> Option<Runs> {
+        Some(Runs {
+            events: Vec::new(call.alloc()),
         })
     }
 
-    fn call(
-        &mut self,
-        alloc: Global,
-        word: &str,
-        words: &mut Words<'_>,
-        answer: &mut String,
-    ) -> Result<()> {
-        let call = *words;
-        let made = self.make(alloc, word, words, answer);
-        if made.is_ok() && !answer.as_str().contains(REFUSED) {
-            return Ok(());
+    fn make(&mut self, word: &str, call: &mut Call<'_>) {
+        let words = call.rest();
+        self.make_once(word, call);
+        if call.answer().contains(REFUSED) {
+            // A second time, in case memory was refused.
+            call.clear();
+            call.set_rest(words);
+            self.make_once(word, call);
         }
-        // A second time, in case memory was refused.
-        answer.clear();
-        *words = call;
-        self.make(alloc, word, words, answer)
     }
 }
 
 impl Runs {
     /// Makes a call.
-    fn make(
-        &mut self,
-        alloc: Global,
-        word: &str,
-        words: &mut Words<'_>,
-        answer: &mut String,
-    ) -> Result<()> {
+    fn make_once(&mut self, word: &str, call: &mut Call<'_>) {
         match word {
-            "gives" => self.give(alloc, words),
-            "begins-session" => push_begun(alloc, words, answer),
-            "runs-session" => self.run_session(alloc, words, answer),
-            "runs-connection" => self.run_connection(alloc, words, answer),
-            "equal-events" => push_equals(answer, &self.session_events(alloc)?),
-            "equal-outcomes" => self.push_equal_outcomes(alloc, words, answer),
-            _ => bail!("runs have no call {word}"),
+            "gives" => self.give(call),
+            "begins-session" => show_begun(call),
+            "runs-session" => {
+                let ran = self.run_session(call);
+                show_session_run(call, &ran);
+            }
+            "runs-connection" => self.run_connection(call),
+            "equal-events" => {
+                let events = self.session_events(call);
+                show_equals(call, &events);
+            }
+            "equal-outcomes" => {
+                let ran = self.run_session(call);
+                show_equals_of_run(call, &ran);
+            }
+            _ => call.fail("runs have no such call"),
         }
     }
 
     /// Keeps the call of an event.
-    fn give(&mut self, alloc: Global, words: &mut Words<'_>) -> Result<()> {
-        self.events.push(String::from_str(alloc, words.rest)?)?;
-        words.rest = "";
-        Ok(())
+    fn give(&mut self, call: &mut Call<'_>) {
+        let event = String::from_str(call.alloc(), call.rest());
+        call.set_rest("");
+        let is_kept = event.is_ok_and(|event| self.events.push(event).is_ok());
+        if !is_kept {
+            call.lack_memory();
+        }
     }
 
     /// Runs a session over the events.
-    fn session_run(&self, alloc: Global, words: &mut Words<'_>) -> Result<SessionRun> {
-        let (capacity, limit) = (words.count()?, words.count()?);
-        let events = self.session_events(alloc)?;
-        Ok(run(alloc, capacity, limit, &events))
-    }
-
-    /// Appends the outcomes of a session's run, and the capacity then; or why it is refused.
-    fn run_session(&self, alloc: Global, words: &mut Words<'_>, answer: &mut String) -> Result<()> {
-        push_session_run(answer, &self.session_run(alloc, words)?)
+    fn run_session(&self, call: &mut Call<'_>) -> SessionRun {
+        let (capacity, limit) = (call.count(), call.count());
+        let events = self.session_events(call);
+        run(call.alloc(), capacity, limit, &events)
     }
 
     /// Appends the outcomes of a connection's run, and the capacity then; or why it is refused.
-    fn run_connection(
-        &self,
-        alloc: Global,
-        words: &mut Words<'_>,
-        answer: &mut String,
-    ) -> Result<()> {
-        let settings = connection::read_settings(words)?;
-        let events = self.connection_events(alloc)?;
-        push_connection_run(answer, &ends::run(alloc, settings, events))
-    }
-
-    /// Appends, for each of the outcomes of a session's run, how many of them equal it; or why it is refused.
-    fn push_equal_outcomes(
-        &self,
-        alloc: Global,
-        words: &mut Words<'_>,
-        answer: &mut String,
-    ) -> Result<()> {
-        push_equals_of_run(answer, &self.session_run(alloc, words)?)
+    fn run_connection(&self, call: &mut Call<'_>) {
+        let settings = connection::read_settings(call);
+        let events = self.connection_events(call);
+        match ends::run(call.alloc(), settings, events) {
+            Ok((connection, outcomes)) => show_connection(call, &connection, &outcomes),
+            Err(error) => {
+                call.say("refused ");
+                call.show_parts(&error);
+            }
+        }
     }
 
     /// The events, for a session.
-    fn session_events(&self, alloc: Global) -> Result<Vec<Event>> {
-        let mut events = Vec::new(alloc);
-        for call in &self.events {
-            let mut words = Words {
-                rest: call.as_str(),
-            };
+    fn session_events(&self, call: &mut Call<'_>) -> Vec<Event> {
+        let mut events = Vec::new(call.alloc());
+        for text in &self.events {
+            let mut words = Call::new(call.alloc());
+            words.take(text.as_str());
             let word = words.word();
-            events.push(session::event_of(alloc, word, &mut words)?)?;
+            let is_kept = events.push(session::event_of(word, &mut words)).is_ok();
+            note_event(call, is_kept, &words);
         }
-        Ok(events)
+        events
     }
 
     /// The events, for a connection.
-    fn connection_events(&self, alloc: Global) -> Result<Vec<ends::Event>> {
-        let mut events = Vec::new(alloc);
-        for call in &self.events {
-            let mut words = Words {
-                rest: call.as_str(),
-            };
+    fn connection_events(&self, call: &mut Call<'_>) -> Vec<ends::Event> {
+        let mut events = Vec::new(call.alloc());
+        for text in &self.events {
+            let mut words = Call::new(call.alloc());
+            words.take(text.as_str());
             let word = words.word();
-            events.push(connection::event_of(alloc, word, &mut words)?)?;
+            let is_kept = events.push(connection::event_of(word, &mut words)).is_ok();
+            note_event(call, is_kept, &words);
         }
-        Ok(events)
+        events
     }
+}
+
+/// Notes what went wrong with an event, and whether there was memory for it.
+fn note_event(call: &mut Call<'_>, is_kept: bool, words: &Call<'_>) {
+    if !is_kept || words.lacks_memory() {
+        call.lack_memory();
+    }
+    call.holds(words.fault().is_empty(), "there is no such event");
 }
 
 /// Appends the capacities of the tables of a new session, or why it is refused.
-fn push_begun(alloc: Global, words: &mut Words<'_>, answer: &mut String) -> Result<()> {
-    let (capacity, maximum, limit) = (words.count()?, words.count()?, words.count()?);
-    push_capacities(
-        answer,
-        &Session::with_maximum(alloc, capacity, maximum, limit),
-    )
-}
-
-/// Appends the capacities of the tables of a session, or why it is refused.
-fn push_capacities(answer: &mut String, begun: &Result<Session, Error>) -> Result<()> {
-    match begun {
+fn show_begun(call: &mut Call<'_>) {
+    let (capacity, maximum, limit) = (call.count(), call.count(), call.count());
+    match Session::with_maximum(call.alloc(), capacity, maximum, limit) {
         Ok(session) => {
-            push_table(answer, session.encoder().table())?;
-            answer.push_str(", ")?;
-            push_table(answer, session.decoder().table())
+            show_table(call, session.encoder().table());
+            call.say(", ");
+            show_table(call, session.decoder().table());
         }
-        Err(error) => push_refused(answer, error),
+        Err(error) => show_refused(call, error),
     }
 }
 
+/// Appends why a session is refused.
+fn show_refused(call: &mut Call<'_>, error: Error) {
+    call.say("refused ");
+    call.show_parts(&error);
+}
+
 /// Appends the capacity of a table, and its maximum.
-fn push_table(answer: &mut String, table: &DynamicTable) -> Result<()> {
-    push_capacity(answer, table.max_mem_size(), table.agreed_max())
+fn show_table(call: &mut Call<'_>, table: &DynamicTable) {
+    call.show_capacity(table.max_mem_size(), table.agreed_max());
 }
 
 /// Appends the outcomes of a session's run, and the capacity then; or why it is refused.
-fn push_session_run(answer: &mut String, ran: &SessionRun) -> Result<()> {
+fn show_session_run(call: &mut Call<'_>, ran: &SessionRun) {
     match ran {
-        Ok((session, outcomes)) => push_outcomes(answer, session, outcomes),
-        Err(error) => push_refused(answer, error),
+        Ok((session, outcomes)) => show_outcomes(call, session, outcomes),
+        Err(error) => show_refused(call, *error),
     }
 }
 
 /// Appends the outcomes of a session, and its capacity.
-fn push_outcomes(answer: &mut String, session: &Session, outcomes: &[Outcome]) -> Result<()> {
+fn show_outcomes(call: &mut Call<'_>, session: &Session, outcomes: &[Outcome]) {
     for outcome in outcomes {
-        session::push_outcome(answer, outcome)?;
-        answer.push_str("; ")?;
+        session::show_outcome(call, outcome);
+        call.say("; ");
     }
-    push_table(answer, session.encoder().table())
-}
-
-/// Appends the outcomes of a connection's run, and the capacity then; or why it is refused.
-fn push_connection_run(
-    answer: &mut String,
-    ran: &Result<(ends::Connection, Vec<ends::Outcome>), ends::RunError>,
-) -> Result<()> {
-    match ran {
-        Ok((connection, outcomes)) => push_connection(answer, connection, outcomes),
-        Err(error) => push_refused(answer, error),
-    }
+    show_table(call, session.encoder().table());
 }
 
 /// Appends the outcomes of a connection, and its capacity.
-fn push_connection(
-    answer: &mut String,
-    connection: &ends::Connection,
-    outcomes: &[ends::Outcome],
-) -> Result<()> {
+fn show_connection(call: &mut Call<'_>, ends: &ends::Connection, outcomes: &[ends::Outcome]) {
     for outcome in outcomes {
-        connection::push_outcome(answer, outcome)?;
-        answer.push_str("; ")?;
+        connection::show_outcome(call, outcome);
+        call.say("; ");
     }
-    let table = connection.encoder().table();
-    push_capacity(answer, table.max_mem_size(), table.agreed_max())
+    let table = ends.encoder().table();
+    call.show_capacity(table.max_mem_size(), table.agreed_max());
 }
 
 /// Appends, for each of the outcomes of a session's run, how many of them equal it; or why it is refused.
-fn push_equals_of_run(answer: &mut String, ran: &SessionRun) -> Result<()> {
+fn show_equals_of_run(call: &mut Call<'_>, ran: &SessionRun) {
     match ran {
-        Ok((_, outcomes)) => push_equals(answer, outcomes),
-        Err(error) => push_refused(answer, error),
+        Ok((_, outcomes)) => show_equals(call, outcomes),
+        Err(error) => show_refused(call, *error),
     }
 }
 
 /// Appends, for each of the items, how many of them equal it.
-fn push_equals<T: PartialEq>(answer: &mut String, items: &[T]) -> Result<()> {
+fn show_equals<T: PartialEq>(call: &mut Call<'_>, items: &[T]) {
     for item in items {
         let equal = items.iter().filter(|other| *other == item).count();
-        write!(answer, "{equal}")?;
+        call.show(&equal);
     }
-    Ok(())
 }

@@ -1,15 +1,13 @@
 //! Scripts of calls by chance. Two ends return lawful results for each call, and at the end no section is left on its
 //! way.
 
-use crate::answers::{push_numbered, push_word};
 use crate::connection::Connection;
-use crate::lawful::{Counts, Ends, Lawful, Rest};
+use crate::lawful::{Counts, Ends, Lawful};
 use crate::round::go_round;
 use crate::session::Session;
-use anyhow::{Context, Result, bail, ensure};
 use qpack_testing::Numbers;
-use qpack_testing::cases::{Subject, Words, make_call, push_count};
-use std::alloc::Global;
+use qpack_testing::cases::{Call, Subject, make_call};
+use std::alloc::AllocError;
 use std::fmt::Write;
 
 /// How many scripts one call plays.
@@ -18,8 +16,15 @@ const CASES: usize = 400;
 /// How many calls a script has.
 const CALLS: usize = 60;
 
-/// How many streams a script uses.
-const STREAMS: u64 = 3;
+/// More bytes than are ever on their way.
+const WHOLE: usize = 1_000_000;
+
+/// The streams of a script, and the calls that decode and acknowledge a section of each.
+const STREAMS: [(u64, &str, &str); 3] = [
+    (0, "decodes 0", "acks 0"),
+    (1, "decodes 1", "acks 1"),
+    (2, "decodes 2", "acks 2"),
+];
 
 /// The fields of scripts. A session takes those without a mark, which come first.
 const FIELDS: [&str; 18] = [
@@ -62,71 +67,72 @@ pub(crate) struct Scripts {
 }
 
 impl Subject for Scripts {
-    fn begin(alloc: Global, settings: &mut Words<'_>, _size: usize) -> Result<Scripts> {
+    fn begin(call: &mut Call<'_>, _size: usize) -> Option<Scripts> {
         let bounds = Bounds {
-            fields: settings.count()?,
-            capacity: settings.count()?,
+            fields: call.count(),
+            capacity: call.count(),
         };
-        let ends = settings.rest;
-        settings.rest = "";
-        Ok(Scripts {
+        let ends = call.rest();
+        call.set_rest("");
+        Some(Scripts {
             bounds,
-            settings: String::from_str(alloc, ends)?,
+            settings: String::from_str(call.alloc(), ends).ok()?,
             numbers: Numbers::new(0x9e37_79b9_7f4a_7c15),
             scripts: 0,
             counts: Counts::NONE,
         })
     }
 
-    fn call(
-        &mut self,
-        alloc: Global,
-        word: &str,
-        words: &mut Words<'_>,
-        answer: &mut String,
-    ) -> Result<()> {
+    fn make(&mut self, word: &str, call: &mut Call<'_>) {
         match word {
             "plays" => {
-                for _ in 0..words.count()? {
-                    self.play(alloc)?;
+                for _ in 0..call.count().saturating_mul(CASES) {
+                    self.play(call);
                 }
-                push_word(answer, "done")
+                call.say("done");
             }
             "go-round" => {
-                go_round(alloc, self.settings.as_str(), words.count()?)?;
-                push_word(answer, "done")
+                let fields = call.count();
+                go_round(call, self.settings.as_str(), fields);
+                call.say("done");
             }
             "at-least" => {
-                let least = [words.count()?, words.count()?, words.count()?];
-                Ok(write!(answer, "{}", self.are_at_least(least))?)
+                let least = [call.count(), call.count(), call.count()];
+                call.show(&self.are_at_least(least));
             }
-            "dynamic" => push_count(answer, self.counts.dynamic),
-            "blocked" => push_count(answer, self.counts.blocked),
-            _ => bail!("scripts have no call {word}"),
+            "dynamic" => call.show(&self.counts.dynamic),
+            "blocked" => call.show(&self.counts.blocked),
+            _ => call.fail("scripts have no such call"),
         }
     }
 }
 
 impl Scripts {
-    /// Plays scripts.
-    fn play(&mut self, alloc: Global) -> Result<()> {
-        for _ in 0..CASES {
-            self.scripts = self.scripts.saturating_add(1);
-            let settings = drawn(alloc, self.settings.as_str(), &mut self.numbers)?;
-            let mut words = Words {
-                rest: settings.as_str(),
-            };
-            let counts = match words.word() {
-                "session" => play_one::<Session>(alloc, words, self.bounds, &mut self.numbers)?,
-                "connection" => play_one::<Connection>(
-                    alloc,
-                    words,
-                    self.bounds,
-                    &mut self.numbers,
-                )?,
-                kind => bail!("there is no {kind}"),
-            };
-            self.counts.add(counts);
+    /// Plays a script.
+    fn play(&mut self, call: &mut Call<'_>) {
+        self.scripts = self.scripts.saturating_add(1);
+        let (mut settings, mut calls) = (String::new(call.alloc()), String::new(call.alloc()));
+        let is_written = self.write(&mut settings, &mut calls).is_ok();
+        call.holds(is_written, "out of memory");
+        let mut words = Call::new(call.alloc());
+        words.take(settings.as_str());
+        let counts = match words.word() {
+            "session" => play_one::<Session>(call, &mut words, calls.as_str()),
+            _ => play_one::<Connection>(call, &mut words, calls.as_str()),
+        };
+        self.counts.add(counts);
+    }
+
+    /// Writes the settings of a script, and its calls.
+    fn write(&mut self, settings: &mut String, calls: &mut String) -> Result<(), AllocError> {
+        for word in self.settings.as_str().split_whitespace() {
+            match word.strip_prefix('?').and_then(|limit| limit.parse().ok()) {
+                Some(limit) => write!(settings, "{} ", self.numbers.below(limit))?,
+                None => write!(settings, "{word} ")?,
+            }
+        }
+        for _ in 0..CALLS {
+            push_call(calls, self.bounds, &mut self.numbers)?;
         }
         Ok(())
     }
@@ -146,125 +152,83 @@ impl Scripts {
     }
 }
 
-/// Returns settings with a number by chance in the place of each word `?N`.
-fn drawn(alloc: Global, settings: &str, numbers: &mut Numbers) -> Result<String> {
-    let mut drawn = String::new(alloc);
-    for word in settings.split_whitespace() {
-        match word.strip_prefix('?') {
-            Some(limit) => write!(drawn, "{} ", numbers.below(limit.parse()?))?,
-            None => write!(drawn, "{word} ")?,
-        }
+/// Appends a call by chance, and the end of its line.
+fn push_call(calls: &mut String, bounds: Bounds, numbers: &mut Numbers) -> Result<(), AllocError> {
+    let stream = numbers.below(STREAMS.len());
+    let kind = numbers.below(20);
+    let (word, number) = match kind {
+        0..=4 => ("encodes", stream),
+        5..=8 => ("decodes", stream),
+        9..=11 => ("to-decoder", numbers.below(60)),
+        12 | 13 => ("to-encoder", numbers.below(6)),
+        14 => ("sets", numbers.below(bounds.capacity)),
+        15..=17 => ("acks", stream),
+        18 => ("to-decoder", WHOLE),
+        _ if numbers.below(3) == 0 => ("cancels", stream),
+        _ => ("to-decoder", numbers.below(20)),
+    };
+    write!(calls, "{word} {number}")?;
+    if kind <= 4 {
+        push_fields(calls, bounds.fields, numbers)?;
     }
-    Ok(drawn)
-}
-
-/// Plays a script with new ends of these settings.
-fn play_one<S: Ends>(
-    alloc: Global,
-    settings: Words<'_>,
-    bounds: Bounds,
-    numbers: &mut Numbers,
-) -> Result<Counts> {
-    let mut settings = settings;
-    let mut ends: Lawful<S> = Lawful::begin(alloc, &mut settings, 0)?;
-    let played = play_with(alloc, &mut ends, bounds, numbers);
-    played.map(|()| ends.counts())
-}
-
-/// Plays a script.
-fn play_with<S: Ends>(
-    alloc: Global,
-    ends: &mut Lawful<S>,
-    bounds: Bounds,
-    numbers: &mut Numbers,
-) -> Result<()> {
-    let (mut call, mut answer) = (String::new(alloc), String::new(alloc));
-    for _ in 0..CALLS {
-        call.clear();
-        push_call(&mut call, bounds, numbers)?;
-        make_call(alloc, ends, call.as_str(), &mut answer).context("a script")?;
-    }
-    end(alloc, ends, &mut call, &mut answer)
-}
-
-/// Appends a call by chance.
-fn push_call(call: &mut String, bounds: Bounds, numbers: &mut Numbers) -> Result<()> {
-    let stream = numbers.below(STREAMS as usize);
-    match numbers.below(20) {
-        0..=4 => {
-            push_numbered(call, "encodes", stream)?;
-            push_fields(call, bounds.fields, numbers)
-        }
-        5..=8 => push_numbered(call, "decodes", stream),
-        9..=11 => push_numbered(call, "to-decoder", numbers.below(60)),
-        12 | 13 => push_numbered(call, "to-encoder", numbers.below(6)),
-        14 => push_numbered(call, "sets", numbers.below(bounds.capacity)),
-        15..=17 => push_numbered(call, "acks", stream),
-        18 => push_word(call, "to-decoder all"),
-        _ => match numbers.below(3) {
-            0 => push_numbered(call, "cancels", stream),
-            _ => push_numbered(call, "to-decoder", numbers.below(20)),
-        },
-    }
+    calls.push('\n')
 }
 
 /// Appends up to three of the first fields.
-fn push_fields(call: &mut String, fields: usize, numbers: &mut Numbers) -> Result<()> {
+fn push_fields(calls: &mut String, fields: usize, numbers: &mut Numbers) -> Result<(), AllocError> {
     for _ in 0..numbers.below(4) {
-        let field = FIELDS.get(numbers.below(fields)).context("no field")?;
-        write!(call, " | {field}")?;
+        let field = FIELDS.get(numbers.below(fields)).unwrap_or(&"a = 1");
+        write!(calls, " | {field}")?;
     }
     Ok(())
 }
 
-/// Delivers all that is on its way: each section of a stream that was not cancelled is decoded. If no stream was
-/// cancelled, every section is acknowledged then.
-fn end<S: Ends>(
-    alloc: Global,
-    ends: &mut Lawful<S>,
-    call: &mut String,
-    answer: &mut String,
-) -> Result<()> {
-    make_call(alloc, ends, "to-decoder all", answer)?;
-    for stream in 0..STREAMS {
-        end_stream(alloc, ends, stream, call, answer)?;
-    }
-    make_call(alloc, ends, "to-encoder all", answer)?;
-    let (rest, is_cancelled) = ends.rest()?;
-    let none = Rest {
-        unacknowledged: 0,
-        blocked: 0,
-    };
-    ensure!(
-        is_cancelled || rest == none,
-        "a section is not acknowledged"
-    );
-    Ok(())
-}
-
-/// Decodes each section of a stream that is left, and acknowledges them.
-fn end_stream<S: Ends>(
-    alloc: Global,
-    ends: &mut Lawful<S>,
-    stream: u64,
-    call: &mut String,
-    answer: &mut String,
-) -> Result<()> {
-    call.clear();
-    write!(call, "decodes {stream}")?;
-    for _ in 0..CALLS {
-        if ends.has_next(stream) {
-            make_call(alloc, ends, call.as_str(), answer)?;
+/// Plays a script with new ends of the settings in words.
+fn play_one<S: Ends>(call: &mut Call<'_>, words: &mut Call<'_>, calls: &str) -> Counts {
+    match Lawful::<S>::begin(words, 0) {
+        Some(mut ends) => play_with(call, &mut ends, calls),
+        None => {
+            call.fail("the settings are refused");
+            Counts::NONE
         }
     }
-    ensure!(!ends.has_next(stream), "a section is not decoded");
-    call.clear();
-    write!(call, "acks {stream}")?;
+}
+
+/// Plays a script. Then delivers all that is on its way: each section of a stream that was not cancelled is decoded. If no
+/// stream was cancelled, every section is acknowledged then.
+fn play_with<S: Ends>(call: &mut Call<'_>, ends: &mut Lawful<S>, calls: &str) -> Counts {
+    let mut inner = Call::new(call.alloc());
+    for text in calls.lines() {
+        make_call(ends, text, &mut inner);
+    }
+    make_call(ends, "to-decoder all", &mut inner);
+    for (stream, decodes, acks) in STREAMS {
+        for _ in 0..CALLS {
+            if ends.has_next(stream) {
+                make_call(ends, decodes, &mut inner);
+            }
+        }
+        call.holds(!ends.has_next(stream), "a section is not decoded");
+        acknowledge(ends, acks, &mut inner);
+    }
+    make_call(ends, "to-encoder all", &mut inner);
+    call.holds(
+        ends.is_at_rest(),
+        "a section is not acknowledged, or an end waits",
+    );
+    call.holds(
+        inner.fault().is_empty(),
+        "a script is not answered lawfully",
+    );
+    ends.counts()
+}
+
+/// Acknowledges the sections of a stream that are left.
+fn acknowledge<'a, S: Ends>(ends: &mut Lawful<S>, acks: &'a str, call: &mut Call<'a>) {
     for _ in 0..CALLS {
-        make_call(alloc, ends, call.as_str(), answer)?;
-        if answer.starts_with("skipped") {
+        make_call(ends, acks, call);
+        if call.answer().starts_with("skipped") {
             break;
         }
     }
-    Ok(())
 }

@@ -1,16 +1,12 @@
 //! A session: two ends in the names of h3, and what is between them.
 
-use crate::answers::{push_numbered, push_refused, push_word};
 use crate::lawful::{Ends, Rest};
-use anyhow::{Context, Result, ensure};
 use h3_qpack::Decoded;
 use h3_qpack::coding::Cursor;
 use h3_qpack::decoder::DecoderError;
 use h3_qpack::encoder::EncoderError;
 use h3_qpack::session::{self, Event, Outcome};
-use qpack_testing::cases::{Subject, Words, push_bytes, push_count, push_field, read_headers};
-use std::alloc::Global;
-use std::fmt::Write;
+use qpack_testing::cases::{Call, Subject};
 
 /// A session, and the stream of each section that it decoded. It is given an event again that was refused memory.
 #[derive(Drop)]
@@ -29,35 +25,31 @@ struct Lengths {
 
 impl Subject for Session {
     /// The settings are the capacity at the start, its maximum, and the limit of blocked streams.
-    fn begin(alloc: Global, settings: &mut Words<'_>, _size: usize) -> Result<Session> {
-        let (capacity, maximum, limit) = (settings.count()?, settings.count()?, settings.count()?);
+    fn begin(call: &mut Call<'_>, _size: usize) -> Option<Session> {
+        let (capacity, maximum, limit) = (call.count(), call.count(), call.count());
         let capacity = capacity.min(maximum);
-        Ok(Session {
-            ends: session::Session::with_maximum(alloc, capacity, maximum, limit)?,
-            decoded: Vec::new(alloc),
+        Some(Session {
+            ends: session::Session::with_maximum(call.alloc(), capacity, maximum, limit).ok()?,
+            decoded: Vec::new(call.alloc()),
             lacked_memory: false,
         })
     }
 
-    fn call(
-        &mut self,
-        alloc: Global,
-        word: &str,
-        words: &mut Words<'_>,
-        answer: &mut String,
-    ) -> Result<()> {
+    fn make(&mut self, word: &str, call: &mut Call<'_>) {
         match word {
             "delivers-once" => {
-                let outcome = self.ends.step(&Event::ToDecoder(words.amount()?));
+                let outcome = self.ends.step(&Event::ToDecoder(call.amount()));
                 self.lacked_memory |= wants_memory(&outcome);
-                Ok(())
             }
-            "replies" => push_bytes(answer, self.ends.decoder_bytes()),
-            "sections" => push_count(answer, self.ends.blocks(words.number()?)),
+            "replies" => call.show_bytes(self.ends.decoder_bytes()),
+            "sections" => {
+                let stream = call.number();
+                call.show(&self.ends.blocks(stream));
+            }
             _ => {
-                let stream = words.first_number();
-                let event = event_of(alloc, word, words)?;
-                self.give(stream, event, answer)
+                let stream = call.first_number();
+                let event = event_of(word, call);
+                self.give(stream, &event, call);
             }
         }
     }
@@ -72,34 +64,34 @@ impl Ends for Session {
         self.ends.decoder().table().total_inserted()
     }
 
-    fn rest(&self) -> Result<Rest> {
+    fn rest(&self) -> Rest {
         let table = self.ends.encoder().table();
-        Ok(Rest {
+        Rest {
+            is_sound: true,
             unacknowledged: table.unacknowledged_blocks(),
             blocked: table.blocked_blocks(),
-        })
+        }
     }
 }
 
 /// Reads the event of a call.
-pub(crate) fn event_of(alloc: Global, word: &str, words: &mut Words<'_>) -> Result<Event> {
+pub(crate) fn event_of(word: &str, call: &mut Call<'_>) -> Event {
     if word == "encodes" {
-        return Ok(Event::Encode(words.number()?, read_headers(alloc, words)?));
+        return Event::Encode(call.number(), call.headers());
     }
-    numbered_event(word, words.amount()?).context("a session has no such call")
-}
-
-/// Returns the event of a number that a word names.
-fn numbered_event(word: &str, number: usize) -> Option<Event> {
-    Some(match word {
+    let number = call.amount();
+    match word {
         "decodes" => Event::Decode(number as u64),
         "to-decoder" => Event::ToDecoder(number),
         "to-encoder" => Event::ToEncoder(number),
         "acks" => Event::Ack(number as u64),
         "cancels" => Event::Cancel(number as u64),
         "sets" => Event::SetCapacity(number),
-        _ => return None,
-    })
+        _ => {
+            call.fail("a session has no such call");
+            Event::ToDecoder(0)
+        }
+    }
 }
 
 /// Whether an event was refused memory.
@@ -116,37 +108,28 @@ fn wants_memory(outcome: &Outcome) -> bool {
 }
 
 impl Session {
-    /// Gives an event on a stream, and appends its outcome with the bytes that it added.
-    fn give(&mut self, stream: u64, event: Event, answer: &mut String) -> Result<()> {
+    /// Gives an event on a stream, and appends its outcome with the bytes that it added. A decode must return what the
+    /// decoder itself returns for the section.
+    fn give(&mut self, stream: u64, event: &Event, call: &mut Call<'_>) {
         let before = self.lengths();
-        let outcome = match event {
-            Event::Decode(stream) => self.decode(stream)?,
-            event => self.step(&event)?,
+        let foreseen = match event {
+            Event::Decode(stream) => self.foresee(*stream),
+            _ => None,
         };
-        self.push_answer(answer, stream, &outcome, before)
-    }
-
-    /// Appends the outcome of an event on a stream, with the bytes that it added.
-    fn push_answer(
-        &self,
-        answer: &mut String,
-        stream: u64,
-        outcome: &Outcome,
-        before: Lengths,
-    ) -> Result<()> {
-        push_outcome(answer, outcome)?;
+        let outcome = self.step(event, call);
+        self.note_decoded(stream, foreseen.as_ref(), &outcome, call);
+        show_outcome(call, &outcome);
         if let Outcome::Encoded(Ok(_)) = outcome {
-            self.push_section(stream, answer)?;
+            self.show_section(stream, call);
         }
-        self.push_added(answer, outcome, before)
+        self.show_added(call, &outcome, before);
     }
 
     /// Appends the last section of a stream.
-    fn push_section(&self, stream: u64, answer: &mut String) -> Result<()> {
+    fn show_section(&self, stream: u64, call: &mut Call<'_>) {
         let last = self.ends.blocks(stream).saturating_sub(1);
-        let section = self.ends.block(stream, last).unwrap_or(b"");
-        answer.push(' ')?;
-        push_bytes(answer, section)
+        call.say(" ");
+        call.show_bytes(self.ends.block(stream, last).unwrap_or(b""));
     }
 
     /// How many bytes both streams have.
@@ -159,20 +142,20 @@ impl Session {
 
     /// Gives an event. If it was refused memory, it wrote no instruction to the encoder and kept no section, and it is
     /// given again. The bytes that were delivered are offered again by a delivery of none.
-    fn step(&mut self, event: &Event) -> Result<Outcome> {
+    fn step(&mut self, event: &Event, call: &mut Call<'_>) -> Outcome {
         let before = self.kept();
         let outcome = self.ends.step(event);
         if !wants_memory(&outcome) {
-            return Ok(outcome);
+            return outcome;
         }
         self.lacked_memory = true;
-        ensure!(
+        call.holds(
             self.kept() == before,
-            "an event that was refused memory wrote bytes"
+            "an event that was refused memory wrote bytes",
         );
         match event {
-            Event::ToDecoder(_) => Ok(self.ends.step(&Event::ToDecoder(0))),
-            event => Ok(self.ends.step(event)),
+            Event::ToDecoder(_) => self.ends.step(&Event::ToDecoder(0)),
+            event => self.ends.step(event),
         }
     }
 
@@ -185,41 +168,30 @@ impl Session {
         (self.ends.decoder_bytes().len(), sections)
     }
 
-    /// Gives a decode. It must return what the decoder itself returns for the section.
-    fn decode(&mut self, stream: u64) -> Result<Outcome> {
-        let foreseen = self.foresee(stream);
-        let outcome = self.step(&Event::Decode(stream))?;
-        self.note_decoded(stream, foreseen.as_ref(), &outcome)?;
-        Ok(outcome)
-    }
-
     /// Notes the outcome of a decode, which must be what was foreseen.
     fn note_decoded(
         &mut self,
         stream: u64,
         foreseen: Option<&Result<Decoded, DecoderError>>,
         outcome: &Outcome,
-    ) -> Result<()> {
-        ensure!(
-            is_foreseen(foreseen, outcome),
-            "the decoder itself decodes the section to something else"
+        call: &mut Call<'_>,
+    ) {
+        let Outcome::Decoded(answer) = outcome else {
+            return;
+        };
+        call.holds(
+            foreseen == Some(answer),
+            "the decoder itself decodes to something else",
         );
-        if let Outcome::Decoded(Ok(_)) = outcome {
-            if self.decoded.push(stream).is_err() {
-                self.decoded.push(stream)?;
-            }
+        if answer.is_ok() && self.decoded.push(stream).is_err() {
+            call.lack_memory();
         }
-        Ok(())
     }
 
     /// What the decoder itself decodes the oldest undecoded section of a stream to.
     fn foresee(&self, stream: u64) -> Option<Result<Decoded, DecoderError>> {
-        let position = self
-            .decoded
-            .iter()
-            .filter(|other| **other == stream)
-            .count();
-        let section = self.ends.block(stream, position)?;
+        let decoded = self.decoded.iter().filter(|other| **other == stream);
+        let section = self.ends.block(stream, decoded.count())?;
         let decoder = self.ends.decoder();
         match decoder.decode_header(&mut Cursor::new(section)) {
             Err(DecoderError::Memory) => Some(decoder.decode_header(&mut Cursor::new(section))),
@@ -228,73 +200,76 @@ impl Session {
     }
 
     /// Appends the bytes that an event added to its stream, if it is one that adds any. It adds none to the other.
-    fn push_added(&self, answer: &mut String, outcome: &Outcome, before: Lengths) -> Result<()> {
+    fn show_added(&self, call: &mut Call<'_>, outcome: &Outcome, before: Lengths) {
         let (encoder_stream, decoder_stream) = (
             self.ends.encoder_bytes(),
             self.ends.decoder_bytes(),
         );
         let sent = encoder_stream.get(before.encoder_stream..).unwrap_or(b"");
         let replied = decoder_stream.get(before.decoder_stream..).unwrap_or(b"");
-        let (added, other) = match outcome {
-            Outcome::Encoded(Ok(_)) | Outcome::CapacitySet(Ok(())) => (Some(sent), replied),
+        match outcome {
+            Outcome::Encoded(Ok(_)) | Outcome::CapacitySet(Ok(())) => show_one(call, sent, replied),
             Outcome::Delivered(Ok(_))
             | Outcome::Acknowledged(Ok(()))
-            | Outcome::Cancelled(Ok(())) => { (Some(replied), sent) }
-            _ => (None, sent),
-        };
-        ensure!(
-            other.is_empty() && (added.is_some() || replied.is_empty()),
-            "{answer}: bytes were added to another stream"
-        );
-        if let Some(added) = added {
-            answer.push(' ')?;
-            push_bytes(answer, added)?;
+            | Outcome::Cancelled(Ok(())) => show_one(call, replied, sent),
+            _ => {
+                let adds_nothing = sent.is_empty() && replied.is_empty();
+                call.holds(adds_nothing, "bytes were added to a stream");
+            }
         }
-        Ok(())
     }
 }
 
-/// Returns whether a decode has the expected outcome.
-fn is_foreseen(foreseen: Option<&Result<Decoded, DecoderError>>, outcome: &Outcome) -> bool {
-    match outcome {
-        Outcome::Decoded(answer) => foreseen == Some(answer),
-        _ => true,
-    }
+/// Appends the bytes that were added to a stream. None were added to the other.
+fn show_one(call: &mut Call<'_>, added: &[u8], other: &[u8]) {
+    call.holds(other.is_empty(), "bytes were added to another stream");
+    call.say(" ");
+    call.show_bytes(added);
 }
 
 /// Appends an outcome, in the words that `qpk run` prints: a section that was decoded is its size, whether it requires
 /// an entry, and its fields.
-pub(crate) fn push_outcome(answer: &mut String, outcome: &Outcome) -> Result<()> {
+pub(crate) fn show_outcome(call: &mut Call<'_>, outcome: &Outcome) {
     match outcome {
-        Outcome::Encoded(Ok(required)) => push_numbered(answer, "encoded", *required),
-        Outcome::Delivered(Ok(received)) => push_numbered(answer, "received", *received),
-        Outcome::Heard(Ok(())) => push_word(answer, "heard"),
-        Outcome::Acknowledged(Ok(())) => push_word(answer, "acked"),
-        Outcome::Cancelled(Ok(())) => push_word(answer, "cancelled"),
-        Outcome::CapacitySet(Ok(())) => push_word(answer, "capacity"),
-        Outcome::Skipped(reason) => push_numbered(answer, "skipped", usize::from(*reason)),
-        Outcome::Decoded(Ok(decoded)) => push_decoded(answer, decoded),
-        Outcome::Decoded(Err(DecoderError::MissingRefs(required))) => push_numbered(
-            answer, "missing", *required,
-        ),
-        Outcome::Decoded(Err(error)) | Outcome::Delivered(Err(error)) => push_refused(
-            answer, error,
-        ),
+        Outcome::Encoded(Ok(required)) => call.say_number("encoded ", *required),
+        Outcome::Delivered(Ok(received)) => call.say_number("received ", *received),
+        Outcome::Skipped(reason) => call.say_number("skipped ", usize::from(*reason)),
+        Outcome::Decoded(Ok(decoded)) => show_decoded(call, decoded),
+        Outcome::Decoded(Err(DecoderError::MissingRefs(required))) => {
+            call.say_number("missing ", *required);
+        }
+        Outcome::Decoded(Err(error)) | Outcome::Delivered(Err(error)) => {
+            call.say("refused ");
+            call.show_parts(error);
+        }
         Outcome::Encoded(Err(error))
         | Outcome::CapacitySet(Err(error))
-        | Outcome::Heard(Err(error)) => push_refused(answer, error),
-        Outcome::Acknowledged(Err(_)) | Outcome::Cancelled(Err(_)) => push_word(
-            answer,
-            "refused Memory",
-        ),
+        | Outcome::Heard(Err(error)) => {
+            call.say("refused ");
+            call.show_parts(error);
+        }
+        _ => call.say(word_of(outcome)),
+    }
+}
+
+/// The word for an outcome that has no part.
+fn word_of(outcome: &Outcome) -> &'static str {
+    match outcome {
+        Outcome::Heard(Ok(())) => "heard",
+        Outcome::Acknowledged(Ok(())) => "acked",
+        Outcome::Cancelled(Ok(())) => "cancelled",
+        Outcome::CapacitySet(Ok(())) => "capacity",
+        _ => "refused Memory",
     }
 }
 
 /// Appends a section that was decoded.
-fn push_decoded(answer: &mut String, decoded: &Decoded) -> Result<()> {
-    write!(answer, "decoded {} {}", decoded.mem_size, decoded.dyn_ref)?;
+fn show_decoded(call: &mut Call<'_>, decoded: &Decoded) {
+    call.say("decoded ");
+    call.show(&decoded.mem_size);
+    call.say(" ");
+    call.show(&decoded.dyn_ref);
     for field in &decoded.fields {
-        push_field(answer, field.as_line())?;
+        call.show_field(field.as_line());
     }
-    Ok(())
 }

@@ -1,8 +1,6 @@
 //! Fields as cases write them.
 
-use crate::again;
-use crate::cases::words::{Words, push_bytes};
-use anyhow::{Context, Result};
+use crate::cases::call::Call;
 use qpack_base::field::{FieldLine, HeaderField};
 use std::alloc::Global;
 use std::str;
@@ -47,33 +45,86 @@ impl Field {
     }
 }
 
-/// Reads the fields of a text, each after a `| `.
-pub fn read_fields(alloc: Global, text: &str) -> Result<Vec<Field>> {
-    let mut fields = Vec::new(alloc);
-    let mut left = text.strip_prefix("| ");
-    for _ in 0..text.len() {
-        let Some(text) = left else {
-            break;
-        };
-        let (field, rest) = match text.split_once(" | ") {
-            Some((field, rest)) => (field, Some(rest)),
-            None => (text, None),
-        };
-        fields.push(read_field(alloc, field)?)?;
-        left = rest;
+impl<'a> Call<'a> {
+    /// Returns the fields of the words that are left, each after a `| `.
+    pub fn fields(&mut self) -> Vec<Field> {
+        let text = self.rest();
+        self.set_rest("");
+        self.fields_of(text)
     }
-    Ok(fields)
-}
 
-/// Reads a field.
-fn read_field(alloc: Global, text: &str) -> Result<Field> {
-    let (mark, text) = read_mark(text);
-    let (name, value) = text.split_once(" = ").context("no field")?;
-    Ok(Field {
-        name: read_text(alloc, name)?,
-        value: read_text(alloc, value)?,
-        mark,
-    })
+    /// Returns the fields of a text, each after a `| `.
+    pub fn fields_of(&mut self, text: &str) -> Vec<Field> {
+        let mut fields = Vec::new(self.alloc());
+        let Some(text) = text.strip_prefix("| ") else {
+            return fields;
+        };
+        for text in text.split(" | ") {
+            let field = self.field_of(text);
+            if fields.push(field).is_err() {
+                self.lack_memory();
+            }
+        }
+        fields
+    }
+
+    /// Returns the field of a text.
+    fn field_of(&mut self, text: &str) -> Field {
+        let (mark, text) = read_mark(text);
+        let parts = text.split_once(" = ");
+        self.holds(parts.is_some(), "a field has no value");
+        let (name, value) = parts.unwrap_or((text, ""));
+        Field {
+            name: self.text_of(name),
+            value: self.text_of(value),
+            mark,
+        }
+    }
+
+    /// Returns the bytes of a name or of a value.
+    fn text_of(&mut self, text: &str) -> Vec<u8> {
+        match text.strip_prefix("0x") {
+            Some(digits) => self.bytes_of(digits),
+            None if text == "\"\"" => Vec::new(self.alloc()),
+            None => self.copy(text.as_bytes()),
+        }
+    }
+
+    /// Returns the fields of the words that are left as header fields, which have no marks.
+    pub fn headers(&mut self) -> Vec<HeaderField> {
+        let fields = self.fields();
+        let mut headers = Vec::new(self.alloc());
+        for field in &fields {
+            if push_header(self.alloc(), &mut headers, field).is_none() {
+                self.lack_memory();
+            }
+        }
+        headers
+    }
+
+    /// Appends a name or a value to the answer.
+    fn show_text(&mut self, bytes: &[u8]) {
+        let text = str::from_utf8(bytes).unwrap_or("");
+        if bytes.is_empty() {
+            self.say("\"\"");
+        } else if !text.is_empty() && bytes.iter().all(|byte| (b' '..=b'~').contains(byte)) {
+            self.say(text);
+        } else {
+            self.say("0x");
+            self.show_digits(bytes);
+        }
+    }
+
+    /// Appends a field to the answer.
+    pub fn show_field(&mut self, field: FieldLine<'_>) {
+        self.say(" | ");
+        if field.never_indexed {
+            self.say("never ");
+        }
+        self.show_text(field.name);
+        self.say(" = ");
+        self.show_text(field.value);
+    }
 }
 
 /// Reads a mark, and returns the rest of the text.
@@ -86,56 +137,8 @@ fn read_mark(text: &str) -> (Mark, &str) {
     }
 }
 
-/// Reads the bytes of a name or of a value.
-fn read_text(alloc: Global, text: &str) -> Result<Vec<u8>> {
-    if text == "\"\"" {
-        return Ok(Vec::new(alloc));
-    }
-    if let Some(digits) = text.strip_prefix("0x") {
-        return Ok(hex::decode(alloc, digits)?);
-    }
-    Ok(Vec::from_slice(alloc, text.as_bytes())?)
-}
-
-/// Makes header fields, which have no marks.
-pub fn header_fields(alloc: Global, fields: &[Field]) -> Result<Vec<HeaderField>> {
-    let mut headers = Vec::with_capacity(alloc, fields.len())?;
-    for field in fields {
-        headers.push(HeaderField::from_pair(alloc, &field.name, &field.value)?)?;
-    }
-    Ok(headers)
-}
-
-/// Reads the fields of the words that are left as header fields, a second time in case memory was refused.
-pub fn read_headers(alloc: Global, words: &mut Words<'_>) -> Result<Vec<HeaderField>> {
-    let text = words.rest;
-    words.rest = "";
-    again(|| header_fields(alloc, &read_fields(alloc, text)?))
-}
-
-/// Appends a name or a value.
-fn push_text(answer: &mut String, bytes: &[u8]) -> Result<()> {
-    if bytes.is_empty() {
-        answer.push_str("\"\"")?;
-        return Ok(());
-    }
-    match str::from_utf8(bytes) {
-        Ok(text) if bytes.iter().all(|byte| (b' '..=b'~').contains(byte)) => answer.push_str(text)?,
-        _ => {
-            answer.push_str("0x")?;
-            push_bytes(answer, bytes)?;
-        }
-    }
-    Ok(())
-}
-
-/// Appends a field.
-pub fn push_field(answer: &mut String, field: FieldLine<'_>) -> Result<()> {
-    answer.push_str(" | ")?;
-    if field.never_indexed {
-        answer.push_str("never ")?;
-    }
-    push_text(answer, field.name)?;
-    answer.push_str(" = ")?;
-    push_text(answer, field.value)
+/// Appends a header field. Returns nothing if memory was refused.
+fn push_header(alloc: Global, headers: &mut Vec<HeaderField>, field: &Field) -> Option<()> {
+    let header = HeaderField::from_pair(alloc, &field.name, &field.value).ok()?;
+    headers.push(header).ok()
 }
