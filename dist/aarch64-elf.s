@@ -28611,7 +28611,7 @@
 	.p2align	2
 	.type	h3q_version,@function
 h3q_version:
-	mov	w0, #65536
+	mov	w0, #2
 	ret
 .Lh3q_func_end120:
 	.size	h3q_version, .Lh3q_func_end120-h3q_version

@@ -38526,7 +38526,7 @@
 h3q_version:
 	.cfi_startproc
 	endbr64
-	movl	$65536, %eax
+	movl	$2, %eax
 	retq
 .Lh3q_func_end119:
 	.size	h3q_version, .Lh3q_func_end119-h3q_version
