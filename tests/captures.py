@@ -270,7 +270,9 @@ def test_the_end_of_the_reader():
                 running.stdout.close()
                 assert running.stderr.read() == b"", words
             assert running.returncode == -signal.SIGPIPE, words
-    with start("show", "-", stdin=subprocess.PIPE) as running:
+    # What a shell began in the background ignores an interrupt, and so does what that starts.
+    heed = {"preexec_fn": lambda: signal.signal(signal.SIGINT, signal.SIG_DFL)}
+    with start("show", "-", stdin=subprocess.PIPE, **heed) as running:
         while "pipe_read" not in Path(f"/proc/{running.pid}/wchan").read_text() and running.poll() is None:
             time.sleep(0.01)
         running.send_signal(signal.SIGINT)
