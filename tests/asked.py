@@ -92,7 +92,7 @@ def read_questions(share=1):
     import recorded  # pylint: disable=import-outside-toplevel
     import short_lists  # pylint: disable=import-outside-toplevel
 
-    return [*foretold.read_questions(), *recorded.read_questions(share), *short_lists.read_questions()]
+    return [*foretold.read_questions(), *recorded.read_questions(share), *short_lists.read_questions(share)]
 
 
 def answers_to(question, said):
