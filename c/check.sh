@@ -39,11 +39,13 @@ choose_tests() {
     if [ -n "$(list_ngtcp2)" ]; then
         tests="calls interop inserts http3 memory"
         left_out=", without the connection over QUIC: ngtcp2 could not be had"
+        echo "not shown: a connection of the library in C over QUIC, without ngtcp2"
     fi
     if [ -n "$(list_nghttp3)" ]; then
         tests=
         peer=
         left_out=", of the interface and the example alone: nghttp3 could not be had"
+        echo "not shown: the tests in C, without nghttp3"
     fi
 }
 

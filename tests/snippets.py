@@ -244,6 +244,8 @@ def main():
     for it in commands if not left_out else []:
         lacking = find_lacking(it) if is_run(it) else []
         not_run += f"; not run, without {' and '.join(lacking)}: {it}" if lacking else ""
+    if left_out:
+        print(f"not shown: the commands and snippets of the documents, as {left_out}")
     print(f"snippets: {len(faults)} faults in {len(blocks)} blocks{not_run}")
     return 1 if faults else 0
 
