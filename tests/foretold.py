@@ -19,6 +19,8 @@ FILES = (
     *("inspections.txt", "interop.txt", "viewed.txt", "words.txt", NARROW),
 )
 REFUSED_OUTPUT = b"qpk: refused: output\n"
+# The commands that tell it too if nobody reads their output any more.
+FIRST_COMMANDS = re.compile(r"encode|decode \d+|run \d+ \d+|inspect \d+")
 # A room for the line of an output that can't be written, and more.
 WIDE = 100
 
@@ -88,10 +90,14 @@ def ask_runs(question, case, words):
 
 def ask_narrow_runs(question, case, words):
     """Asks for the runs of an output without room for all, and those of faults with any room. The first have status 1, and
-    their faults say why. The others end as foretold."""
-    for room in range(len(case.output)):
-        question.ask(f"rooms {room} {WIDE}", "")
-        question.ask(f"runs {words}", answer_of(1, REFUSED_OUTPUT, case.output[:room]))
+    their faults say why, but for an output that nobody reads any more. The others end as foretold."""
+    unread = REFUSED_OUTPUT if FIRST_COMMANDS.fullmatch(words) else b""
+    for failure, faults in (("", REFUSED_OUTPUT), ("closes", unread)):
+        if failure:
+            question.ask(failure, "")
+        for room in range(len(case.output)):
+            question.ask(f"rooms {room} {WIDE}", "")
+            question.ask(f"runs {words}", answer_of(1, faults, case.output[:room]))
     for room in range(len(case.faults) + 1):
         question.ask(f"rooms {len(case.output)} {room}", "")
         question.ask(f"runs {words}", answer_of(case.status, case.faults[:room], case.output))

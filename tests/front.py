@@ -192,8 +192,9 @@ def test_the_end_of_the_reader():
     for front in FRONTS:
         for words in ("show --stream 4", "stats --json", "report", "table --at end --json"):
             assert run("sh", "-c", f"{{ {front} {words} {path}; echo $? >&3; }} 3>&2 | true")[2] == b"141\n", words
-        command = f"{{ {front} show --color=always {path}; echo $? >&3; }} 3>&2 | true"
-        assert run("sh", "-c", command)[2] == b"qpk: refused: output\n141\n"  # which the program says
+        for color, status in (("always", b"141\n"), ("never", b"1\n")):
+            command = f"{{ {front} show --color={color} {path}; echo $? >&3; }} 3>&2 | true"
+            assert run("sh", "-c", command)[2] == status, color
 
 
 def test_recordings_of_the_interop():

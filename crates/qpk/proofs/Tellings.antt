@@ -1,10 +1,16 @@
 -- A refusal and the line that tells it.
-use Rattle.std.proofs.Common.{◌≡◌, ◌≢◌, ℕ, List, Option, Some, None, Result, Ok, Err, refl, sym, subst, inl, inr}
+use Rattle.std.proofs.Common.{◌≡◌, ◌≢◌, ℕ, Bool, List, Option, Some, None, Result, Ok, Err, refl, sym, subst, inl, inr}
 use Rattle.std.specs.Io.KnownBytes.{Appends}
 use Rattle.std.specs.Prelude.{String, codes, IfSome, OnOk, OnErr}
-use Rattle.qpk.specs.Refusals.{AppendsPart, AppendsFront, MayWantMemory, TellsBy, refusal_line}
+use Rattle.qpk.specs.Refusals.{AppendsPart, AppendsPartOfSome, AppendsSome, AppendsFront, MayWantMemory, TellsBy}
+use Rattle.qpk.specs.Refusals.{refusal_line}
 use Rattle.qpack_codec.specs.declared.error.DecoderError.{DecoderError}
 use Rattle.qpk.specs.Serving.{HasStatus, TellsFound, HasFault, EndsFor, EndsForCommand, Stops, IsInspection, input_of}
+use Rattle.qpk.specs.Serving.{Answers, AnswersInput, IsBeyond, IsShow, MayFind, MayHaveFound, Prints, StopsReply}
+use Rattle.qpk.specs.Serving.{StopsShowing, StopsWhole, WritesPart, WritesReply}
+use Rattle.qpk.specs.declared.serve.Output.{Output}
+use Rattle.qpk.specs.declared.serve.Reply.{Reply}
+use Rattle.qpk.specs.declared.serve.Reply.TheVariants.{Whole, Shown}
 use Rattle.qpk.specs.declared.command.Command.{Command}
 use Rattle.qpk.specs.declared.command.Command.TheVariants.{Help, Encode, Decode, DecodeHex, Inspect, Run, Show}
 use Rattle.qpk.specs.declared.command.Command.TheVariants.{DecodeJson, EncodeLists, DecodeRecords, Version, Check}
@@ -58,6 +64,7 @@ words_memory (refusal.Missing topic wanted) fault may tells = (refl, subst Keeps
 words_memory (refusal.BadWord topic wanted word) fault may tells = (refl, subst KeepsWord (sym tells) tt)
 words_memory refusal.Input fault may tells = absurd may
 words_memory refusal.Output fault may tells = absurd may
+words_memory refusal.Unread fault may tells = absurd may
 words_memory (refusal.Fault f) fault may tells = (refl, tells.1)
 
 -- a command that ends for a fault may as well end for want of memory
@@ -68,9 +75,12 @@ command_memory command input old new (refusal.Missing topic wanted) may ends = a
 command_memory command input old new (refusal.BadWord topic wanted word) may ends = absurd ends
 command_memory command input old new refusal.Input may ends = absurd may
 command_memory command input old new refusal.Output may ends = absurd may
+command_memory command input old new refusal.Unread may ends = absurd may
 command_memory command input old new (refusal.Fault fault) may (inl h) =
     inl (memory_may_be command (input_of command input), h.1)
-command_memory command input old new (refusal.Fault fault) may (inr h) = inr (h.0, h.1, inr refl, h.3, h.4, h.5)
+command_memory command input old new (refusal.Fault fault) may (inr (inl h)) =
+    inr (inl (h.0, h.1, inr refl, h.3, h.4, h.5))
+command_memory command input old new (refusal.Fault fault) may (inr (inr h)) = inr (inr (h.0, refl, h.2))
 
 -- a command that wants memory may end before it wrote anything
 pub command_wants_memory : (command : Command) (input old : Option (List ℕ)) (fault : Fault) → fault ≡ Memory
@@ -140,3 +150,138 @@ inspected_input (ExplainWords options) input bytes out e is read stops = absurd 
 inspected_input (ExplainInput options) input bytes out e is read stops = absurd is
 inspected_input (EncodeLists settings) input bytes out e is read stops = absurd is
 inspected_input (DecodeRecords settings) input bytes out e is read stops = absurd is
+
+-- what is shown is answered by whatever was written
+pub shown_answers : (command : Command) (input old new : Option (List ℕ)) → IsShow command → AppendsSome old new
+    → IfSome (input_of command input) (λ bytes. (out : List ℕ) × Answers command bytes out × Appends old new out)
+shown_answers (Show options) None old new is wrote = tt
+shown_answers (Show options) (Some bytes) old new is (out, wrote) = (out, tt, wrote)
+shown_answers (Help topic) input old new is wrote = absurd is
+shown_answers Version input old new is wrote = absurd is
+shown_answers Encode input old new is wrote = absurd is
+shown_answers (Decode limit) input old new is wrote = absurd is
+shown_answers (DecodeHex limit) input old new is wrote = absurd is
+shown_answers (DecodeJson limit) input old new is wrote = absurd is
+shown_answers (Inspect capacity) input old new is wrote = absurd is
+shown_answers (Run capacity limit) input old new is wrote = absurd is
+shown_answers (Check options) input old new is wrote = absurd is
+shown_answers (ExplainWords options) input old new is wrote = absurd is
+shown_answers (ExplainInput options) input old new is wrote = absurd is
+shown_answers (EncodeLists settings) input old new is wrote = absurd is
+shown_answers (DecodeRecords settings) input old new is wrote = absurd is
+
+shown_part : (command : Command) (input old new : Option (List ℕ)) → IsShow command → AppendsPartOfSome old new
+    → IsBeyond command × WritesPart command input old new
+shown_part (Show options) None old new is part = (tt, tt)
+shown_part (Show options) (Some bytes) old new is (out, part) = (tt, (out, None, tt, part))
+shown_part (Help topic) input old new is part = absurd is
+shown_part Version input old new is part = absurd is
+shown_part Encode input old new is part = absurd is
+shown_part (Decode limit) input old new is part = absurd is
+shown_part (DecodeHex limit) input old new is part = absurd is
+shown_part (DecodeJson limit) input old new is part = absurd is
+shown_part (Inspect capacity) input old new is part = absurd is
+shown_part (Run capacity limit) input old new is part = absurd is
+shown_part (Check options) input old new is part = absurd is
+shown_part (ExplainWords options) input old new is part = absurd is
+shown_part (ExplainInput options) input old new is part = absurd is
+shown_part (EncodeLists settings) input old new is part = absurd is
+shown_part (DecodeRecords settings) input old new is part = absurd is
+
+-- why showing ended early is why the command did
+pub shown_ends : (command : Command) (input old new : Option (List ℕ)) (r : Refusal) → IsShow command
+    → StopsShowing old new r → EndsForCommand command input old new r
+shown_ends command input old new r is (inl (inl e, part)) =
+    subst (EndsForCommand command input old new) (sym e) (shown_part command input old new is part).1
+shown_ends command input old new r is (inl (inr e, part)) =
+    subst (EndsForCommand command input old new) (sym e) (shown_part command input old new is part)
+shown_ends command input old new r is (inr (e, some)) =
+    subst (EndsForCommand command input old new) (sym e) (inr (inr (is, refl, some)))
+
+known_part : (known : Option (List ℕ)) (command : Command) (old new : Option (List ℕ)) (bytes out : List ℕ)
+    (refused : Option DecoderError) → IfSome known (λ all. bytes ≡ all) → Prints command bytes out refused
+    → AppendsPart old new out
+    → IfSome known (λ all. (o : List ℕ) × (e : Option DecoderError) × Prints command all o e × AppendsPart old new o)
+known_part None command old new bytes out refused read prints part = tt
+known_part (Some all) command old new bytes out refused read prints part =
+    (out, refused, subst (λ (b : List ℕ). Prints command b out refused) read prints, part)
+
+-- a part of an output was written
+whole_part : (command : Command) (input old new : Option (List ℕ)) (bytes out : List ℕ)
+    (refused : Option DecoderError) → IfSome (input_of command input) (λ all. bytes ≡ all)
+    → Prints command bytes out refused → AppendsPart old new out → WritesPart command input old new
+whole_part command input old new bytes out refused read prints part =
+    known_part (input_of command input) command old new bytes out refused read prints part
+
+-- why writing a whole output ended is why the command did
+pub whole_ends : (command : Command) (input old new : Option (List ℕ)) (bytes : List ℕ) (whole : Output) (r : Refusal)
+    → IfSome (input_of command input) (λ all. bytes ≡ all) → Prints command bytes whole.bytes.items whole.refused
+    → StopsWhole command whole old new r → EndsForCommand command input old new r
+whole_ends command input old new bytes whole r read prints (inl (inl e, part)) =
+    subst (EndsForCommand command input old new) (sym e)
+    (whole_part command input old new bytes whole.bytes.items whole.refused read prints part)
+whole_ends command input old new bytes whole r read prints (inl (inr (e, beyond), part)) =
+    subst (EndsForCommand command input old new) (sym e)
+    (beyond, whole_part command input old new bytes whole.bytes.items whole.refused read prints part)
+whole_ends command input old new bytes whole r read prints (inr (refused, e, stops, wrote)) =
+    let stopped : Stops command bytes whole.bytes.items refused =
+    subst (Prints command bytes whole.bytes.items) stops prints in
+    let is = stops_inspecting command bytes whole.bytes.items refused stopped in
+    subst (EndsForCommand command input old new) (sym e)
+    (inr (inl (
+      is,
+      refused,
+      inl refl,
+      whole.bytes.items,
+      wrote,
+      inspected_input command input bytes whole.bytes.items refused is read stopped,
+    )))
+
+known_answers : (known : Option (List ℕ)) (command : Command) (old new : Option (List ℕ)) (bytes out : List ℕ)
+    → IfSome known (λ all. bytes ≡ all) → Answers command bytes out → Appends old new out
+    → IfSome known (λ all. (o : List ℕ) × Answers command all o × Appends old new o)
+known_answers None command old new bytes out read answers wrote = tt
+known_answers (Some all) command old new bytes out read answers wrote =
+    (out, subst (λ (b : List ℕ). Answers command b out) read answers, wrote)
+
+-- an answer that was written is that of the command
+pub reply_answers : (command : Command) (input old new : Option (List ℕ)) (bytes : List ℕ) (reply : Reply) (found : Bool)
+    → IfSome (input_of command input) (λ all. bytes ≡ all) → AnswersInput command bytes (Ok reply)
+    → WritesReply reply old new found
+    → IfSome (input_of command input) (λ all. (out : List ℕ) × Answers command all out × Appends old new out)
+reply_answers command input old new bytes (Whole a) found read answers (is, none, wrote) =
+    known_answers (input_of command input) command old new bytes a.bytes.items read
+    (subst (Prints command bytes a.bytes.items) none answers) wrote
+reply_answers command input old new bytes (Shown showing) found read answers wrote =
+    shown_answers command input old new answers wrote
+
+-- why writing an answer ended is why the command did
+pub reply_ends : (command : Command) (input old new : Option (List ℕ)) (bytes : List ℕ) (reply : Reply) (r : Refusal)
+    → IfSome (input_of command input) (λ all. bytes ≡ all) → AnswersInput command bytes (Ok reply)
+    → StopsReply command reply old new r → EndsForCommand command input old new r
+reply_ends command input old new bytes (Whole a) r read answers stops =
+    whole_ends command input old new bytes a r read answers stops
+reply_ends command input old new bytes (Shown showing) r read answers stops =
+    shown_ends command input old new r answers stops
+
+show_may_find : (command : Command) (found : Bool) → IsShow command → MayFind command found
+show_may_find (Show options) found is = tt
+show_may_find (Help topic) found is = absurd is
+show_may_find Version found is = absurd is
+show_may_find Encode found is = absurd is
+show_may_find (Decode limit) found is = absurd is
+show_may_find (DecodeHex limit) found is = absurd is
+show_may_find (DecodeJson limit) found is = absurd is
+show_may_find (Inspect capacity) found is = absurd is
+show_may_find (Run capacity limit) found is = absurd is
+show_may_find (Check options) found is = absurd is
+show_may_find (ExplainWords options) found is = absurd is
+show_may_find (ExplainInput options) found is = absurd is
+show_may_find (EncodeLists settings) found is = absurd is
+show_may_find (DecodeRecords settings) found is = absurd is
+
+-- what is found in an answer may be found in that of the command
+pub reply_may_find : (command : Command) (old new : Option (List ℕ)) (reply : Reply) (found : Bool)
+    → MayHaveFound command reply → WritesReply reply old new found → MayFind command found
+reply_may_find command old new (Whole a) found may wrote = subst (MayFind command) (sym wrote.0) may
+reply_may_find command old new (Shown showing) found may wrote = show_may_find command found may

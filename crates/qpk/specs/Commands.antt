@@ -324,6 +324,7 @@ TellsWords (refusal.Missing t w) fault = fault ≡ MissingWord t w
 TellsWords (refusal.BadWord t w word) fault = fault ≡ BadWord t w (string_bytes word)
 TellsWords refusal.Input fault = ⊥
 TellsWords refusal.Output fault = ⊥
+TellsWords refusal.Unread fault = ⊥
 TellsWords (refusal.Fault f) fault = (f ≡ Memory) × KeepsWord fault
 
 -- what was read of words, or a refusal that reports why they give no command

@@ -1,5 +1,5 @@
 -- Why the program prints no output, and how that is reported.
-use Rattle.std.specs.Prelude.{◌≡◌, ℕ, ◌<◌, List, ◌++◌, codes, length, take, Option, ◌⊎◌, string_bytes}
+use Rattle.std.specs.Prelude.{◌≡◌, ℕ, ◌<◌, List, [], ◌++◌, codes, length, take, Option, ◌⊎◌, string_bytes}
 use Rattle.std.specs.Fmt.{decimal}
 use Rattle.std.specs.Io.KnownBytes.{Appends}
 use Rattle.qpk.specs.ErrorWords.{decoder_words, recording_words}
@@ -58,13 +58,15 @@ missing_line t w = usage_of t ++ codes "qpk: " ++ name_of w ++ codes " is missin
 abbrev pub bad_word_line : Topic → Wanted → List ℕ → List ℕ
 bad_word_line t w word = usage_of t ++ codes "qpk: \"" ++ word ++ codes "\" is " ++ wanted_words w ++ codes "\n"
 
--- the line that reports a refusal; for words of a command beyond the usage's four it says how the command is called
+-- the line that reports a refusal; for words of a command beyond the usage's four it says how the command is called; none
+-- if nobody reads the output any more
 abbrev pub refusal_line : Refusal → List ℕ
 refusal_line refusal.Usage = usage_line
 refusal_line (refusal.Missing t w) = missing_line t w
 refusal_line (refusal.BadWord t w word) = bad_word_line t w (string_bytes word)
 refusal_line refusal.Input = codes "qpk: refused: input\n"
 refusal_line refusal.Output = codes "qpk: refused: output\n"
+refusal_line refusal.Unread = []
 refusal_line (refusal.Fault fault) = fault_line fault
 
 -- its line may ask for memory: it has a word, or a fault
@@ -74,6 +76,7 @@ MayWantMemory (refusal.Missing t w) = Unit {0}
 MayWantMemory (refusal.BadWord t w word) = Unit {0}
 MayWantMemory refusal.Input = ⊥
 MayWantMemory refusal.Output = ⊥
+MayWantMemory refusal.Unread = ⊥
 MayWantMemory (refusal.Fault fault) = Unit {0}
 
 -- a writer gained a front of the bytes, not all of them, and nothing else
@@ -91,3 +94,11 @@ TellsAs r told = (told ≡ r) ⊎ (MayWantMemory r × (told ≡ refusal.Fault Me
 -- this holds of the line that reports a refusal
 abbrev pub TellsBy : Refusal → (List ℕ → Type 0) → Type 0
 TellsBy r P = (told : Refusal) × TellsAs r told × P (refusal_line told)
+
+-- a writer gained bytes, and nothing else
+abbrev pub AppendsSome : Option (List ℕ) → Option (List ℕ) → Type 0
+AppendsSome old new = (out : List ℕ) × Appends old new out
+
+-- a writer gained a front of some bytes, not all of them, and nothing else
+abbrev pub AppendsPartOfSome : Option (List ℕ) → Option (List ℕ) → Type 0
+AppendsPartOfSome old new = (out : List ℕ) × AppendsPart old new out

@@ -15,7 +15,7 @@ use Rattle.qpk.specs.declared.command.Command.TheVariants.{DecodeJson, EncodeLis
 use Rattle.qpk.specs.declared.command.Command.TheVariants.{ExplainWords, ExplainInput}
 use Rattle.qpk.specs.Json.{section_json}
 use Rattle.qpk.specs.Notes.{IsNoteOf}
-use Rattle.qpk.specs.Refusals.{AppendsPart, AppendsFront}
+use Rattle.qpk.specs.Refusals.{AppendsPart, AppendsFront, AppendsSome, AppendsPartOfSome}
 use Rattle.qpk.specs.Usage.{help_text, version_line}
 use Rattle.qpk.specs.declared.refusal.Refusal.{Refusal}
 use Rattle.qpk.specs.declared.refusal.Refusal.TheVariants as refusal
@@ -27,6 +27,8 @@ use Rattle.qpk.specs.Inspecting.{PrintsInspection, hexadecimal_fields}
 use Rattle.qpk.specs.Runs.{PrintsRun, HasRunFault}
 use Rattle.qpk.specs.Inspections.{FailsInspection}
 use Rattle.qpk.specs.declared.serve.Output.{Output}
+use Rattle.qpk.specs.declared.serve.Reply.{Reply}
+use Rattle.qpk.specs.declared.serve.Reply.TheVariants.{Whole, Shown}
 
 -- the words ask for the command
 abbrev pub AsksFor : {Z : Type 0} → List (String Z) → Command → Type 0
@@ -145,10 +147,55 @@ TellsFound command status = ⊥
 abbrev pub HasStatus : Command → ℕ → Type 0
 HasStatus command status = (status ≡ 0) ⊎ TellsFound command status
 
+-- the command shows a connection: its output is written piece by piece
+abbrev pub IsShow : Command → Type 0
+IsShow (Show options) = Unit {0}
+IsShow command = ⊥
+
 -- the output that a command's input asks for, or the fault in it
-abbrev pub AnswersInput : Command → List ℕ → Result Output Fault → Type 0
-AnswersInput command input (Ok a) = Prints command input a.bytes.items a.refused
+abbrev pub AnswersInput : Command → List ℕ → Result Reply Fault → Type 0
+AnswersInput command input (Ok (Whole a)) = Prints command input a.bytes.items a.refused
+AnswersInput command input (Ok (Shown showing)) = IsShow command
 AnswersInput command input (Err fault) = HasFault command input fault
+
+-- only what is shown, judged or explained has something that is refused or found
+abbrev pub MayHaveFound : Command → Reply → Type 0
+MayHaveFound command (Whole a) = MayFind command a.has_found
+MayHaveFound command (Shown showing) = IsShow command
+
+-- the command is none of the usage's four
+abbrev pub IsBeyond : Command → Type 0
+IsBeyond Encode = ⊥
+IsBeyond (Decode limit) = ⊥
+IsBeyond (Inspect capacity) = ⊥
+IsBeyond (Run capacity limit) = ⊥
+IsBeyond command = Unit {0}
+
+-- why a command's output could not be written; only beyond the usage's four it may be that nobody reads it any more
+abbrev pub IsUnwritten : Command → Refusal → Type 0
+IsUnwritten command r = (r ≡ refusal.Output) ⊎ ((r ≡ refusal.Unread) × IsBeyond command)
+
+-- a whole output was written, that no refusal ends, and this is whether something is refused or found in it
+abbrev pub WritesWhole : Output → Option (List ℕ) → Option (List ℕ) → Bool → Type 0
+WritesWhole whole old new found =
+    (found ≡ whole.has_found) × (whole.refused ≡ None) × Appends old new whole.bytes.items
+
+-- an answer was written, and this is whether something is refused or found in it
+abbrev pub WritesReply : Reply → Option (List ℕ) → Option (List ℕ) → Bool → Type 0
+WritesReply (Whole a) old new found = WritesWhole a old new found
+WritesReply (Shown showing) old new found = AppendsSome old new
+
+-- why writing a whole output ended: a part of it was written, or all, and then the refusal in it is told
+abbrev pub StopsWhole : Command → Output → Option (List ℕ) → Option (List ℕ) → Refusal → Type 0
+StopsWhole command whole old new r =
+    (IsUnwritten command r × AppendsPart old new whole.bytes.items)
+    ⊎ ((e : DecoderError) × (r ≡ refusal.Fault (Refused e)) × (whole.refused ≡ Some e) × Appends old new whole.bytes.items)
+
+-- why showing ended early: a part of what is shown was written, or a front of it, and then memory was refused
+abbrev pub StopsShowing : Option (List ℕ) → Option (List ℕ) → Refusal → Type 0
+StopsShowing old new r =
+    (((r ≡ refusal.Output) ⊎ (r ≡ refusal.Unread)) × AppendsPartOfSome old new)
+    ⊎ ((r ≡ refusal.Fault Memory) × AppendsSome old new)
 
 -- a fault is reported as this refusal, or as out of memory if there is none left to report it
 abbrev pub TellsRefusal : Fault → DecoderError → Type 0
@@ -194,21 +241,33 @@ abbrev pub EndsForWords : {Z : Type 0} → List (String Z) → Option (List ℕ)
 EndsForWords words old new r =
     (fault : WordsFault) × (command_of (map string_bytes words) ≡ Err fault) × TellsWords r fault × (new ≡ old)
 
+-- why writing an answer ended early
+abbrev pub StopsReply : Command → Reply → Option (List ℕ) → Option (List ℕ) → Refusal → Type 0
+StopsReply command (Whole a) old new r = StopsWhole command a old new r
+StopsReply command (Shown showing) old new r = StopsShowing old new r
+
+-- a command's output could not be written, except a part of it
+abbrev pub WritesPart : Command → Option (List ℕ) → Option (List ℕ) → Option (List ℕ) → Type 0
+WritesPart command input old new =
+    IfSome (input_of command input) (λ bytes. (out : List ℕ) × (refused : Option DecoderError)
+    × Prints command bytes out refused × AppendsPart old new out)
+
 -- why a command ended: the input could not be read, or it has a fault, and then nothing was written; or it was refused
 -- further on, and then what comes before that was written; or what it asks for could not be written, except a part of
--- it. The input is what the reader gives, if that is known, and the output what the writer had before and after
+-- it; or memory was refused while a connection was shown. The input is what the reader gives, if that is known, and the
+-- output what the writer had before and after
 abbrev pub EndsForCommand : Command → Option (List ℕ) → Option (List ℕ) → Option (List ℕ) → Refusal → Type 0
 EndsForCommand command input old new refusal.Usage = ⊥
 EndsForCommand command input old new (refusal.Missing topic wanted) = ⊥
 EndsForCommand command input old new (refusal.BadWord topic wanted word) = ⊥
 EndsForCommand command input old new refusal.Input = FailsToRead command refusal.Input × (new ≡ old)
-EndsForCommand command input old new refusal.Output =
-    IfSome (input_of command input) (λ bytes. (out : List ℕ) × (refused : Option DecoderError)
-    × Prints command bytes out refused × AppendsPart old new out)
+EndsForCommand command input old new refusal.Output = WritesPart command input old new
+EndsForCommand command input old new refusal.Unread = IsBeyond command × WritesPart command input old new
 EndsForCommand command input old new (refusal.Fault fault) =
     (IfSome (input_of command input) (λ bytes. HasFault command bytes fault) × (new ≡ old))
-    ⊎ (IsInspection command × (e : DecoderError) × TellsRefusal fault e × (out : List ℕ) × Appends old new out
+    ⊎ ((IsInspection command × (e : DecoderError) × TellsRefusal fault e × (out : List ℕ) × Appends old new out
     × IfSome input (λ bytes. Stops command bytes out e))
+    ⊎ (IsShow command × (fault ≡ Memory) × AppendsSome old new))
 
 -- why a run ended: other words, or the end of the command that they ask for
 abbrev pub EndsFor : {Z : Type 0} → List (String Z) → Option (List ℕ) → Option (List ℕ) → Option (List ℕ) → Refusal

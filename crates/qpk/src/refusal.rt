@@ -24,6 +24,8 @@ pub enum Refusal {
     Input,
     /// The output could not be written.
     Output,
+    /// Nobody reads the output any more, as behind `| head`: nothing is told of it.
+    Unread,
     /// The input has a fault, or no memory was left.
     Fault(Fault),
 }
@@ -76,6 +78,7 @@ impl Refusal {
             }
             Refusal::Input => Ok(CowStr::Borrowed("qpk: refused: input\n")),
             Refusal::Output => Ok(CowStr::Borrowed("qpk: refused: output\n")),
+            Refusal::Unread => Ok(CowStr::Borrowed("")),
             Refusal::Fault(fault) => fault_line(alloc, fault),
         }
     }

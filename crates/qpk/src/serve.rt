@@ -1,20 +1,19 @@
 //! The program over any reader and writers.
 
 ghost use Rattle.std.specs.Prelude.{◌≡◌, ◌≢◌, ◌⊎◌, ◌++◌, ◌∷◌, [], List, ℕ, Option, None, Some, IfOk, IfErr, IfSome};
-ghost use Rattle.std.specs.Prelude.{false};
-ghost use Rattle.std.specs.Prelude.{string_bytes};
+ghost use Rattle.std.specs.Prelude.{OnOk, false, string_bytes};
 ghost use Rattle.std.specs.Io.KnownBytes.{Appends};
 ghost use Rattle.std.specs.Option.{option_map};
 ghost use Rattle.qpack_spec.specs.Field.{total_size};
 ghost use Rattle.qpack_spec.specs.Stateless.{saturated_size};
 ghost use Rattle.qpack_codec.specs.Stateless.{fields_in};
-ghost use Rattle.qpk.specs.Refusals.{AppendsFront, TellsBy, refusal_line};
+ghost use Rattle.qpk.specs.Refusals.{AppendsFront, AppendsSome, TellsBy, refusal_line};
 ghost use Rattle.qpk.specs.Usage.{help_text};
 ghost use Rattle.qpk.specs.Serving.{AsksForNone, AsksForNothing, AnswersInput, EndsFor, EndsForCommand, EndsWell};
-ghost use Rattle.qpk.specs.Serving.{FailsToRead, HasStatus, IsAnswered, IsAnsweredBy, IsFound, MayFind, ReadsNone};
-ghost use Rattle.qpk.specs.Serving.{SaysNote};
+ghost use Rattle.qpk.specs.Serving.{FailsToRead, HasStatus, IsAnswered, IsAnsweredBy, IsFound, IsUnwritten, MayFind};
+ghost use Rattle.qpk.specs.Serving.{MayHaveFound, ReadsNone, SaysNote, StopsReply, StopsShowing, StopsWhole};
+ghost use Rattle.qpk.specs.Serving.{WritesReply, WritesWhole};
 ghost use Rattle.qpk.specs.Serving.{hexadecimal_answer, input_of, printed_fields};
-ghost use Rattle.qpk.specs.declared.command.Command.TheVariants.{DecodeHex, DecodeJson};
 ghost use Rattle.qpk.specs.declared.refusal.Refusal.TheVariants.{Fault as FaultRefused, Input as InputRefused};
 ghost use Rattle.qpk.specs.declared.text.Fault.TheVariants.{Memory};
 
@@ -33,10 +32,20 @@ use h3_qpack::{Decoded, DecoderError};
 use qpk_qif::session::{decode_records, encode_lists};
 use qpk_view::check::check;
 use qpk_view::explain::explain;
-use qpk_view::show::{View, show};
+use qpk_view::show::Showing;
+use qpk_view::view::View;
 use std::alloc::{AllocError, Global};
 use std::borrow::CowStr;
-use std::io::{ErrorKind, Read, Write};
+use std::io::{self, ErrorKind, Read, Write};
+
+/// What is written for an input.
+#[derive(Drop)]
+enum Reply<'a> {
+    /// An output that was made whole.
+    Whole(Output),
+    /// A connection, which is shown piece by piece.
+    Shown(Showing<'a>),
+}
 
 /// What is written for an input, the refusal that ends it, and whether something is refused or found in it.
 #[derive(Drop)]
@@ -69,9 +78,10 @@ pub fn serve<R: Read, W: Write, E: Write>(
         × IsAnswered words.now (R.remaining input.old) (W.contents output.old) (W.contents output.new) note
         × SaysNote (E.contents faults.old) (E.contents faults.new) note }
     // Otherwise why: other words, an input that can't be read or has a fault, a refusal further on, before which all is
-    // written, or an output that can't be written, which then has a part of what is asked for. The line of it is
-    // written to the faults, as far as they take it. There is no other status. Or the output was written, and the
-    // status says that something was refused or found.
+    // written, memory that ends while a connection is shown, or an output that can't be written, which then has a part
+    // of what is asked for. The line of it is written to the faults, as far as they take it; it is empty if nobody
+    // reads the output any more. There is no other status. Or the output was written, and the status says that something
+    // was refused or found.
     ensures refused { result ≢ 0 → ((result ≡ 1) × (refusal : Refusal)
         × EndsFor words.now (R.remaining input.old) (W.contents output.old) (W.contents output.new) refusal
         × AppendsFront (E.contents faults.old) (E.contents faults.new) (refusal_line refusal))
@@ -138,7 +148,7 @@ fn run<R: Read, W: Write>(
 }
 
 /// Writes the output for a command of these words and the input, and returns the remark on the input, and the status.
-#[tactic(auto, using(crate::proofs::Tellings::stops_inspecting))]
+#[tactic(auto, using(crate::proofs::Tellings::reply_answers, crate::proofs::Tellings::reply_ends, crate::proofs::Tellings::reply_may_find))]
 fn run_command<R: Read, W: Write>(
     alloc: Global,
     command: Command,
@@ -159,11 +169,95 @@ fn run_command<R: Read, W: Write>(
         Ok(note) => note,
         Err(fault) => return Err(Refusal::Fault(fault)),
     };
-    write_bytes(output, &answer.bytes).map_err(|_| Refusal::Output)?;
-    let status = status_of(command, answer.has_found);
-    match answer.refused {
-        None => Ok(Ending { note, status }),
+    let has_found = write_reply(command, answer, output)?;
+    Ok(Ending {
+        note,
+        status: status_of(command, has_found),
+    })
+}
+
+/// Writes the answer to a command, and returns whether something is refused or found in it. Fails if it can't be written
+/// whole, or if a refusal ends it.
+fn write_reply<W: Write>(
+    command: Command,
+    reply: Reply<'_>,
+    output: &mut W,
+) -> Result<bool, Refusal>
+    ensures written { IfOk result (WritesReply reply.entry (W.contents output.old) (W.contents output.new)) }
+    ensures refused { IfErr result (StopsReply command reply.entry (W.contents output.old) (W.contents output.new)) }
+{
+    match reply {
+        Reply::Whole(whole) => write_whole(command, whole, output),
+        Reply::Shown(showing) => write_shown(showing, output),
+    }
+}
+
+/// Writes an output for a command, and returns whether something is refused or found in it. Fails if a refusal ends it,
+/// after it was written.
+fn write_whole<W: Write>(command: Command, whole: Output, output: &mut W) -> Result<bool, Refusal>
+    ensures written { IfOk result (WritesWhole whole (W.contents output.old) (W.contents output.new)) }
+    ensures refused { IfErr result
+        (StopsWhole command whole (W.contents output.old) (W.contents output.new)) }
+{
+    if let Err(e) = write_bytes(output, &whole.bytes) {
+        return Err(refusal_to_write(command, &e));
+    }
+    match whole.refused {
+        None => Ok(whole.has_found),
         Some(e) => Err(Refusal::Fault(Fault::Refused(e))),
+    }
+}
+
+/// Writes a connection that is shown, and returns whether something in it is refused. Fails if memory is refused on the
+/// way.
+fn write_shown<W: Write>(showing: Showing<'_>, output: &mut W) -> Result<bool, Refusal>
+    ensures written { OnOk result (AppendsSome (W.contents output.old) (W.contents output.new)) }
+    ensures refused { IfErr result (StopsShowing (W.contents output.old) (W.contents output.new)) }
+{
+    let mut showing = showing;
+    write_pieces(&mut showing, output)
+}
+
+/// Writes a connection that is shown, a piece after the other, and returns whether something in it is refused.
+fn write_pieces<W: Write>(showing: &mut Showing<'_>, output: &mut W) -> Result<bool, Refusal>
+    ensures written { OnOk result (AppendsSome (W.contents output.old) (W.contents output.new)) }
+    ensures refused { IfErr result (StopsShowing (W.contents output.old) (W.contents output.new)) }
+{
+    for _ in 0..u64::MAX {
+        if write_piece(showing, output)? {
+            break;
+        }
+    }
+    Ok(showing.has_found())
+}
+
+/// Writes the next piece of a connection that is shown, and returns whether it was the last: there is none.
+fn write_piece<W: Write>(showing: &mut Showing<'_>, output: &mut W) -> Result<bool, Refusal>
+    ensures written { OnOk result (AppendsSome (W.contents output.old) (W.contents output.new)) }
+    ensures refused { IfErr result (StopsShowing (W.contents output.old) (W.contents output.new)) }
+{
+    match showing.next_piece() {
+        Ok(Some(piece)) => match write_bytes(output, piece.as_bytes()) {
+            Ok(()) => Ok(false),
+            Err(e) if e.kind() == ErrorKind::BrokenPipe => Err(Refusal::Unread),
+            Err(_) => Err(Refusal::Output),
+        },
+        Ok(None) => Ok(true),
+        Err(_) => Err(Refusal::Fault(Fault::Memory)),
+    }
+}
+
+/// Returns why a command's output could not be written. The usage's four commands tell it even if nobody reads their
+/// output any more.
+fn refusal_to_write(command: Command, e: &io::Error) -> Refusal
+    ensures { IsUnwritten command result }
+{
+    match command {
+        Command::Encode | Command::Decode(_) | Command::Inspect(_) | Command::Run(_, _) => {
+            Refusal::Output
+        }
+        _ if e.kind() == ErrorKind::BrokenPipe => Refusal::Unread,
+        _ => Refusal::Output,
     }
 }
 
@@ -233,39 +327,54 @@ fn bytes_of(alloc: Global, words: &[String]) -> Result<Vec<u8>, AllocError> {
 }
 
 /// Returns what is written for an input, and the refusal that ends it.
-fn answer(alloc: Global, command: Command, input: &[u8]) -> Result<Output, Fault>
+fn answer<'a>(alloc: Global, command: Command, input: &'a [u8]) -> Result<Reply<'a>, Fault>
     ensures answers { AnswersInput command input.now result }
-    ensures found { IfOk result (λ a. MayFind command a.has_found) }
+    ensures found { IfOk result (MayHaveFound command) }
 {
     match command {
-        Command::Help(topic) => Ok(whole(help(alloc, topic)?)),
-        Command::Version => Ok(whole(String::from_str(alloc, VERSION)?)),
+        Command::Help(topic) => Ok(Reply::Whole(whole(help(alloc, topic)?))),
+        Command::Version => Ok(Reply::Whole(whole(String::from_str(alloc, VERSION)?))),
         Command::Encode => {
             let mut text = encode_text(alloc, input)?;
             text.push('\n')?;
-            Ok(whole(text))
+            Ok(Reply::Whole(whole(text)))
         }
         Command::Decode(limit) => {
             let text = show_fields(alloc, &decode_text(alloc, input, limit)?)?;
-            Ok(whole(text))
+            Ok(Reply::Whole(whole(text)))
         }
-        Command::DecodeHex(limit) => decode_to_hexadecimal(alloc, input, limit),
-        Command::DecodeJson(limit) => decode_to_json(alloc, input, limit),
+        Command::DecodeHex(limit) => {
+            let text = show_hexadecimal(alloc, &decode_text(alloc, input, limit)?)?;
+            Ok(Reply::Whole(whole(text)))
+        }
+        Command::DecodeJson(limit) => {
+            let text = section_json(alloc, &decode_text(alloc, input, limit)?)?;
+            Ok(Reply::Whole(whole(text)))
+        }
         Command::Inspect(capacity) => {
             let inspection = inspect(alloc, capacity, input)?;
-            Ok(Output {
+            Ok(Reply::Whole(Output {
                 bytes: inspection.text.into_bytes(),
                 refused: inspection.refused,
                 has_found: false,
-            })
+            }))
         }
-        Command::EncodeLists(settings) => Ok(of_bytes(encode_lists(alloc, settings, input)?)),
-        Command::DecodeRecords(settings) => Ok(of_bytes(decode_records(alloc, settings, input)?)),
-        Command::Run(capacity, limit) => Ok(whole(run_script(alloc, capacity, limit, input)?)),
-        Command::Show(options) => Ok(viewed(show(alloc, options, input)?)),
-        Command::Check(options) => Ok(viewed(check(alloc, options, input)?)),
+        Command::EncodeLists(settings) => {
+            let bytes = encode_lists(alloc, settings, input)?;
+            Ok(Reply::Whole(of_bytes(bytes)))
+        }
+        Command::DecodeRecords(settings) => {
+            let bytes = decode_records(alloc, settings, input)?;
+            Ok(Reply::Whole(of_bytes(bytes)))
+        }
+        Command::Run(capacity, limit) => {
+            let text = run_script(alloc, capacity, limit, input)?;
+            Ok(Reply::Whole(whole(text)))
+        }
+        Command::Show(options) => Ok(Reply::Shown(Showing::new(alloc, options, input)?)),
+        Command::Check(options) => Ok(Reply::Whole(viewed(check(alloc, options, input)?))),
         Command::ExplainWords(options) | Command::ExplainInput(options) => {
-            Ok(viewed(explain(alloc, options, input)?))
+            Ok(Reply::Whole(viewed(explain(alloc, options, input)?)))
         }
     }
 }
@@ -321,24 +430,6 @@ fn show_fields(alloc: Global, decoded: &Decoded) -> Result<String, NoMemory>
     push_fields(&mut text, &decoded.fields)?;
     writeln!(text, "size {}", decoded.mem_size)?;
     Ok(text)
-}
-
-/// Returns the output for a block whose fields are printed in hexadecimal, up to a sum of sizes in bytes.
-fn decode_to_hexadecimal(alloc: Global, input: &[u8], limit: u64) -> Result<Output, Fault>
-    ensures answers { AnswersInput (DecodeHex limit) input.now result }
-    ensures found { IfOk result (λ a. a.has_found ≡ false) }
-{
-    let text = show_hexadecimal(alloc, &decode_text(alloc, input, limit)?)?;
-    Ok(whole(text))
-}
-
-/// Returns the output for a block whose fields are printed as an object of JSON, up to a sum of sizes in bytes.
-fn decode_to_json(alloc: Global, input: &[u8], limit: u64) -> Result<Output, Fault>
-    ensures answers { AnswersInput (DecodeJson limit) input.now result }
-    ensures found { IfOk result (λ a. a.has_found ≡ false) }
-{
-    let text = section_json(alloc, &decode_text(alloc, input, limit)?)?;
-    Ok(whole(text))
 }
 
 /// Returns the fields in hexadecimal, a line each, and the line of their size.

@@ -3,6 +3,7 @@
 use crate::streams::{Input, Output};
 use qpack_testing::cases::{Call, Subject};
 use qpk::serve::serve;
+use std::io::ErrorKind;
 
 /// What the next run of `qpk` is given: its input, and the rooms of its output and its faults.
 #[derive(Drop)]
@@ -12,6 +13,8 @@ pub(crate) struct Serving {
     is_broken: bool,
     output_room: usize,
     faults_room: usize,
+    /// How writing fails where there is no room.
+    failure: ErrorKind,
 }
 
 impl Subject for Serving {
@@ -21,15 +24,18 @@ impl Subject for Serving {
             is_broken: false,
             output_room: usize::MAX,
             faults_room: usize::MAX,
+            failure: ErrorKind::StorageFull,
         })
     }
 
-    /// The calls are `input BYTES`, `breaks`, `rooms OUTPUT FAULTS`, and `runs WORDS` or `pipes WORDS`. A run answers with
-    /// its status, its faults and its output. The output of one that pipes is the next input: the answer is its length.
+    /// The calls are `input BYTES`, `breaks`, `rooms OUTPUT FAULTS`, `closes`, and `runs WORDS` or `pipes WORDS`. A run
+    /// answers with its status, its faults and its output. The output of one that pipes is the next input: the answer is its
+    /// length. Where a room is full, writing fails; after `closes` as it does if nobody reads.
     fn make(&mut self, word: &str, call: &mut Call<'_>) {
         match word {
             "input" => self.input = call.bytes(),
             "breaks" => self.is_broken = true,
+            "closes" => self.failure = ErrorKind::BrokenPipe,
             "rooms" => {
                 self.output_room = call.amount();
                 self.faults_room = call.amount();
@@ -52,8 +58,8 @@ impl Serving {
     /// Runs `qpk`, and returns its output. Appends its status and its faults.
     fn run(&self, call: &mut Call<'_>) -> Output {
         let words = words_of(call);
-        let mut output = Output::new(call.alloc(), self.output_room);
-        let mut faults = Output::new(call.alloc(), self.faults_room);
+        let mut output = Output::new(call.alloc(), self.output_room, self.failure);
+        let mut faults = Output::new(call.alloc(), self.faults_room, self.failure);
         let mut input = Input {
             rest: &self.input,
             is_broken: self.is_broken,

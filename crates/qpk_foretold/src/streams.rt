@@ -29,15 +29,18 @@ impl Read for Input<'_> {
 pub(crate) struct Output {
     pub(crate) taken: Vec<u8>,
     room: usize,
+    /// How it fails.
+    failure: ErrorKind,
     is_interrupted: bool,
 }
 
 impl Output {
     /// An output with a room for this many bytes; the greatest number is no room: it takes all.
-    pub(crate) fn new(alloc: Global, room: usize) -> Output {
+    pub(crate) fn new(alloc: Global, room: usize, failure: ErrorKind) -> Output {
         Output {
             taken: Vec::new(alloc),
             room,
+            failure,
             is_interrupted: false,
         }
     }
@@ -53,7 +56,7 @@ impl Write for Output {
             return Err(io::Error::from(ErrorKind::Interrupted));
         }
         if self.taken.len() >= self.room {
-            return Err(io::Error::from(ErrorKind::BrokenPipe));
+            return Err(io::Error::from(self.failure));
         }
         let Some(first) = buf.first() else {
             return Ok(0);

@@ -1,5 +1,5 @@
 -- What becomes of findings as their text goes on.
-use Rattle.std.proofs.Common.{◌≡◌, ◌++◌, ◌∙◌, ℕ, List, [], Bool, true, false, ap, append_assoc}
+use Rattle.std.proofs.Common.{◌≡◌, ◌++◌, ◌∙◌, ℕ, List, Bool, true, false, ap, append_assoc}
 use Rattle.qpk_view.specs.Findings.{AreFindings, finding_front}
 use Rattle.qpk_view.specs.Texts.{Written, BeginsWith}
 

@@ -12,9 +12,10 @@ use crate::findings::{
 };
 use crate::place::Place;
 use crate::reasons;
-use crate::show::{View, read_recording};
+use crate::recording::Recording;
 use crate::text::Text;
-use crate::watch::{Sight, Watcher, watch};
+use crate::view::View;
+use crate::watch::{Sight, Watch, Watcher};
 use qpack_base::parse_error::ParseError;
 use qpack_codec::DecoderError;
 use qpack_table::dynamic::ReceivedTable;
@@ -43,13 +44,14 @@ pub fn check(alloc: Global, options: CheckOptions, input: &[u8]) -> Result<View,
     ensures verdict { IfOk result (λ view. AreVerdict options.json view.has_found (string_bytes view.text)) }
     ensures text { options.qif ≡ false → IfOk result (λ _. IsUtf8 input.now) }
 {
-    let recording = read_recording(alloc, options.qif, input)?;
+    let recording = Recording::new(alloc, options.qif, input)?;
+    let mut watch = Watch::new(alloc, recording, options.settings)?;
     let mut judge = Judge {
         report: Report::new(alloc, options.json),
         client: Judged::new(alloc),
         server: Judged::new(alloc),
     };
-    watch(alloc, &recording, options.settings, &mut judge)?;
+    watch.finish(&mut judge)?;
     judge.end()
 }
 

@@ -13,6 +13,16 @@ pub enum End {
     Server,
 }
 
+impl End {
+    /// Returns the other end.
+    pub(crate) fn other(self) -> End {
+        match self {
+            End::Client => End::Server,
+            End::Server => End::Client,
+        }
+    }
+}
+
 /// What a decoder allows the encoder that writes to it: its SETTINGS (RFC 9204, section 5).
 #[derive(Clone, Copy)]
 pub struct Settings {
@@ -49,6 +59,19 @@ pub(crate) struct Event<'a> {
     pub(crate) act: Act,
     /// Whether half a byte was left out, which the end of the input cuts.
     pub(crate) has_half: bool,
+}
+
+impl Event<'_> {
+    /// Returns the end whose encoder it is about: the client if it does not say which end it is of.
+    pub(crate) fn encoder(&self) -> End {
+        let Some(end) = self.end else {
+            return End::Client;
+        };
+        match &self.act {
+            Act::Encoder(_) | Act::Section(_, _) => end,
+            Act::Decoder(_) | Act::GivenUp(_) | Act::Settings(_) => end.other(),
+        }
+    }
 }
 
 /// Reads a line of this number, whose end may be cut. Returns `None` if it is empty or a comment.
@@ -118,7 +141,8 @@ const BAD_TIME: &str = "its time has a quotation mark, a backslash or a control 
 
 /// Returns whether a string of JSON has this text without an escape, and a terminal shows it.
 fn is_printed_as_it_is(text: &str) -> bool {
-    text.as_bytes().iter().all(|byte| !byte.is_ascii_control() && *byte != b'"' && *byte != b'\\')
+    text.chars()
+        .all(|it| !it.is_control() && it != '"' && it != '\\')
 }
 
 /// Splits the mark of an end off, if it is there, and the name of what came.

@@ -43,10 +43,24 @@ impl Fault {
     pub(crate) fn of_word(alloc: Global, line: usize, word: &str, words: &str) -> Fault {
         let mut reason = Text::new(alloc);
         reason.push_between("line ", &line, ": \"");
-        reason.push_str(word);
+        push_front(&mut reason, word);
         reason.push_str("\" ");
         reason.push_str(words);
         Fault::of_input(reason)
+    }
+}
+
+/// A word at fault is printed up to this many characters.
+const MOST_CHARACTERS: usize = 80;
+
+/// Appends a word at fault: of a long one its front.
+fn push_front(reason: &mut Text, word: &str) {
+    match word.char_indices().nth(MOST_CHARACTERS) {
+        Some((len, _)) => {
+            reason.push_plain(&word[..len]);
+            reason.push_str("..");
+        }
+        None => reason.push_plain(word),
     }
 }
 

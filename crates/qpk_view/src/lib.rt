@@ -19,4 +19,5 @@ mod reasons;
 mod recording;
 pub mod show;
 pub mod text;
+pub mod view;
 mod watch;

@@ -1,85 +1,129 @@
-//! A whole recording: its lines, or its records in the format of the offline interop.
+//! A recording: its lines, or its records in the format of the offline interop. It is read an event at a time.
 
-ghost use Rattle.std.specs.Prelude.{IfOk, IsUtf8};
+ghost use Rattle.std.specs.Prelude.{◌≡◌, false, IfOk, IsUtf8};
 
-use crate::events::{Act, Event, read_event};
+use crate::events::{Act, End, Event, Settings, read_event};
 use crate::fault::Fault;
 use qpk_qif::recording::{Record, split_record};
 use qpk_show::stream::Cut;
 use std::alloc::Global;
 use std::str;
 
-/// A recording that was read.
-#[derive(Drop)]
+/// A recording, and how much of it was read.
+#[derive(Clone, Copy)]
 pub(crate) struct Recording<'a> {
-    pub(crate) events: Vec<Event<'a>>,
-    /// The record that the end of the input cuts, if one is.
-    pub(crate) cut: Option<Cut>,
+    rest: Rest<'a>,
+    /// How many lines or records were read.
+    number: usize,
+    /// How many bytes of records were read.
+    offset: usize,
 }
 
-/// Reads the lines of an input.
-pub(crate) fn read_lines<'a>(alloc: Global, input: &'a [u8]) -> Result<Recording<'a>, Fault>
-    ensures { IfOk result (λ _. IsUtf8 input.now) }
-{
-    let Ok(text) = str::from_utf8(input) else {
-        return Err(Fault::in_words(alloc, NO_TEXT));
-    };
-    let is_whole = input.ends_with(b"\n");
-    let last = text.lines().count();
-    let mut events = Vec::new(alloc);
-    let mut number = 0usize;
-    for line in text.lines() {
-        number = number.saturating_add(1);
-        let is_cut = number == last && !is_whole;
-        if let Some(event) = read_event(alloc, number, line, is_cut)? {
-            events.push(event)?;
-        }
-    }
-    hold_marks(alloc, &events)?;
-    Ok(Recording { events, cut: None })
+/// What is not read yet.
+#[derive(Clone, Copy)]
+enum Rest<'a> {
+    Lines(&'a str),
+    Records(&'a [u8]),
 }
 
 /// What is said of an input that is no text.
 const NO_TEXT: &str =
     "the input is no text; --qif reads a recording of the offline interop, and --keys KEYLOG a capture";
 
-/// What is said of a line that has the mark of an end, or none, unlike the first.
-const MIXED_MARKS: &str = "either all lines begin with > or <, or none";
-
-/// Rejects a recording in which some lines say which end they are of, and others do not.
-fn hold_marks(alloc: Global, events: &[Event]) -> Result<(), Fault> {
-    let Some(first) = events.first() else {
-        return Ok(());
-    };
-    for event in events {
-        if event.end.is_some() != first.end.is_some() {
-            return Err(Fault::of_line(alloc, event.line, MIXED_MARKS));
+impl<'a> Recording<'a> {
+    /// Returns the recording of an input, of which nothing was read: records of the offline interop, or lines.
+    pub(crate) fn new(alloc: Global, is_qif: bool, input: &'a [u8]) -> Result<Recording<'a>, Fault>
+        ensures { is_qif ≡ false → IfOk result (λ _. IsUtf8 input.now) }
+    {
+        if is_qif {
+            return Ok(Recording::of(Rest::Records(input)));
+        }
+        match str::from_utf8(input) {
+            Ok(text) => Ok(Recording::of(Rest::Lines(text))),
+            Err(_) => Err(Fault::in_words(alloc, NO_TEXT)),
         }
     }
-    Ok(())
+
+    /// Returns a recording of which nothing was read.
+    fn of(rest: Rest<'a>) -> Recording<'a> {
+        Recording {
+            rest,
+            number: 0,
+            offset: 0,
+        }
+    }
+
+    /// Reads the next event. Returns `None` if there is no more.
+    pub(crate) fn next(&mut self, alloc: Global) -> Result<Option<Event<'a>>, Fault> {
+        match self.rest {
+            Rest::Lines(_) => self.next_of_lines(alloc),
+            Rest::Records(rest) => self.next_record(alloc, rest),
+        }
+    }
+
+    /// Reads lines up to the next event. Some are empty, or comments.
+    fn next_of_lines(&mut self, alloc: Global) -> Result<Option<Event<'a>>, Fault> {
+        for _ in 0..u64::MAX {
+            let Some(line) = self.next_line() else {
+                break;
+            };
+            let event = read_event(alloc, self.number, line.text, line.is_cut)?;
+            if event.is_some() {
+                return Ok(event);
+            }
+        }
+        Ok(None)
+    }
+
+    /// Splits the next line off.
+    fn next_line(&mut self) -> Option<Line<'a>> {
+        let text = match self.rest {
+            Rest::Lines(text) if !text.is_empty() => text,
+            _ => return None,
+        };
+        self.number = self.number.saturating_add(1);
+        let (text, rest, is_cut) = match text.split_once('\n') {
+            Some((text, rest)) => (text, rest, false),
+            None => (text, "", true),
+        };
+        self.rest = Rest::Lines(rest);
+        Some(Line { text, is_cut })
+    }
+
+    /// Reads the next record. Stream 0 is the encoder stream, and any other record is a section.
+    fn next_record(&mut self, alloc: Global, rest: &'a [u8]) -> Result<Option<Event<'a>>, Fault> {
+        let Some((record, after)) = split_record(rest) else {
+            return Ok(None);
+        };
+        self.number = self.number.saturating_add(1);
+        self.offset = self
+            .offset
+            .saturating_add(rest.len().saturating_sub(after.len()));
+        self.rest = Rest::Records(after);
+        Ok(Some(event_of(alloc, self.number, &record)?))
+    }
+
+    /// Returns the record that the end of the input cuts, if one is, with its number. All before it was read.
+    pub(crate) fn cut(&self) -> Option<(usize, Cut)> {
+        match self.rest {
+            Rest::Records(rest) if !rest.is_empty() => {
+                let cut = Cut {
+                    offset: self.offset,
+                    bytes: rest.len(),
+                };
+                Some((self.number.saturating_add(1), cut))
+            }
+            _ => None,
+        }
+    }
 }
 
-/// Reads the records of an input. Stream 0 is the encoder stream, and any other record is a section.
-pub(crate) fn read_records<'a>(alloc: Global, input: &[u8]) -> Result<Recording<'a>, Fault> {
-    let mut events = Vec::new(alloc);
-    let mut rest = input;
-    let mut number = 0usize;
-    while !rest.is_empty() {
-        number = number.saturating_add(1);
-        let Some((record, after)) = split_record(rest) else {
-            let cut = Cut {
-                offset: input.len().saturating_sub(rest.len()),
-                bytes: rest.len(),
-            };
-            return Ok(Recording {
-                events,
-                cut: Some(cut),
-            });
-        };
-        events.push(event_of(alloc, number, &record)?)?;
-        rest = after;
-    }
-    Ok(Recording { events, cut: None })
+/// A line.
+#[derive(Clone, Copy)]
+struct Line<'a> {
+    text: &'a str,
+    /// Whether the end of the input cuts it: it has no end of its own.
+    is_cut: bool,
 }
 
 /// Returns what a record is.
@@ -96,4 +140,84 @@ fn event_of<'a>(alloc: Global, line: usize, record: &Record) -> Result<Event<'a>
         act,
         has_half: false,
     })
+}
+
+/// What a recording says of itself.
+#[derive(Clone, Copy)]
+pub(crate) struct Outline {
+    /// Whether its lines say which end they are of. It has no line before the first is noted.
+    is_marked: Option<bool>,
+    /// The SETTINGS that limit the client's encoder.
+    client: Option<Settings>,
+    /// The SETTINGS that limit the server's encoder.
+    server: Option<Settings>,
+}
+
+/// What is said of a line that has the mark of an end, or none, unlike the first.
+const MIXED_MARKS: &str = "either all lines begin with > or <, or none";
+
+/// What is said of a line with SETTINGS that an end has sent before.
+const TWO_SETTINGS: &str = "SETTINGS come once from each end";
+
+impl Outline {
+    /// Reads a whole recording. Fails at the first line that is at fault.
+    pub(crate) fn read(alloc: Global, recording: Recording<'_>) -> Result<Outline, Fault> {
+        let mut recording = recording;
+        let mut outline = Outline {
+            is_marked: None,
+            client: None,
+            server: None,
+        };
+        for _ in 0..u64::MAX {
+            let Some(event) = recording.next(alloc)? else {
+                break;
+            };
+            outline.note(alloc, &event)?;
+        }
+        Ok(outline)
+    }
+
+    /// Returns whether the lines say which end they are of.
+    pub(crate) fn is_marked(&self) -> bool {
+        self.is_marked == Some(true)
+    }
+
+    /// Returns the SETTINGS that limit the encoder of an end, if the recording has them.
+    pub(crate) fn settings_for(&self, encoder: End) -> Option<Settings> {
+        match encoder {
+            End::Client => self.client,
+            End::Server => self.server,
+        }
+    }
+
+    /// Notes an event. Rejects one that says which end it is of and should not, or the other way round.
+    fn note(&mut self, alloc: Global, event: &Event<'_>) -> Result<(), Fault> {
+        let has_mark = event.end.is_some();
+        if self.is_marked.unwrap_or(has_mark) != has_mark {
+            return Err(Fault::of_line(alloc, event.line, MIXED_MARKS));
+        }
+        self.is_marked = Some(has_mark);
+        if let Act::Settings(settings) = &event.act {
+            return self.note_settings(alloc, event, *settings);
+        }
+        Ok(())
+    }
+
+    /// Notes SETTINGS. Rejects second ones of an end.
+    fn note_settings(
+        &mut self,
+        alloc: Global,
+        event: &Event<'_>,
+        settings: Settings,
+    ) -> Result<(), Fault> {
+        let encoder = event.encoder();
+        if self.settings_for(encoder).is_some() {
+            return Err(Fault::of_line(alloc, event.line, TWO_SETTINGS));
+        }
+        match encoder {
+            End::Client => self.client = Some(settings),
+            End::Server => self.server = Some(settings),
+        }
+        Ok(())
+    }
 }

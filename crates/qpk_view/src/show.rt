@@ -1,15 +1,15 @@
 //! A recorded connection, shown: what each instruction and each line is, where it begins, and what it means (RFC 9204).
 
-ghost use Rattle.std.specs.Prelude.{◌≡◌, false, IfOk, IsUtf8, string_bytes};
+ghost use Rattle.std.specs.Prelude.{◌≡◌, false, IfOk, IsUtf8};
 
 use crate::events::{End, Settings};
 use crate::fault::Fault;
 use crate::json::push_object;
 use crate::place::Place;
 use crate::printing::push_sight;
-use crate::recording::{Recording, read_lines, read_records};
+use crate::recording::Recording;
 use crate::text::Text;
-use crate::watch::{Sight, Watcher, watch};
+use crate::watch::{Sight, Step, Watch, Watcher};
 use qpk_show::section::Reading;
 use qpk_show::shown::Shown;
 use std::alloc::Global;
@@ -27,58 +27,61 @@ pub struct ShowOptions {
     pub settings: Settings,
 }
 
-/// What is printed, and whether something was refused.
+/// A recording that is being shown, in its order.
 #[derive(Drop)]
-pub struct View {
-    /// What is printed.
-    pub text: String,
-    /// Whether something was refused, or found.
-    pub has_found: bool,
+pub struct Showing<'a> {
+    watch: Watch<'a>,
+    screen: Screen,
+    is_over: bool,
 }
 
-impl View {
-    /// Returns what is printed. Fails if memory for some of it was refused.
-    pub(crate) fn new(text: Text, has_found: bool) -> Result<View, Fault>
-        ensures text { IfOk result (λ view. (text.lacks_memory ≡ false) × (string_bytes view.text ≡ text.bytes)) }
-        ensures found { IfOk result (λ view. view.has_found ≡ has_found) }
+/// A piece of what is shown ends at the first event after this many bytes.
+const PIECE: usize = 65_536;
+
+impl<'a> Showing<'a> {
+    /// Begins to show a recording. Fails if the maximum capacity is 2^30 or more, or if the input is no recording: all
+    /// of it is read for that.
+    pub fn new(alloc: Global, options: ShowOptions, input: &'a [u8]) -> Result<Showing<'a>, Fault>
+        ensures { options.qif ≡ false → IfOk result (λ _. IsUtf8 input.now) }
     {
-        match text.finish() {
-            Ok(text) => Ok(View { text, has_found }),
-            Err(_) => Err(Fault::Memory),
+        let recording = Recording::new(alloc, options.qif, input)?;
+        let watch = Watch::new(alloc, recording, options.settings)?;
+        let screen = Screen {
+            options,
+            text: Text::new(alloc),
+            has_found: false,
+        };
+        Ok(Showing {
+            watch,
+            screen,
+            is_over: false,
+        })
+    }
+
+    /// Returns the next piece of what is printed, or `None` at the end. Fails if no memory is left.
+    pub fn next_piece(&mut self) -> Result<Option<String>, Fault> {
+        for _ in 0..u64::MAX {
+            if self.is_over || self.screen.text.is_longer_than(PIECE) {
+                break;
+            }
+            if let Step::End = self.watch.step(&mut self.screen)? {
+                self.is_over = true;
+            }
         }
+        let piece = self.screen.text.take()?;
+        if piece.is_empty() {
+            return Ok(None);
+        }
+        Ok(Some(piece))
+    }
+
+    /// Returns whether something that was shown so far is refused.
+    pub fn has_found(&self) -> bool {
+        self.screen.has_found
     }
 }
 
-/// Shows a recording in its order, and what its end cuts. Fails if the maximum capacity is 2^30 or more, or if the
-/// input is no recording.
-pub fn show(alloc: Global, options: ShowOptions, input: &[u8]) -> Result<View, Fault>
-    ensures { options.qif ≡ false → IfOk result (λ _. IsUtf8 input.now) }
-{
-    let recording = read_recording(alloc, options.qif, input)?;
-    let mut screen = Screen {
-        options,
-        text: Text::new(alloc),
-        has_found: false,
-    };
-    watch(alloc, &recording, options.settings, &mut screen)?;
-    View::new(screen.text, screen.has_found)
-}
-
-/// Reads an input: records of the offline interop, or lines.
-pub(crate) fn read_recording<'a>(
-    alloc: Global,
-    is_qif: bool,
-    input: &'a [u8],
-) -> Result<Recording<'a>, Fault>
-    ensures { is_qif ≡ false → IfOk result (λ _. IsUtf8 input.now) }
-{
-    if is_qif {
-        return read_records(alloc, input);
-    }
-    read_lines(alloc, input)
-}
-
-/// What was printed so far.
+/// What was printed since the last piece.
 #[derive(Drop)]
 struct Screen {
     options: ShowOptions,

@@ -6,6 +6,7 @@ ghost use Rattle.qpk_view.specs.Texts.{Appends, Extends};
 use std::alloc::{AllocError, Global};
 use std::fmt::Display;
 use std::marker::Model;
+use std::mem;
 
 /// A text, and whether memory for some of it was refused. From then on nothing is appended.
 #[derive(Drop)]
@@ -121,6 +122,35 @@ impl Text {
         ensures { self.new.lacks_memory ≡ true }
     {
         self.lacks_memory = true;
+    }
+
+    /// Appends characters; a control character, which a terminal would heed, as `\x` and two digits.
+    pub fn push_plain(&mut self, text: &str)
+        ensures { Extends self.old self.new }
+    {
+        for character in text.chars() {
+            if character.is_control() {
+                self.push_str("\\x");
+                self.push_digits(character as u32 as u8);
+            } else {
+                self.push(character);
+            }
+        }
+    }
+
+    /// Returns whether the text has more than this many bytes, or memory was refused.
+    pub fn is_longer_than(&self, len: usize) -> bool {
+        self.lacks_memory || self.text.len() > len
+    }
+
+    /// Takes the text, which is empty then. Fails if memory was refused.
+    pub fn take(&mut self) -> Result<String, AllocError>
+        ensures ok { IfOk result (λ text. (self.old.lacks_memory ≡ false) × (string_bytes text ≡ self.old.bytes)) }
+        ensures err { OnErr result (self.old.lacks_memory ≡ true) }
+        ensures new { self.new ≡ record { bytes = []; lacks_memory = false } }
+    {
+        let taken = mem::replace(self, Text::new(self.allocator()));
+        taken.finish()
     }
 
     /// Returns the text. Fails if memory was refused.

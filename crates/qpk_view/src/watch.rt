@@ -5,7 +5,7 @@ ghost use Rattle.std.specs.Prelude.{◌≡◌, Bool};
 use crate::events::{Act, End, Event, Settings};
 use crate::fault::Fault;
 use crate::place::Place;
-use crate::recording::Recording;
+use crate::recording::{Outline, Recording};
 use qpack_base::coding::NoMemory;
 use qpack_table::dynamic::ReceivedTable;
 use qpk_show::observer::Observer;
@@ -38,54 +38,98 @@ pub(crate) trait Watcher {
         ensures { json self.new ≡ json self.old };
 }
 
-/// Shows a recording. The limits are those of its SETTINGS, or else the given ones.
-pub(crate) fn watch<W: Watcher>(
+/// A recording that is being watched: its onlookers, to whom the events before came.
+#[derive(Drop)]
+pub(crate) struct Watch<'a> {
     alloc: Global,
-    recording: &Recording<'_>,
-    settings: Settings,
-    watcher: &mut W,
-) -> Result<(), Fault>
-    ensures { W.json watcher.new ≡ W.json watcher.old }
-{
-    let mut onlookers = onlookers_of(alloc, recording, settings)?;
-    onlookers.show(recording, watcher)?;
-    Ok(())
+    recording: Recording<'a>,
+    is_marked: bool,
+    /// The number of the line that came last.
+    line: Option<usize>,
+    client: Observer,
+    server: Observer,
 }
 
-/// Returns onlookers to whom nothing came, of the encoders of a recording.
-fn onlookers_of(
-    alloc: Global,
-    recording: &Recording<'_>,
-    settings: Settings,
-) -> Result<Onlookers, Fault> {
-    let client = settings_for(alloc, recording, End::Client)?.unwrap_or(settings);
-    let server = settings_for(alloc, recording, End::Server)?.unwrap_or(settings);
-    let client = onlooker(alloc, client)?;
-    let server = onlooker(alloc, server)?;
-    Ok(Onlookers { client, server })
-}
+impl<'a> Watch<'a> {
+    /// Begins to watch a recording. The limits are those of its SETTINGS, or else the given ones. Fails at the first
+    /// line that is at fault.
+    pub(crate) fn new(
+        alloc: Global,
+        recording: Recording<'a>,
+        settings: Settings,
+    ) -> Result<Watch<'a>, Fault> {
+        let outline = Outline::read(alloc, recording)?;
+        let client = outline.settings_for(End::Client).unwrap_or(settings);
+        let server = outline.settings_for(End::Server).unwrap_or(settings);
+        Ok(Watch {
+            alloc,
+            recording,
+            is_marked: outline.is_marked(),
+            line: None,
+            client: onlooker(alloc, client)?,
+            server: onlooker(alloc, server)?,
+        })
+    }
 
-/// What is said of a line with SETTINGS that an end has sent before.
-const TWO_SETTINGS: &str = "SETTINGS come once from each end";
+    /// Takes the next event, and shows all that can be by now. If there is no more, shows what the end of the input
+    /// cuts, and returns that it is over.
+    pub(crate) fn step<W: Watcher>(&mut self, watcher: &mut W) -> Result<Step, Fault>
+        ensures { W.json watcher.new ≡ W.json watcher.old }
+    {
+        let Some(event) = self.recording.next(self.alloc)? else {
+            self.end(watcher);
+            return Ok(Step::End);
+        };
+        self.line = Some(event.line);
+        self.take(&event, watcher)?;
+        Ok(Step::Event)
+    }
 
-/// Returns the SETTINGS that limit the encoder of an end, if the recording has them. Rejects a second one.
-fn settings_for(
-    alloc: Global,
-    recording: &Recording<'_>,
-    encoder: End,
-) -> Result<Option<Settings>, Fault> {
-    let mut found = None;
-    for event in &recording.events {
-        if let Act::Settings(settings) = &event.act {
-            if encoder_of(event) == encoder {
-                if found.is_some() {
-                    return Err(Fault::of_line(alloc, event.line, TWO_SETTINGS));
-                }
-                found = Some(*settings);
+    /// Takes all events, and shows what the end of the input cuts.
+    pub(crate) fn finish<W: Watcher>(&mut self, watcher: &mut W) -> Result<(), Fault>
+        ensures { W.json watcher.new ≡ W.json watcher.old }
+    {
+        for _ in 0..u64::MAX {
+            if let Step::End = self.step(watcher)? {
+                break;
             }
         }
+        Ok(())
     }
-    Ok(found)
+
+    /// Takes an event, and shows all that can be by now.
+    fn take<W: Watcher>(&mut self, event: &Event<'_>, watcher: &mut W) -> Result<(), NoMemory>
+        ensures { W.json watcher.new ≡ W.json watcher.old }
+    {
+        let encoder = event.encoder();
+        match encoder {
+            End::Client => take_by(&mut self.client, event, encoder, watcher),
+            End::Server => take_by(&mut self.server, event, encoder, watcher),
+        }
+    }
+
+    /// Shows what the end of the input cuts.
+    fn end<W: Watcher>(&self, watcher: &mut W)
+        ensures { W.json watcher.new ≡ W.json watcher.old }
+    {
+        if let Some(line) = self.line {
+            show_cuts(&self.client, line, End::Client, self.is_marked, watcher);
+            show_cuts(&self.server, line, End::Server, self.is_marked, watcher);
+        }
+        if let Some((line, cut)) = self.recording.cut() {
+            let place = place_at_end(line, End::Client, false);
+            watcher.see(place, End::Client, Sight::Cut("record", cut));
+        }
+    }
+}
+
+/// What was taken of a recording.
+#[derive(Clone, Copy)]
+pub(crate) enum Step {
+    /// An event.
+    Event,
+    /// Nothing: there is no more.
+    End,
 }
 
 /// Returns an onlooker to whom nothing came.
@@ -96,78 +140,13 @@ fn onlooker(alloc: Global, settings: Settings) -> Result<Observer, Fault> {
     }
 }
 
-/// Returns the other end.
-fn other(end: End) -> End {
-    match end {
-        End::Client => End::Server,
-        End::Server => End::Client,
-    }
-}
-
-/// Returns the end whose encoder an event is about: the client if no line says which end it is of.
-fn encoder_of(event: &Event<'_>) -> End {
-    let Some(end) = event.end else {
-        return End::Client;
-    };
-    match &event.act {
-        Act::Encoder(_) | Act::Section(_, _) => end,
-        Act::Decoder(_) | Act::GivenUp(_) | Act::Settings(_) => other(end),
-    }
-}
-
 /// Returns the end that sent what is shown, if the encoder is that of an end.
 fn sender_of(shown: &Shown, encoder: End) -> End {
     match shown {
         Shown::Told { .. } | Shown::NotTold { .. } | Shown::NoDecoderInstruction { .. } => {
-            other(encoder)
+            encoder.other()
         }
         _ => encoder,
-    }
-}
-
-/// The onlookers of both encoders.
-#[derive(Drop)]
-struct Onlookers {
-    client: Observer,
-    server: Observer,
-}
-
-impl Onlookers {
-    /// Takes all events of a recording, and shows what its end cuts.
-    fn show<W: Watcher>(
-        &mut self,
-        recording: &Recording<'_>,
-        watcher: &mut W,
-    ) -> Result<(), NoMemory>
-        ensures { W.json watcher.new ≡ W.json watcher.old }
-    {
-        for event in &recording.events {
-            self.take(event, watcher)?;
-        }
-        self.end(recording, watcher);
-        Ok(())
-    }
-
-    /// Takes an event, and shows all that can be by now.
-    fn take<W: Watcher>(&mut self, event: &Event<'_>, watcher: &mut W) -> Result<(), NoMemory>
-        ensures { W.json watcher.new ≡ W.json watcher.old }
-    {
-        match encoder_of(event) {
-            End::Client => take_by(&mut self.client, event, End::Client, watcher),
-            End::Server => take_by(&mut self.server, event, End::Server, watcher),
-        }
-    }
-
-    /// Shows what the end of the input cuts.
-    fn end<W: Watcher>(&self, recording: &Recording<'_>, watcher: &mut W)
-        ensures { W.json watcher.new ≡ W.json watcher.old }
-    {
-        if let Some(last) = recording.events.last() {
-            let is_marked = last.end.is_some();
-            show_cuts(&self.client, last.line, End::Client, is_marked, watcher);
-            show_cuts(&self.server, last.line, End::Server, is_marked, watcher);
-        }
-        see_cut_record(recording, watcher);
     }
 }
 
@@ -274,7 +253,7 @@ fn show_cuts<W: Watcher>(
         watcher.see(place, encoder, Sight::Cut("encoder", cut));
     }
     if let Some(cut) = observer.decoder_cut() {
-        let place = place_at_end(line, other(encoder), is_marked);
+        let place = place_at_end(line, encoder.other(), is_marked);
         watcher.see(place, encoder, Sight::Cut("decoder", cut));
     }
 }
@@ -286,16 +265,5 @@ fn place_at_end(line: usize, end: End, is_marked: bool) -> Place<'static> {
         line,
         time: "",
         end,
-    }
-}
-
-/// Shows the record that the end of the input cuts, if one is.
-fn see_cut_record<W: Watcher>(recording: &Recording<'_>, watcher: &mut W)
-    ensures { W.json watcher.new ≡ W.json watcher.old }
-{
-    if let Some(cut) = recording.cut {
-        let line = recording.events.len().saturating_add(1);
-        let place = place_at_end(line, End::Client, false);
-        watcher.see(place, End::Client, Sight::Cut("record", cut));
     }
 }

@@ -1,4 +1,4 @@
-use Rattle.std.proofs.Common.{append_assoc, ◌≡◌, ◌++◌, false, List, ℕ}
+use Rattle.std.proofs.Common.{append_assoc}
 use Rattle.qpk_view.proofs.check.push_counts.Goals as goal
 
 pub returns : goal.returns
