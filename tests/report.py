@@ -417,11 +417,13 @@ def test_statuses():
 def test_no_traceback():
     """Memory that ends, an output that is full or closed, and names with control characters have a line."""
     with tempfile.TemporaryDirectory() as room:
-        path = Path(room) / "wide"
-        path.write_text("b 4 0000" + "d1" * 400_000 + "\n", encoding="utf-8")
+        wide, wider = Path(room) / "wide", Path(room) / "wider"
+        for path, lines in ((wide, 180_000), (wider, 400_000)):
+            path.write_text("b 4 0000" + "d1" * lines + "\n", encoding="utf-8")
         script = TOP / "dist" / "qpk-report"
         for command, reason in (
-            (f"ulimit -v 150000; exec {script} stats {path}", "refused: memory"),
+            (f"ulimit -v 150000; exec {script} stats {wide}", "refused: memory"),
+            (f"exec {script} stats {wider}", "a section is too large: over 200000 lines, or 64 MB as JSON; read it by qpk show"),
             (f"{script} stats {RECORDING} >/dev/full", "No space left on device: name another file, or make room there"),
             (f"{script} stats {RECORDING} >&-", "refused: output: standard output is closed"),
             (f"{script} stats - <&-", "refused: input: standard input is closed"),

@@ -19,6 +19,8 @@ from . import ReportError
 
 SCRIPTS = Path(__file__).resolve().parent.parent  # where qpk-report is
 HEAD_OF_RECORD = 12  # bytes before those of a record of the offline interop: 8 for the stream, 4 for the length
+MOST_BYTES = 64 << 20  # of an object that qpk prints: a section with its fields, in memory some three times as much
+MOST_LINES = 200_000  # of a section: each takes some 800 bytes in memory
 Object = Dict[str, Any]
 
 
@@ -62,8 +64,8 @@ class Recording:
             recording.write(self.data)
             recording.seek(0)
             with qpk_on([command, "--json", *self.words, "-"], recording, statuses) as printed:
-                for line in printed:
-                    yield json.loads(line)
+                for line in iter(lambda: printed.readline(MOST_BYTES), b""):
+                    yield read_object(line, command)
 
     def pieces(self) -> Iterator[Piece]:
         """Yields the lines that have bytes. Which lines there may be is checked by qpk."""
@@ -71,6 +73,14 @@ class Recording:
         if "--qif" in self.words:
             return pieces_of_records(data)
         return pieces_of_lines(TextIOWrapper(data, errors="replace", encoding="utf-8", newline="\n"))
+
+
+def read_object(line: bytes, command: str) -> Object:
+    """Reads an object that a command of qpk printed, of no more than MOST_BYTES and MOST_LINES."""
+    if len(line) == MOST_BYTES or line.count(b'{"offset":') > MOST_LINES:
+        raise ReportError(f"a section is too large: over {MOST_LINES} lines, or {MOST_BYTES >> 20} MB as JSON; read it by qpk {command}")
+    found: Object = json.loads(line)
+    return found
 
 
 def find_program(name: str) -> str:
