@@ -73,11 +73,14 @@ impl Stream {
     }
 
     /// Notes the answer of an encode of these fields. Returns whether it may give that.
-    fn note_encode(&mut self, handed: String, answer: &str) -> bool {
-        if answer.starts_with("encoded ") {
-            return self.handed.push(handed).is_ok();
+    fn note_encode(&mut self, handed: String, call: &mut Call<'_>) -> bool {
+        if !call.answer().starts_with("encoded ") {
+            return self.may_skip(call.answer());
         }
-        self.may_skip(answer)
+        if self.handed.push(handed).is_err() {
+            call.lack_memory();
+        }
+        true
     }
 
     /// Notes the answer of a decode by a decoder that received this many insertions, and counts it. Returns nothing if it
@@ -240,8 +243,10 @@ impl<S: Ends> Lawful<S> {
     /// Encodes a section, and notes its fields.
     fn encode(&mut self, call: &mut Call<'_>) {
         let handed = handed_of(call);
-        let stream = self.call_on_stream("encodes", call);
-        let is_lawful = stream.is_some_and(|stream| stream.note_encode(handed, call.answer()));
+        let is_lawful = match self.call_on_stream("encodes", call) {
+            Some(stream) => stream.note_encode(handed, call),
+            None => false,
+        };
         call.holds(is_lawful, "its answer is not lawful");
     }
 
