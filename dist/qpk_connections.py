@@ -8,9 +8,9 @@ import re
 from typing import Dict, Iterator, List, NamedTuple, Optional, Set, Tuple
 
 from qpk_datagrams import Address, Datagram, text_of
-from qpk_keys import AES_128, EARLY, INITIAL, RETRY, VERSION_1, VERSIONS, KeyLog, Keys, Opened, Version
+from qpk_keys import AES_128, EARLY, INITIAL, RETRY, SHORTEST, VERSION_1, VERSIONS, KeyLog, Keys, Opened, Version
 from qpk_keys import initial_secrets, keys_of
-from qpk_quic import ACK, CRYPTO, LONGEST_ID, NEW_CONNECTION_ID, RESET_STREAM, STREAM
+from qpk_quic import ACK, CRYPTO, FIXED_BIT, LONGEST_ID, NEW_CONNECTION_ID, RESET_STREAM, STREAM
 from qpk_quic import LongHeader, Numbers, is_long, read_frames, read_long_header
 from qpk_streams import Connection, Stream, Streams
 from qpk_verdict import Seen, SeenOfEnd
@@ -21,7 +21,6 @@ MOST_PAIRS = 1 << 16  # pairs of addresses whose connection is kept
 MOST_NAMELESS = 32  # connections without a connection ID that are tried for a packet from a new address
 MOST_KEPT = 1 << 24  # bytes of packets that are kept until there are keys for them
 MOST_TRIES = 1 << 17  # of keys, ends and numbers of packets in a capture, where none is known
-MOST_NUMBERS = 1 << 8  # upper parts of the number that the first packet seen of a connection may have
 ENOUGH = 8  # short packets between two addresses that tell the length of their connection ID
 CLIENT_HELLO, RANDOM_AT, RANDOM_END = 1, 6, 38  # in the bytes of the handshake (RFC 8446, section 4.1.2)
 LEAST_SEGMENT, MOST_SEGMENT = 1200, 1500  # bytes of a datagram of those that were captured as one
@@ -146,6 +145,7 @@ class Reader:
         self.nameless: Dict[Address, List[QuicConnection]] = {}  # by servers, those whose packets may have no ID
         self.sizes: Dict[Tuple[Address, Address], Set[int]] = {}  # of datagrams that were captured as one
         self.strangers: Dict[Tuple[Address, Address], List[Kept]] = {}  # short packets of no connection
+        self.early: Dict[Tuple[Address, Address], List[Kept]] = {}  # packets of early data before those
         self.hopeless: Set[Tuple[Address, Address]] = set()  # of which no key opens the packets
         self.kept_bytes = 0
         self.tries = 0
@@ -158,12 +158,12 @@ class Reader:
 
     def read(self, time: int, datagram: Datagram) -> None:
         """Reads a datagram."""
+        self.quic += len(datagram.data) > SHORTEST and datagram.data[0] & FIXED_BIT != 0
         self.read_from(time, datagram, 0)
 
     def read_from(self, time: int, datagram: Datagram, begin: int) -> None:
         """Reads the packets of a datagram from an offset on."""
         data = datagram.data
-        is_quic = False
         while begin < len(data):
             if is_long(data, begin):
                 end = self.read_long(time, datagram, begin)
@@ -171,10 +171,8 @@ class Reader:
                 end = self.read_short(time, datagram, begin) or self.end_of_filling(data, begin)
             if not end:
                 self.note_unread(time, datagram, begin)
-                break
-            is_quic = True
+                return
             begin = end
-        self.quic += is_quic
 
     def end_of_filling(self, data: bytes, begin: int) -> int:
         """Returns where the zeros end that fill a datagram behind its packets, or 0 if there are none."""
@@ -206,6 +204,8 @@ class Reader:
         if header.kind == INITIAL:
             found = self.read_initial(datagram, begin, header, found)
         if not found:
+            if header.kind == EARLY:
+                self.keep(self.early.setdefault(pair, []), Kept(time, datagram, begin))
             return header.end
         connection, mark = found
         if header.version not in connection.versions:
@@ -247,9 +247,12 @@ class Reader:
                 return None
             found = QuicConnection(datagram.source, datagram.target), ">"
             self.connections.append(found[0])
-            # A connection before it between the same ends is over.
-            self.by_pair.pop((datagram.source, datagram.target), None)
-            self.by_pair.pop((datagram.target, datagram.source), None)
+            pair, back = (datagram.source, datagram.target), (datagram.target, datagram.source)
+            # A connection before it between the same ends is over. Packets that came before it may be its own.
+            self.by_pair.pop(pair, None)
+            self.by_pair.pop(back, None)
+            before = self.early.pop(pair, []) + self.forget(pair) + self.forget(back)
+            found[0].kept = sorted(before, key=lambda it: it.time)
         found[0].begin(header.version, header.target)  # after a Retry again, whose packet may be missing
         self.name(found[0], ">", header.target)
         self.take_initial(found[0], ">", packet)
@@ -265,7 +268,7 @@ class Reader:
     def read_early(self, kept: Kept, header: LongHeader, connection: QuicConnection) -> None:
         """Reads a packet of early data, or keeps it until the client's random is known."""
         if not connection.random:
-            self.keep(connection, kept)
+            self.keep(connection.kept, kept)
             return
         for keys in connection.keys(EARLY, self.log):
             packet = keys.open(kept.datagram.data, kept.begin, header.number_at, (header.end,))
@@ -274,18 +277,24 @@ class Reader:
                 connection.take(self.relative(kept.time), ">", packet)
                 return
 
-    def keep(self, connection: QuicConnection, kept: Kept) -> None:
-        """Keeps a packet until there are keys, if there is room."""
+    def keep(self, to: List[Kept], kept: Kept) -> bool:
+        """Keeps a packet until there are keys, if there is room, and returns whether it does."""
         size = len(kept.datagram.data)
-        if self.kept_bytes + size <= MOST_KEPT:
-            self.kept_bytes += size
-            connection.kept.append(kept)
+        if self.kept_bytes + size > MOST_KEPT:
+            return False
+        self.kept_bytes += size
+        to.append(kept)
+        return True
+
+    def release(self, kept: List[Kept]) -> None:
+        """Notes that packets are kept no more."""
+        self.kept_bytes -= sum(len(it.datagram.data) for it in kept)
 
     def read_kept(self, connection: QuicConnection) -> None:
         """Reads the packets that were kept."""
         kept, connection.kept = connection.kept, []
+        self.release(kept)
         for it in kept:
-            self.kept_bytes -= len(it.datagram.data)
             if is_long(it.datagram.data, it.begin):
                 header = read_long_header(it.datagram.data, it.begin)
                 if header:
@@ -348,7 +357,7 @@ class Reader:
             if connection.is_late and mark not in connection.candidates:
                 continue  # its keys are looked for
             if not connection.random:
-                self.keep(connection, Kept(time, datagram, begin))
+                self.keep(connection.kept, Kept(time, datagram, begin))
                 return len(datagram.data)
             packet = self.open_short(connection, mark, datagram, begin, length)
             if packet:
@@ -393,7 +402,7 @@ class Reader:
             if packet:
                 return packet
             keys.largest = largest
-        for packet in keys.search(data, begin, at, MOST_NUMBERS) if largest >= 0 else ():
+        for packet in keys.search(data, begin, at) if largest >= 0 else ():
             if packet or not self.may_try():
                 return packet
         return None
@@ -426,12 +435,10 @@ class Reader:
     def meet(self, kept: Kept) -> None:
         """Keeps a short packet of no connection. Looks for its keys once there are enough between its addresses."""
         pair = (kept.datagram.source, kept.datagram.target)
-        size = len(kept.datagram.data)
-        if pair in self.hopeless or self.kept_bytes + size > MOST_KEPT or kept.datagram.is_short:
+        if pair in self.hopeless or kept.datagram.is_short or pair not in self.strangers and len(self.strangers) > MOST_PAIRS:
             return
-        self.kept_bytes += size
-        self.strangers.setdefault(pair, []).append(kept)
-        if len(self.strangers[pair]) % ENOUGH == 0:
+        strangers = self.strangers.setdefault(pair, [])
+        if self.keep(strangers, kept) and len(strangers) % ENOUGH == 0:
             self.find_keys(pair)
 
     def finish(self) -> None:
@@ -454,17 +461,18 @@ class Reader:
                     return
         if len(kept) > ENOUGH or self.tries > MOST_TRIES:
             self.hopeless.add(pair)
-            self.forget(pair)
+            self.release(self.forget(pair))
 
     def opens(self, random: str, mark: str, pair: Tuple[Address, Address], kept: List[Kept]) -> bool:
         """Whether a secret opens one of some packets. Begins their connection then."""
         secret = self.log.secret_of(random, mark)
-        length = common_length([it.datagram.data[1:] for it in kept])
+        length = min(common_length([it.datagram.data[1:] for it in kept]), LONGEST_ID)
+        least = max(length - 1, 0) if len(kept) >= ENOUGH else 0
         for keys in keys_of(secret, VERSIONS.values()) if secret else ():
             self.tries += TRIES_OF_KEYS
             for it in kept:
-                for size in sorted(range(min(length, LONGEST_ID) + 1), reverse=True):
-                    for packet in keys.search(it.datagram.data, 0, 1 + size, MOST_NUMBERS):
+                for size in range(length, least - 1, -1):
+                    for packet in keys.search(it.datagram.data, 0, 1 + size):
                         if packet:
                             self.begin_late(random, mark, pair, keys, it.datagram.data[1 : 1 + size])
                             return True
@@ -489,9 +497,7 @@ class Reader:
 
     def forget(self, pair: Tuple[Address, Address]) -> List[Kept]:
         """Returns the packets that were kept between two addresses, and keeps them no more."""
-        kept = self.strangers.pop(pair, [])
-        self.kept_bytes -= sum(len(it.datagram.data) for it in kept)
-        return kept
+        return self.strangers.pop(pair, [])
 
     def read_strangers(self, pair: Tuple[Address, Address]) -> None:
         """Reads the packets that were kept between two addresses, of both directions, in the order of their times."""
@@ -499,7 +505,9 @@ class Reader:
         connection, mark = self.by_pair[back]
         if back in self.strangers and mark not in connection.candidates:
             self.opens(connection.random, mark, back, self.strangers[back])
-        for it in sorted(self.forget(pair) + self.forget(back), key=lambda it: it.time):
+        kept = sorted(self.forget(pair) + self.forget(back), key=lambda it: it.time)
+        self.release(kept)
+        for it in kept:
             self.read_from(it.time, it.datagram, it.begin)
 
     # ---- What was read

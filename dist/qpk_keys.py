@@ -13,6 +13,7 @@ SHORTEST = 4 + SAMPLE  # bytes of a packet from its number on
 SET_TAG = 0x11  # EVP_CTRL_AEAD_SET_TAG
 MOST_SECRETS = 1 << 16  # connections of a key log that are kept; the others are left out
 LONGEST_SECRET = 64  # bytes
+UPPER_PARTS = {1: 256, 2: 16, 3: 2, 4: 1}  # of a packet number that are tried where none is known, by the bytes written
 AHEAD = 1  # generations of keys, after the newest that opened a packet, that are tried
 
 
@@ -322,11 +323,11 @@ class Keys:
             for old in range(generation - 1):
                 self.payloads[old] = None
 
-    def search(self, packet: bytes, begin: int, at: int, most: int) -> Iterator[Optional[Opened]]:
+    def search(self, packet: bytes, begin: int, at: int) -> Iterator[Optional[Opened]]:
         """Tries to open a short packet, if many packets before it are not there. Yields each try.
 
-        The upper bytes of its number are not known, so small ones are tried, as many as most. Before the first packet its
-        generation is not known either.
+        The upper bytes of its number are not known, so small ones are tried. Before the first packet its generation is not
+        known either.
         """
         header = self.unmask(packet, begin, at)
         if header is None or header.first & 0x18:  # reserved bits, which are 0 (RFC 9000, section 17.3.1)
@@ -334,7 +335,7 @@ class Keys:
         phase = header.first >> 2 & 1
         generations = (phase, phase + 2) if self.largest < 0 else self.generations(header)
         window = 1 << (8 * header.size)
-        for number in range(header.number, min(window * most, 1 << 62), window):
+        for number in range(header.number, window * UPPER_PARTS[header.size], window):
             payload = self.open_by(header, number, packet[at + header.size :], generations)
             yield None if payload is None else Opened(number, payload, len(packet))
             if payload is not None:

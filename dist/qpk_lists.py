@@ -2,10 +2,12 @@
 
 import json
 from typing import Any, Dict, Iterator, List, NamedTuple, Tuple
+from urllib.parse import unquote
 
 from qpk_main import printable
 from qpk_streams import SourceError, to_bytes
 
+ESCAPED = "%ESCAPED:\u200b "  # before a line of a net log whose bytes above ASCII are written as in addresses
 MOST_LISTS = 1 << 20  # that are kept; others are left out
 ENDS = {">": "client", "<": "server"}
 
@@ -45,6 +47,7 @@ def fields_of_lines(lines: Any) -> List[Tuple[str, str]]:
     fields = []
     for it in lines if isinstance(lines, list) else ():
         if isinstance(it, str):
+            it = unquote(it[len(ESCAPED) :]) if it.startswith(ESCAPED) else it
             name, _, value = it[1:].partition(": ")
             fields.append((it[:1] + name, value))
         elif isinstance(it, dict) and isinstance(it.get("name"), str):

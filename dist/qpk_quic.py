@@ -7,6 +7,7 @@ from qpk_keys import HANDSHAKE, INITIAL, RETRY, VERSIONS, Version
 from qpk_streams import NotWhole, read_integer
 
 LONGEST_ID = 20  # bytes of a connection ID
+FIXED_BIT = 0x40  # of the first byte of a packet, which most programs set (RFC 9287)
 MOST_RANGES = 1 << 14  # of packet numbers that are kept; with more, gaps between them are closed
 RETRY_TAG = 16  # bytes behind the token of a Retry packet
 # Types of frames (RFC 9000, section 19; RFC 9221).

@@ -123,7 +123,7 @@ def why_nothing(reader: Reader, log: KeyLog) -> str:
         if not randoms:
             return f"its versions of QUIC are not read: {versions}; this reads versions 1 and 2"
     if not reader.connections:
-        if not reader.is_quic:
+        if not reader.quic:
             return f"no datagram is QUIC of version 1 or 2: {CAPTURE_AGAIN}"
         if not log.secrets:
             return "there are no secrets: name the key log by --keys, which the program writes where SSLKEYLOGFILE says"

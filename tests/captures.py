@@ -473,10 +473,15 @@ def test_chromium():
     run(TOP / "qpk", "check", KEPT)
 
 
-def main():
-    """Runs all tests, over the program of dist/ if that can be built."""
+def build():
+    """Builds the program of dist/, if that is possible."""
     if PROGRAM.parent != TOP:
         subprocess.run(["make", "-s", "-C", str(TOP / "dist"), f"BUILD={BUILT.name}", str(PROGRAM)], check=True)
+
+
+def main():
+    """Runs all tests, over the program of dist/ if that can be built."""
+    build()
     return run_tests(globals(), "captures", "dist/qpk-capture")
 
 
