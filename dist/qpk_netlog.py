@@ -1,7 +1,7 @@
 """Chrome's net log: the datagrams in it, if it has raw bytes, and its header lists. qpk-capture reads it.
 
-chrome://net-export writes it, with the choice to include raw bytes, and --log-net-log with --net-log-capture-mode=Everything.
-It has an event a line, and may end anywhere.
+chrome://net-export writes it, with the choice to include raw bytes. So does --log-net-log, with
+--net-log-capture-mode=Everything. It has an event a line, and may end anywhere.
 """
 
 import base64

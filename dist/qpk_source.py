@@ -6,14 +6,15 @@ from shutil import copyfileobj
 from typing import Any, BinaryIO, Dict, Iterator, List, NamedTuple, Optional
 
 import qpk_qlog
-from qpk_connections import Reader
 from qpk_datagrams import Datagrams
 from qpk_files import Capture, open_plain
-from qpk_keys import KeyLog, Library
+from qpk_keys import KeyLog
+from qpk_libcrypto import Library
 from qpk_lines import PLAIN_CAPTURES
 from qpk_lists import MOST_LISTS, HeaderList, OnlyLists, is_har, lists_of_har
 from qpk_main import complain, open_file
 from qpk_netlog import NetLog, is_net_log
+from qpk_reader import Reader
 from qpk_streams import Connection, SourceError, to_text
 from qpk_tshark import connect, run_tshark
 
@@ -79,7 +80,7 @@ def read_capture(plain: Any, wanted: Wanted) -> List[Connection]:
 def read_key_log(wanted: Wanted) -> KeyLog:
     """Returns the secrets of the key log that is named."""
     if Library.get() is None:
-        raise SourceError("libcrypto can't be loaded: install OpenSSL, name it in the variable LIBCRYPTO, or say --by tshark")
+        raise SourceError("libcrypto can't be loaded: install OpenSSL, or name it by the variable LIBCRYPTO")
     log = KeyLog()
     if wanted.keys is not None:
         with open_file(wanted.keys) as file:
@@ -93,7 +94,7 @@ def read_key_log(wanted: Wanted) -> KeyLog:
 def tell_left_out(reader: Reader) -> None:
     """Says which connections are not read."""
     for number, it in enumerate(reader.connections):
-        if it.random and not any(it.seen[mark].firsts for mark in "><"):
+        if it.random and not it.is_read():
             why = "no secrets" if it.random not in reader.log.secrets else "no packets that its secrets open"
             complain(f"qpk-capture: connection {number} is left out: {why} for the client random {it.random}")
     if reader.left_out:

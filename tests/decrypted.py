@@ -4,10 +4,10 @@
     tests/decrypted.py
 
 In tests/captured are captures that contain their secrets: firefox.pcapng, of Firefox 153 with its default settings;
-ngtcp2-gso.pcapng and ngtcp2-update.pcapng, of the programs of ngtcp2 0.12 as Debian has them, the latter with early data, a
-key update and a new port; chromium-moved.pcapng, 210 packets of Chromium 156 from the middle of a connection that moved its
-port; and the begin of a net log of that. tests/sealed.py makes others, of the lines in chromium.txt. Without libcrypto nothing
-is tested. It ends with a line 'decrypted: N tests .. passed', and with status 1 if a test failed.
+ngtcp2-gso.pcapng and ngtcp2-update.pcapng, of the programs of ngtcp2 0.12 as Debian has them, the latter with early data,
+a key update and a new port; chromium-moved.pcapng, 210 packets of Chromium 156 from the middle of a connection that moved
+its port; and the begin of a net log of Chromium. tests/sealed.py makes others, of the lines in chromium.txt. Without
+libcrypto nothing is tested. It ends with a line 'decrypted: N tests .. passed', and with status 1 if a test failed.
 """
 import gzip
 import io
@@ -27,12 +27,14 @@ from captures import CAPTURED, ENVIRONMENT, KEPT, PROGRAM, SCRIPT, ask, ask_fork
 from running import TOP, assert_linear, run_tests, shows_no_fault_of_a_script
 
 # These are in dist/, which captures.py puts into the path of modules.
-import qpk_connections
 import qpk_datagrams
 import qpk_files
 import qpk_keys
+import qpk_libcrypto
 import qpk_quic
+import qpk_reader
 import qpk_source
+import qpk_strangers
 import qpk_verdict
 from qpk_streams import SourceError
 from sealed import CLIENT, SERVER, Made, Sealer, ack_frame, block, checksum_free_ip, crypto_frame, ip_packets, pcap
@@ -48,7 +50,7 @@ WHOLE = {
     "ngtcp2-update.pcapng": [(10, 6, 5), (12, 3, 6), (12, 6, 12)],
 }
 RFC_9001 = "8394c8f03e515708"  # the client's connection ID in its appendix A, and in that of RFC 9369
-SUITES = (qpk_keys.AES_128, qpk_keys.AES_256, qpk_keys.CHACHA20)
+SUITES = (qpk_libcrypto.AES_128, qpk_libcrypto.AES_256, qpk_libcrypto.CHACHA20)
 VERSIONS = (qpk_keys.VERSION_1, qpk_keys.VERSION_2)
 
 
@@ -63,6 +65,15 @@ def read(data, keys=""):
 def words_of(connection):
     """Returns the lines of a connection, without their times."""
     return [line.split(" ", 1)[1] for line in connection.lines]
+
+
+def joined(lines):
+    """Returns what lines have, of each stream in one text: bytes that come late are in another line."""
+    found = {}
+    for line in lines:
+        *words, last = line.split(" ")
+        found[tuple(words)] = found.get(tuple(words), "") + last
+    return found
 
 
 def made(**more):
@@ -94,7 +105,8 @@ def refusal(data, keys="", **more):
 
 def marker_of(connection):
     """Has qpk check a connection, and returns what is marked, and the lines."""
-    ran = subprocess.run([PROGRAM, "check", "-"], input="\n".join(connection.lines).encode(), capture_output=True, check=False)
+    recording = "\n".join(connection.lines).encode()
+    ran = subprocess.run([PROGRAM, "check", "-"], input=recording, capture_output=True, check=False)
     marker = qpk_verdict.Marker(connection.seen)
     return marker, [line.decode() for line in marker.lines(ran.stdout.splitlines(True))], marker.status(ran.returncode)
 
@@ -151,6 +163,11 @@ def test_without_libcrypto():
         assert said.startswith(b"qpk-capture: libcrypto can't be loaded: install OpenSSL"), said
 
 
+def unescaped(line):
+    """Returns a field of a net log as it was."""
+    return unquote(line.replace("%ESCAPED:\u200b ", "")) if line.startswith("%ESCAPED") else line
+
+
 def test_net_log():
     """Each list of fields is that of the log itself, nothing is missing, and nothing is found."""
     path, keys = CAPTURED / "chromium-net-log.json.gz", CAPTURED / "chromium-net-log.keys"
@@ -169,8 +186,7 @@ def test_net_log():
     for it in (json.loads(line.rstrip(",")) for line in lines[2:]):
         if names[it["type"]].startswith("HTTP3_HEADERS"):
             end = "client" if names[it["type"]].endswith("SENT") else "server"
-            plain = [unquote(line.replace("%ESCAPED:\u200b ", "")) if "%ESCAPED" in line else line for line in it["params"]["headers"]]
-            expected[end][it["params"]["stream_id"]] = sorted(plain)
+            expected[end][it["params"]["stream_id"]] = sorted(map(unescaped, it["params"]["headers"]))
     # A list that is logged when it is sent or decoded may be of a datagram behind the end of the file, and the other way.
     for end, own in lists.items():
         assert len(own) >= 8 and len(set(own) ^ set(expected[end])) <= 1, (end, set(own) ^ set(expected[end]))
@@ -185,7 +201,8 @@ def test_net_log():
 def test_packets_left_out():
     """1 % of the packets, in 15 trials each: no end is accused, and what is missing is named."""
     seen = set()
-    for name, first in (("firefox.pcapng", 16), ("ngtcp2-update.pcapng", 16), ("chromium.pcapng", 16), ("ngtcp2-gso.pcapng", 4)):
+    for name in WHOLE:
+        first = 4 if name == "ngtcp2-gso.pcapng" else 16
         link, packets, keys = packets_of(name)
         for seed in range(15):
             choice = random.Random(seed)
@@ -313,7 +330,8 @@ def test_statuses_and_colours():
             path.write_bytes(file_of(connection))
             status, output, _ = ask("check", path)
             count = len(words) - 3
-            assert output.splitlines()[1] == b"packets: client %d of %d, server 3 of 3; not in the file: client 0" % (count, count + 1)
+            seen = b"packets: client %d of %d, server 3 of 3; not in the file: client 0" % (count, count + 1)
+            assert output.splitlines()[1] == seen, output
             assert status == expected and output.count(b"\nperhaps: line ") == 1, output
             front = [TOP / "dist" / "qpk-front", "check", path, "--color=always"]
             ran = subprocess.run(front, capture_output=True, env={**os.environ, "QPK_PROGRAM": str(PROGRAM)}, check=False)
@@ -449,14 +467,14 @@ def test_vectors_of_the_standards():
         (1, "8b1a0bc121284290a29e0971b5cd045d", "91f73e2351d8fa91660e909f", "45b95e15235d6f45a6b19cbcb0294ba9"),
     ):
         secret = qpk_keys.initial_secrets(VERSIONS[version], bytes.fromhex(RFC_9001))[">"]
-        keys = qpk_keys.Keys(secret, qpk_keys.AES_128, VERSIONS[version])
+        keys = qpk_keys.Keys(secret, qpk_libcrypto.AES_128, VERSIONS[version])
         derived = [keys.derive(secret, label, size).hex() for label, size in ((b" key", 16), (b" iv", 12), (b" hp", 16))]
         assert derived == [key, iv, mask_key], version
     secret = bytes.fromhex("9ac312a7f877468ebe69422748ad00a15443f18203a07d6060f688f30f21632b")
     for version, packet in enumerate(
         ("4cfe4189655e5cd55c41f69080575d7999c25a5bfb", "5558b1c60ae7b6b932bc27d786f4bc2bb20f2162ba")
     ):
-        keys = qpk_keys.Keys(secret, qpk_keys.CHACHA20, VERSIONS[version])
+        keys = qpk_keys.Keys(secret, qpk_libcrypto.CHACHA20, VERSIONS[version])
         keys.largest = 654360563
         opened = keys.open(bytes.fromhex(packet), 0, 1, (21,))
         assert opened and (opened.number, opened.payload) == (654360564, b"\1"), version
@@ -514,31 +532,33 @@ def test_connection_ids():
     connection.ends[">"] = (bytes([10, 0, 0, 9]), 1234)
     other = Made(name="other", client_id=b"").begin().take(LINES[:10])
     other.ends[">"] = (bytes([10, 0, 0, 3]), 1)
-    connection.datagrams += [(it[0], *(other.ends[">"] if end == CLIENT else end for end in it[1:3]), it[3]) for it in other.datagrams]
+    for when, *ends, data in other.datagrams:
+        connection.datagrams.append((when, *(other.ends[">"] if end == CLIENT else end for end in ends), data))
     connection.take(LINES[40:], acknowledge=0)
     first, second = read(pcapng(ip_packets(connection.datagrams), secrets=connection.keys() + other.keys()))
     assert words_of(first) == WORDS and words_of(second) == WORDS[:10]
 
 
 def test_key_updates():
-    """Several in each direction, with packets of old keys that come late."""
+    """Several in each direction, with packets of old keys that come after those of new ones."""
     connection = Made().begin()
     late = []
     for at, line in enumerate(LINES):
         _, mark, words = line.split(" ", 2)
-        if at % 13 == 12:
-            connection.sealers[mark].update()
+        if at % 14 == 13:
+            for sealer in connection.sealers.values():
+                sealer.update()
         packet = connection.packet(mark, connection.frames(mark, words))
-        if at % 13 == 11 and words[0] == "b" and late is not None:
+        if at % 14 in (11, 12):
             late.append((mark, packet))
             continue
         connection.send(mark, packet)
-        while late and at % 13 == 0:
+        while late and at % 14 == 7:
             connection.send(*late.pop())
     for it in late:
         connection.send(*it)
     (found,) = read(file_of(connection))
-    assert sorted(words_of(found)) == sorted(WORDS) and not found.seen.lacks()
+    assert joined(words_of(found)) == joined(WORDS) and not found.seen.lacks(), found.seen
 
 
 def test_early_data():
@@ -605,7 +625,8 @@ def test_streams_that_are_given_up():
     assert read(file_of(connection))[0].seen.ends[">"].gaps == 1
     connection.send(">", connection.packet(">", b"\x04\x04\0\x40\x68"))
     (found,) = read(file_of(connection))
-    assert not found.seen.lacks() and found.missing == ["> stream 4: bytes from 0 to 100 are missing, and its sender gave it up"]
+    missing = ["> stream 4: bytes from 0 to 100 are missing, and its sender gave it up"]
+    assert not found.seen.lacks() and found.missing == missing
 
 
 def test_several_connections():
@@ -658,15 +679,21 @@ def test_header_lists_without_bytes():
     fields = {"frame_type": "headers", "header_fields": [{"name": ":status", "value": "200"}]}
     events.append({"time": 2, "name": "http3:frame_parsed", "data": {"stream_id": 4, "frame": fields}})
     trace = json.dumps({"traces": [{"vantage_point": {"type": "client"}, "events": events}]})
-    entry = {"request": {"headers": [{"name": "Accept", "value": "*/*"}]}, "response": {"headers": [{"name": "a", "value": "b"}]}}
-    har = json.dumps({"log": {"entries": [entry]}})
+    own, other = [{"name": "Accept", "value": "*/*"}], [{"name": "a", "value": "b"}]
+    har = json.dumps({"log": {"entries": [{"request": {"headers": own}, "response": {"headers": other}}]}})
     types = json.dumps({"constants": {"logEventTypes": {"HTTP3_HEADERS_SENT": 1, "HTTP3_HEADERS_DECODED": 2}}})[:-1]
     params = [{"stream_id": 0, "headers": [":method: GET"]}, {"stream_id": 0, "headers": [":status: 200"]}]
-    logged_events = [json.dumps({"type": at + 1, "source": {"id": 1}, "time": "5", "params": it}) for at, it in enumerate(params)]
+    rest = {"source": {"id": 1}, "time": "5"}
+    logged_events = [json.dumps({"type": at, **rest, "params": it}) for at, it in enumerate(params, 1)]
     net_log = types + ',\n"events": [\n' + ",\n".join(logged_events) + "]}\n"
-    for text, first in ((trace, b"> stream 4: fields 2\n  :method: GET\n  a: b\\x1b\n< stream 4: fields 1\n"), (har, b"> stream 0: "), (net_log, b"> stream 0: ")):
+    for text, first in (
+        (trace, b"> stream 4: fields 2\n  :method: GET\n  a: b\\x1b\n< stream 4: fields 1\n"),
+        (har, b"> stream 0: fields 1\n  accept: */*\n< stream 0: fields 1\n"),
+        (net_log, b"> stream 0: fields 1\n  :method: GET\n< stream 0: "),
+    ):
         status, output, said = ask("show", "-", data=text.encode())
-        assert status == 0 and output.startswith(first) and b"it has 2 header lists and no QPACK bytes: " in said, (output, said)
+        assert status == 0 and output.startswith(first), output
+        assert b"it has 2 header lists and no QPACK bytes: " in said, said
         objects = [json.loads(it) for it in ask("show", "--json", "-", data=text.encode())[1].splitlines()]
         assert [it["from"] for it in objects] == ["client", "server"]
         status, output, said = ask("check", "-", data=text.encode())
@@ -707,11 +734,12 @@ def test_hostile_files():
     packets = ip_packets(connection.datagrams)
     small = pcapng([(when, data) for when, data in packets[:30]], secrets=connection.keys())
     net_log = gzip.decompress((CAPTURED / "chromium-net-log.json.gz").read_bytes())[:60_000]
+    server_log = b'{"connection":0,"event":"sent","type":2,"hex":"3fe11f"}\n' * 3
     kinds = [
         (("check", "--by", "libcrypto", "-"), [small, (CAPTURED / "ngtcp2-gso.pcapng").read_bytes()]),
         (("show", "--by", "libcrypto", "-"), [gzip.compress(small), lzma.compress(small)]),
         (("check", "--keys", str(CAPTURED / "chromium-net-log.keys"), "-"), [net_log]),
-        (("show", "-"), [b'{"connection":0,"event":"sent","type":2,"hex":"3fe11f"}\n' * 3, b'{"log":{"entries":[{"request":{"headers":[{"name":"a"}]}}]}}']),
+        (("show", "-"), [server_log, b'{"log":{"entries":[{"request":{"headers":[{"name":"a"}]}}]}}']),
     ]
     for seed, (words, inputs) in enumerate(kinds):
         choice, seen = random.Random(seed), set()
@@ -729,7 +757,8 @@ def test_mutated_packets():
     connection = made()
     for seed in range(30):
         choice = random.Random(seed)
-        packets = [(when, mutated(choice, data) if choice.random() < 0.2 else data) for when, data in ip_packets(connection.datagrams)]
+        packets = ip_packets(connection.datagrams)
+        packets = [(when, mutated(choice, data) if choice.random() < 0.2 else data) for when, data in packets]
         try:
             found = read(pcapng(packets, secrets=connection.keys()))
         except SourceError:
@@ -745,26 +774,26 @@ def test_bounds_of_a_hostile_capture():
     log = qpk_keys.KeyLog()
     log.learn("".join(Made(name=str(it)).keys() for it in range(50)))
     begin = time.process_time()
-    reader = qpk_connections.Reader(log)
+    reader = qpk_reader.Reader(log)
     for at, data in enumerate(junk):
         reader.read(at, qpk_datagrams.Datagram((bytes(4), at % 900), (bytes(4), 443), data, False))
     reader.finish()
-    assert reader.tries <= qpk_connections.MOST_TRIES + 64 * 50
+    assert reader.room.tries <= qpk_strangers.MOST_TRIES + 64 * 50
     assert time.process_time() - begin < 20
 
     def many(size):
-        reader = qpk_connections.Reader(qpk_keys.KeyLog())
+        reader = qpk_reader.Reader(qpk_keys.KeyLog())
         for number in range(size):
             it = Made(name=str(number))
-            datagram = qpk_datagrams.Datagram((bytes(4), number), (bytes(4), 443), it.initial(">", crypto_frame(it.hello())), False)
-            reader.read(number, datagram)
+            data = it.initial(">", crypto_frame(it.hello()))
+            reader.read(number, qpk_datagrams.Datagram((bytes(4), number), (bytes(4), 443), data, False))
         reader.finish()
 
     assert_linear(many, 60)
 
     def one(size):
         (connection,) = [Made().begin()]
-        reader = qpk_connections.Reader(log)
+        reader = qpk_reader.Reader(log)
         for when, source, target, data in connection.datagrams:
             reader.read(when, qpk_datagrams.Datagram(source, target, data, False))
         for number in range(size):
@@ -800,7 +829,8 @@ def test_many_requests():
     connection.take([f"@0 {mark} s 4096 16" for mark in "<>"])
     for number in range(1000):
         for mark in "><":
-            connection.send(mark, connection.packet(mark, ack_frame(0, 1) + connection.frames(mark, f"b {4 * number} 0000d1d7")))
+            frames = ack_frame(0, 1) + connection.frames(mark, f"b {4 * number} 0000d1d7")
+            connection.send(mark, connection.packet(mark, frames))
     begin = time.process_time()
     (found,) = read(file_of(connection))
     assert len(found.lines) == 2002 and time.process_time() - begin < 2.5
@@ -808,7 +838,7 @@ def test_many_requests():
 
 def main():
     """Runs all tests, over the program of dist/ if that can be built."""
-    if qpk_keys.Library.get() is None:
+    if qpk_libcrypto.Library.get() is None:
         print("not shown: captures by libcrypto, which is not installed")
         print("decrypted: nothing was tested")
         return 0
