@@ -9,6 +9,7 @@ LIBRARIES = ("libcrypto.so.3", "libcrypto.so.1.1", "libcrypto.so")  # before wha
 TAG = 16  # bytes of the tag behind a payload
 SAMPLE = 16  # bytes that mask a header, from four bytes after the begin of its packet number on
 SET_TAG = 0x11  # EVP_CTRL_AEAD_SET_TAG
+MOST_PAYLOAD = 1 << 16  # bytes of a payload, which a datagram of UDP has at most
 
 
 class Suite(NamedTuple):
@@ -74,6 +75,8 @@ class Library:
 class Context:
     """A context of libcrypto, which ends with this object."""
 
+    room = ctypes.create_string_buffer(MOST_PAYLOAD + TAG)  # for what is written, until it is copied
+
     def __init__(self) -> None:
         self.library = Library.get()
         self.handle = self.library.EVP_CIPHER_CTX_new()
@@ -99,15 +102,15 @@ class Payloads(Context):
         """Returns the payload of the packet with a number, or nothing if the key does not open it."""
         library, handle, size_of = self.library, self.handle, self.size_of
         size = len(sealed) - TAG
-        if size < 0:
+        if not 0 <= size <= MOST_PAYLOAD:
             return None
-        room = ctypes.create_string_buffer(size + 1)
         nonce = (self.iv ^ number).to_bytes(12, "big")
         library.EVP_DecryptInit_ex(handle, None, None, None, nonce)
         library.EVP_CIPHER_CTX_ctrl(handle, SET_TAG, TAG, sealed[size:])
         library.EVP_DecryptUpdate(handle, None, size_of, head, len(head))
-        library.EVP_DecryptUpdate(handle, room, size_of, sealed, size)
-        return room.raw[:size] if library.EVP_DecryptFinal_ex(handle, None, size_of) == 1 else None
+        library.EVP_DecryptUpdate(handle, self.room, size_of, sealed, size)
+        is_open = library.EVP_DecryptFinal_ex(handle, None, size_of) == 1
+        return ctypes.string_at(self.room, size) if is_open else None
 
 
 class Masks(Context):
@@ -124,10 +127,9 @@ class Masks(Context):
 
     def of(self, sample: bytes) -> bytes:
         """Returns the mask of a sample."""
-        room = ctypes.create_string_buffer(2 * SAMPLE)
         if self.is_block:
-            self.library.EVP_EncryptUpdate(self.handle, room, self.size_of, sample, SAMPLE)
+            self.library.EVP_EncryptUpdate(self.handle, self.room, self.size_of, sample, SAMPLE)
         else:
             self.library.EVP_EncryptInit_ex(self.handle, self.cipher, None, self.key, sample)
-            self.library.EVP_EncryptUpdate(self.handle, room, self.size_of, bytes(5), 5)
-        return room.raw[:5]
+            self.library.EVP_EncryptUpdate(self.handle, self.room, self.size_of, bytes(5), 5)
+        return ctypes.string_at(self.room, 5)

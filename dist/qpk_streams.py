@@ -41,7 +41,10 @@ def read_integer(data: bytes, at: int) -> Tuple[int, int]:
     """Returns the integer of variable length at an offset, and the offset after it (RFC 9000, section 16)."""
     if at >= len(data):
         raise NotWhole
-    end = at + (1 << (data[at] >> 6))
+    first = data[at]
+    if first < 0x40:  # most are of one byte
+        return first, at + 1
+    end = at + (1 << (first >> 6))
     if end > len(data):
         raise NotWhole
     return int.from_bytes(data[at:end], "big") & ((1 << (8 * (end - at) - 2)) - 1), end

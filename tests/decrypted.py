@@ -802,6 +802,16 @@ def test_bounds_of_a_hostile_capture():
     assert_linear(one, 400)
 
 
+def test_a_payload_that_is_too_long():
+    """A net log may have a datagram that is longer than UDP allows: its packet is not opened."""
+    connection = Made()
+    sealer = connection.sealers[">"]
+    keys = qpk_keys.Keys(connection.secrets[">"], connection.suite, connection.version)
+    for size, is_open in ((qpk_libcrypto.MOST_PAYLOAD - 8, True), (qpk_libcrypto.MOST_PAYLOAD + 1, False), (1 << 22, False)):
+        packet = sealer.short(0, b"", bytes(size))
+        assert (keys.open(packet, 0, 1, (len(packet),)) is not None) == is_open, size
+
+
 def test_packet_numbers():
     """The set of numbers is that of a set, whatever is added, and keeps to its bound."""
     for seed in range(200):
