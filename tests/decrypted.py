@@ -10,6 +10,7 @@ its port; and the begin of a net log of Chromium. tests/sealed.py makes others, 
 libcrypto nothing is tested. It ends with a line 'decrypted: N tests .. passed', and with status 1 if a test failed.
 """
 import gzip
+import hmac
 import io
 import json
 import lzma
@@ -235,6 +236,19 @@ def test_packets_that_are_named():
             assert not numbers[mark] or f"not in the file: {qpk_verdict.ENDS[mark]} {numbers[mark][0]}" in found.seen.line()
         marker, lines, _ = marker_of(found)
         assert not marker.certain, (seed, lines)
+
+
+def test_acknowledgments():
+    """All ranges of a frame count, also with counts of congestion, and what is between them does not."""
+    for counts in ((), (1, 2, 300)):
+        connection = Made().begin()
+        for number in range(10):
+            connection.send(">", connection.packet(">", b"\1"))
+        connection.datagrams = [it for at, it in enumerate(connection.datagrams) if at - 2 not in (1, 4, 6, 9)]
+        connection.send("<", connection.packet("<", ack_frame(8, 9, (5, 6), (0, 2), counts=counts) + b"\1"))
+        (found,) = read(file_of(connection))
+        assert found.seen.ends[">"].missing == [(1, 1), (6, 6), (9, 9)], found.seen
+        assert found.seen.line().startswith("packets: client 6 of 9, server 1 of 1; not in the file: client 1, 6, 9")
 
 
 def test_numbers_that_are_skipped():
@@ -470,6 +484,10 @@ def test_vectors_of_the_standards():
         keys = qpk_keys.Keys(secret, qpk_libcrypto.AES_128, VERSIONS[version])
         derived = [keys.derive(secret, label, size).hex() for label, size in ((b" key", 16), (b" iv", 12), (b" hp", 16))]
         assert derived == [key, iv, mask_key], version
+    secret = bytes(range(48))  # of the suite that has no vector there: its hash is that of RFC 8446, appendix B.4
+    keys = qpk_keys.Keys(secret, qpk_libcrypto.AES_256, qpk_keys.VERSION_1)
+    info = b"\0\x20\x0etls13 quic key\0\1"
+    assert keys.derive(secret, b" key", 32) == hmac.new(secret, info, "sha384").digest()[:32]
     secret = bytes.fromhex("9ac312a7f877468ebe69422748ad00a15443f18203a07d6060f688f30f21632b")
     for version, packet in enumerate(
         ("4cfe4189655e5cd55c41f69080575d7999c25a5bfb", "5558b1c60ae7b6b932bc27d786f4bc2bb20f2162ba")

@@ -107,9 +107,13 @@ def stream_frame(number, offset, data):
     return b"\x0e" + integer(number) + integer(offset) + integer(len(data)) + data
 
 
-def ack_frame(first, last):
-    """Returns an ACK frame of one range."""
-    return b"\x02" + integer(last) + integer(0) + integer(0) + integer(last - first)
+def ack_frame(first, last, *others, counts=()):
+    """Returns an ACK frame of a range of numbers and others before it, and with counts of congestion if there are any."""
+    frame = bytes([3 if counts else 2]) + integer(last) + integer(0) + integer(len(others)) + integer(last - first)
+    for one, other in others:
+        frame += integer(first - other - 2) + integer(other - one)
+        first = one
+    return frame + b"".join(map(integer, counts))
 
 
 def settings_frame(capacity, blocked):
