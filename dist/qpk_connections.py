@@ -5,10 +5,11 @@ from typing import Dict, List, NamedTuple, Set, Tuple
 from qpk_datagrams import Address, Datagram
 from qpk_keys import VERSION_1, KeyLog, Keys, Opened, Version, initial_secrets, keys_of
 from qpk_libcrypto import AES_128
-from qpk_quic import ACK, CRYPTO, NEW_CONNECTION_ID, RESET_STREAM, STREAM, Numbers, read_frames
+from qpk_quic import ACK, CLOSE_BY_APPLICATION, CRYPTO, NEW_CONNECTION_ID, RESET_STREAM, STREAM, Numbers, read_frames
 from qpk_streams import Stream, Streams
 from qpk_verdict import PEER, SeenOfEnd
 
+QPACK_ERRORS = (0x200, 0x201, 0x202)  # RFC 9204, section 6
 CLIENT_HELLO, RANDOM_AT, RANDOM_END = 1, 6, 38  # in the bytes of the handshake (RFC 8446, section 4.1.2)
 Pair = Tuple[Address, Address]  # the sender and the receiver of a datagram
 
@@ -45,6 +46,9 @@ class QuicConnection:
         self.is_late = False  # whether its first packets are not in the capture
         self.streams = Streams()
         self.lines: List[str] = []
+        self.line_numbers: Dict[str, List[Tuple[int, int]]] = {">": [], "<": []}  # of lines, and of their packets
+        self.heard = {">": 0, "<": 0}  # how many lines there were with the last acknowledgments of this end
+        self.early = {">": Numbers(), "<": Numbers()}  # packets that were acknowledged before they were in the file
         self.seen = {">": Numbers(), "<": Numbers()}
         self.acknowledged = {">": Numbers(), "<": Numbers()}
         self.unread = {">": 0, "<": 0}  # packets that no key opened
@@ -52,6 +56,7 @@ class QuicConnection:
         self.new_ids: List[Tuple[str, bytes]] = []  # that an end told its peer to use, with the mark of that
         self.in_a_row = {">": 0, "<": 0}  # packets that no key opened, since the last that one opened
         self.has_settings = {">": False, "<": False}
+        self.is_refused = False  # whether an end closed the connection with an error of QPACK
 
     def begin(self, version: Version, target: bytes) -> None:
         """Takes the connection ID that the client chose, of which the keys of Initial packets are made."""
@@ -69,7 +74,7 @@ class QuicConnection:
     def take_hello(self, payload: bytes) -> None:
         """Takes the handshake's bytes of an Initial packet of the client, up to its random."""
         for frame in read_frames(payload):
-            if frame.kind == CRYPTO and not self.random:
+            if frame.kind == CRYPTO and len(self.hello_bytes) < RANDOM_END:
                 self.hello_bytes += self.hello.receive(frame.offset, frame.data)
                 if len(self.hello_bytes) >= RANDOM_END and self.hello_bytes[0] == CLIENT_HELLO:
                     self.random = self.hello_bytes[RANDOM_AT:RANDOM_END].hex()
@@ -92,17 +97,34 @@ class QuicConnection:
         self.seen[mark].add(packet.number, packet.number)
         self.is_answered = self.is_answered or mark == "<"
         self.in_a_row[mark] = 0
+        has_heard = False
         for frame in read_frames(packet.payload):
             if frame.kind == STREAM:
                 for words in self.streams.take(mark, frame.number, frame.offset, frame.data):
-                    self.lines.append(f"@{shown_time(time)} {mark} {words}")
+                    self.add_line(mark, packet.number, f"@{shown_time(time)} {mark} {words}")
                     self.has_settings[mark] |= words.startswith("s ")
             elif frame.kind == ACK:
-                self.acknowledged[PEER[mark]].add(frame.number, frame.offset)
+                self.take_acknowledgment(PEER[mark], frame.number, frame.offset)
+                has_heard = True
+            elif frame.kind == CLOSE_BY_APPLICATION and frame.number in QPACK_ERRORS:
+                self.is_refused = True
             elif frame.kind == RESET_STREAM:
                 self.streams.end(mark, frame.number)
             elif frame.kind == NEW_CONNECTION_ID:
                 self.new_ids.append((PEER[mark], frame.data))
+        if has_heard:
+            self.heard[mark] = len(self.lines)
+
+    def add_line(self, mark: str, number: int, line: str) -> None:
+        """Adds a line of the packet with a number."""
+        self.lines.append(line)
+        self.line_numbers[mark].append((len(self.lines), number))
+
+    def take_acknowledgment(self, mark: str, first: int, last: int) -> None:
+        """Takes the numbers of packets of an end that the peer acknowledged. Notes those that are not in the file yet."""
+        self.acknowledged[mark].add(first, last)
+        for one, other in self.seen[mark].missing_between(first, last):
+            self.early[mark].add(one, other)
 
     def fail(self, mark: str) -> None:
         """Counts a packet of an end that no key opened."""
@@ -115,6 +137,12 @@ class QuicConnection:
 
     def seen_of(self, mark: str) -> SeenOfEnd:
         """Returns what was seen of an end."""
-        lacking = self.acknowledged[mark].without(self.seen[mark])
+        missing = self.acknowledged[mark].without(self.seen[mark])
+        early = self.early[mark].count() - sum(last - first + 1 for first, last in self.early[mark].without(self.seen[mark]))
         gaps = self.streams.count_gaps(mark)
-        return SeenOfEnd(self.seen[mark].count(), lacking, self.unread[mark], gaps, self.has_settings[mark])
+        counts = (self.seen[mark].count(), missing, self.unread[mark], gaps, self.has_settings[mark], early)
+        if self.is_refused:  # a peer that refuses a line acknowledges it no more
+            return SeenOfEnd(*counts)
+        last = self.acknowledged[mark].lasts[-1] if self.acknowledged[mark].lasts else -1
+        line = next((line for line, number in reversed(self.line_numbers[mark]) if number <= last), 0)
+        return SeenOfEnd(*counts, line, self.heard[mark])

@@ -9,7 +9,7 @@ from qpk_streams import NotWhole, read_integer
 LONGEST_ID = 20  # bytes of a connection ID
 FIXED_BIT = 0x40  # of the first byte of a packet, which most programs set (RFC 9287)
 MOST_RANGES = 1 << 14  # of packet numbers that are kept; with more, gaps between them are closed
-RETRY_TAG = 16  # bytes behind the token of a Retry packet
+MOST_LOOKED_AT = 16  # ranges in which a number is looked for that was acknowledged
 # Types of frames (RFC 9000, section 19; RFC 9221).
 PADDING, PING, ACK, ACK_ECN, RESET_STREAM, STOP_SENDING, CRYPTO, NEW_TOKEN = 0, 1, 2, 3, 4, 5, 6, 7
 STREAM, STREAM_END = 8, 15  # the first and the last type of STREAM frames
@@ -156,6 +156,9 @@ def read_other(kind: int, data: bytes, at: int) -> Tuple[Frame, int]:
         part, at = take(data, at, size[0])
         _, at = take(data, at, 16)
         return Frame(kind, 0, 0, part), at
+    if kind == CLOSE_BY_APPLICATION:
+        code, _ = read_integer(data, at)
+        return Frame(kind, code), skip(kind, data, at)
     if kind in INTEGERS:
         numbers = []
         for _ in range(INTEGERS[kind]):
@@ -202,6 +205,19 @@ class Numbers:
             first, last = min(first, self.firsts[begin]), max(last, self.lasts[begin])
         self.firsts[begin:end] = [first]
         self.lasts[begin:end] = [last]
+
+    def missing_between(self, first: int, last: int) -> List[Tuple[int, int]]:
+        """Returns the ranges from a first to a last number that are not in the set, among the newest ranges alone."""
+        begin = max(len(self.firsts) - MOST_LOOKED_AT, 0)
+        first = max(first, self.firsts[begin]) if begin else first
+        found = []
+        for one, other in zip(self.firsts[begin:], self.lasts[begin:]):
+            if first < one:
+                found.append((first, min(one - 1, last)))
+            first = max(first, other + 1)
+            if first > last:
+                return found
+        return [*found, (first, last)]
 
     def ranges(self) -> Iterator[Tuple[int, int]]:
         """Yields the first and the last number of each range."""

@@ -276,6 +276,13 @@ def test_many_packets_in_a_row_left_out():
             assert words_of(found) == WORDS, (middle, acknowledge, len(found.lines))
             assert not any(it.unread for it in found.seen.ends.values())
             assert found.seen.lacks() == bool(acknowledge), found.seen
+    # A number that is too large to be tried, and that the peer told of.
+    connection = Made().begin().take(LINES[:30])
+    connection.numbers[">"] += 5_000_000
+    connection.send("<", connection.packet("<", ack_frame(connection.numbers[">"] - 1, connection.numbers[">"] - 1)))
+    connection.take(LINES[30:], acknowledge=0)
+    (found,) = read(file_of(connection))
+    assert words_of(found) == WORDS and not any(it.unread for it in found.seen.ends.values())
 
 
 def test_a_start_in_the_middle():
@@ -330,6 +337,49 @@ def test_which_findings_are_perhaps():
                 assert printed[0].startswith("perhaps: line " if status == 4 else "line "), printed
 
 
+def test_packets_in_another_order():
+    """A file whose packets are not in the order in which they were sent accuses no end, nor does one with a hole."""
+    seen = set()
+    for name in WHOLE:
+        link, packets, keys = packets_of(name)
+        files = []
+        for seed in range(4):
+            choice = random.Random(seed)
+            files.append([it for _, it in sorted((at + choice.random() * 4, it) for at, it in enumerate(packets))])
+            hole = choice.randrange(3, len(packets) - 8)
+            files.append(packets[:hole] + packets[hole + 6 :])
+            files.append([it for it in packets for _ in range(choice.choice((1, 2)))])
+        for kept in files:
+            for connection in read(pcapng(kept, link, keys)):
+                marker, lines, status = marker_of(connection)
+                assert not marker.certain, (name, connection.seen, lines)
+                assert "acknowledged before they came: " in connection.seen.line() or status != 4 or len(kept) < len(packets)
+                seen.add(status)
+    assert seen == {0, 4}
+
+
+def test_findings_behind_the_last_acknowledgment():
+    """A finding is certain once the peer acknowledged its packet, or closed the connection with an error of QPACK."""
+    section, instruction = "> b 0 020080", "< d 84"
+    close = b"\x1d\x42\x00\x00"
+    for words, mark, payload, expected in (
+        (section, "<", b"\1", 4),
+        (section, "<", ack_frame(0, 1), 1),
+        (section, "<", ack_frame(0, 0), 4),
+        (section, "<", close, 1),
+        (section, "<", b"\x1d\x41\x00\x00", 4),
+        (instruction, "<", b"\1", 4),
+        (instruction, "<", ack_frame(0, 0), 1),
+        (instruction, ">", ack_frame(0, 1), 4),
+        (instruction, ">", close, 1),
+    ):
+        connection = Made().begin().take(["@0 < s 4096 0", "@0 > s 4096 0", f"@0 {words}"], acknowledge=0)
+        connection.send(mark, connection.packet(mark, payload))
+        (found,) = read(file_of(connection))
+        marker, lines, status = marker_of(found)
+        assert status == expected and marker.certain + marker.explained == 1, (words, mark, payload, lines)
+
+
 def test_statuses_and_colours():
     """A certain finding has status 1 beside others; JSON has a member, and a terminal another colour."""
     lines = ["< s 4096 0", "> s 0 0", "> b 0 020080", "< b 8 0000d9"]
@@ -339,7 +389,7 @@ def test_statuses_and_colours():
         for words, expected in (([*lines, certain], 1), (lines, 4)):
             connection = Made().begin()
             connection.take([f"@0 {it}" for it in words], acknowledge=0)
-            connection.send("<", connection.packet("<", ack_frame(0, 1)))
+            connection.send("<", connection.packet("<", ack_frame(0, connection.numbers[">"] - 1)))
             del connection.datagrams[3]
             path.write_bytes(file_of(connection))
             status, output, _ = ask("check", path)
@@ -352,8 +402,9 @@ def test_statuses_and_colours():
             assert ran.returncode == expected and b"\x1b[33mit waits for" in ran.stdout, ran
             assert (b"\x1b[31mstatic index" in ran.stdout) == (expected == 1), ran
             objects = [json.loads(it) for it in ask("check", "--json", path)[1].splitlines()]
-            client = {"read": count, "missing": [[0, 0]], "unread": 0, "streams_with_gaps": 0}
-            assert objects[1]["packets"]["client"] == client and not objects[1]["begins_late"]
+            client = objects[1]["packets"]["client"]
+            assert (client.pop("read"), client.pop("missing")) == (count, [[0, 0]]) and not objects[1]["begins_late"]
+            assert client == {"unread": 0, "acknowledged_early": 0, "streams_with_gaps": 0}
             assert [it.get("perhaps") for it in objects[2:]] == [True, None][: len(objects) - 2], objects
 
 
