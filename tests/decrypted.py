@@ -871,6 +871,25 @@ def test_bounds_of_a_hostile_capture():
     assert_linear(one, 400)
 
 
+def test_tries_have_a_bound():
+    """Long packets that no key opens, between others, are tried with each length, until as much was tried as may be."""
+    connection = Made(client_id=b"").begin()
+    for number in range(20):
+        connection.send("<", connection.packet("<", b"\1" + bytes(number)))
+        connection.send("<", b"\x41" + bytes(1600))
+    most, qpk_strangers.MOST_TRIES = qpk_strangers.MOST_TRIES, 1000
+    try:
+        log = qpk_keys.KeyLog()
+        log.learn(connection.keys())
+        reader = qpk_reader.Reader(log)
+        for when, source, target, data in connection.datagrams:
+            reader.read(when, qpk_datagrams.Datagram(source, target, data, False))
+    finally:
+        qpk_strangers.MOST_TRIES = most
+    assert 1000 < reader.room.tries < 1200, reader.room.tries
+    assert reader.connections[0].seen["<"].count() == 20 and reader.connections[0].unread["<"] == 20
+
+
 def test_a_payload_that_is_too_long():
     """A net log may have a datagram that is longer than UDP allows: its packet is not opened."""
     connection = Made()

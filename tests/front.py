@@ -18,7 +18,7 @@ import tempfile
 import time
 from pathlib import Path
 
-from running import TOP, answers_at_once, install, missing_tool, run_tests, shows_no_fault_of_a_script
+from running import TOP, answers_at_once, can_decrypt, install, missing_tool, run_tests, shows_no_fault_of_a_script
 
 FOLDER = tempfile.TemporaryDirectory(prefix="h3-qpack-front-")  # which ends with the script
 ROOM = Path(FOLDER.name)
@@ -213,7 +213,7 @@ def test_captures_and_traces():
     assert run(INSTALLED, "show", trace) == run(link, "show", trace) == run(FRONTS[0], "show", trace)
     assert b"foo: bar" in run(INSTALLED, "show", trace)[1]
     capture = TOP / "tests" / "captured" / "chromium.pcapng"
-    if shutil.which("tshark"):
+    if can_decrypt():
         shown = run(INSTALLED, "show", CHROMIUM)[1]
         for front in FRONTS:
             assert run(front, "show", capture)[1].partition(b"\n")[2] == shown
