@@ -5,10 +5,12 @@ from typing import Dict, List, NamedTuple, Set, Tuple
 from qpk_datagrams import Address, Datagram
 from qpk_keys import VERSION_1, KeyLog, Keys, Opened, Version, initial_secrets, keys_of
 from qpk_libcrypto import AES_128
-from qpk_quic import ACK, CLOSE_BY_APPLICATION, CRYPTO, NEW_CONNECTION_ID, RESET_STREAM, STREAM, Numbers, read_frames
-from qpk_streams import Stream, Streams
+from qpk_quic import ACK, CLOSE_BY_APPLICATION, CRYPTO, NEW_CONNECTION_ID, RESET_STREAM, STREAM
+from qpk_quic import Frame, Numbers, read_frames
+from qpk_streams import SourceError, Stream, Streams
 from qpk_verdict import PEER, SeenOfEnd
 
+MOST_FAULTS = 8  # of a connection that are told
 QPACK_ERRORS = (0x200, 0x201, 0x202)  # RFC 9204, section 6
 CLIENT_HELLO, RANDOM_AT, RANDOM_END = 1, 6, 38  # in the bytes of the handshake (RFC 8446, section 4.1.2)
 Pair = Tuple[Address, Address]  # the sender and the receiver of a datagram
@@ -56,6 +58,7 @@ class QuicConnection:
         self.new_ids: List[Tuple[str, bytes]] = []  # that an end told its peer to use, with the mark of that
         self.in_a_row = {">": 0, "<": 0}  # packets that no key opened, since the last that one opened
         self.has_settings = {">": False, "<": False}
+        self.faults: List[str] = []  # frames of HTTP/3 that can't be read
         self.is_refused = False  # whether an end closed the connection with an error of QPACK
 
     def begin(self, version: Version, target: bytes) -> None:
@@ -100,9 +103,7 @@ class QuicConnection:
         has_heard = False
         for frame in read_frames(packet.payload):
             if frame.kind == STREAM:
-                for words in self.streams.take(mark, frame.number, frame.offset, frame.data):
-                    self.add_line(mark, packet.number, f"@{shown_time(time)} {mark} {words}")
-                    self.has_settings[mark] |= words.startswith("s ")
+                self.take_stream(time, mark, packet.number, frame)
             elif frame.kind == ACK:
                 self.take_acknowledgment(PEER[mark], frame.number, frame.offset)
                 has_heard = True
@@ -115,10 +116,16 @@ class QuicConnection:
         if has_heard:
             self.heard[mark] = len(self.lines)
 
-    def add_line(self, mark: str, number: int, line: str) -> None:
-        """Adds a line of the packet with a number."""
-        self.lines.append(line)
-        self.line_numbers[mark].append((len(self.lines), number))
+    def take_stream(self, time: int, mark: str, number: int, frame: Frame) -> None:
+        """Takes a STREAM frame of the packet with a number. A frame of HTTP/3 in it that can't be read is left out."""
+        try:
+            for words in self.streams.take(mark, frame.number, frame.offset, frame.data):
+                self.lines.append(f"@{shown_time(time)} {mark} {words}")
+                self.line_numbers[mark].append((len(self.lines), number))
+                self.has_settings[mark] |= words.startswith("s ")
+        except SourceError as error:
+            if len(self.faults) < MOST_FAULTS:
+                self.faults.append(f"{mark} {error}, and is left out")
 
     def take_acknowledgment(self, mark: str, first: int, last: int) -> None:
         """Takes the numbers of packets of an end that the peer acknowledged. Notes those that are not in the file yet."""

@@ -320,4 +320,4 @@ class Reader:
             about = {"client": text_of(it.client), "server": text_of(it.server)}
             if it.is_read():
                 seen = Seen({">": it.seen_of(">"), "<": it.seen_of("<")}, it.is_late)
-                yield Connection(number, about, it.lines, list(it.streams.gaps()), seen=seen)
+                yield Connection(number, about, it.lines, [*it.streams.gaps(), *it.faults], seen=seen)

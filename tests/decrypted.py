@@ -821,6 +821,29 @@ def test_hostile_files():
         assert len(seen) > 1, (seed, seen)
 
 
+def test_hostile_peers():
+    """Sealed packets with any frames, streams and offsets: no exception, and the other lines are there."""
+    for seed in range(150):
+        choice, connection = random.Random(seed), Made().begin().take(LINES[:20])
+        for _ in range(12):
+            mark, kind = choice.choice("><"), choice.randrange(4)
+            payload = bytes(choice.randrange(256) for _ in range(choice.randrange(60)))
+            number = 4 * choice.randrange(1000) + 400 if choice.random() < 0.5 else choice.randrange(1 << 62)
+            if kind == 0:
+                payload = stream_frame(number, choice.choice((0, 1, 1 << 61, (1 << 62) - 1)), payload)
+            elif kind == 1:
+                payload = ack_frame(number // 2, number) + payload
+            elif kind == 2:
+                payload = stream_frame(choice.choice((2, 3)) + 400, 0, b"\0\4" + payload)
+            connection.send(mark, connection.packet(mark, payload))
+        for connection in read(file_of(connection)):
+            assert set(WORDS[:20]) <= set(words_of(connection)), (seed, connection.missing)
+    connection = Made().begin()
+    connection.send("<", connection.packet("<", stream_frame(3, 0, b"\0\4\1\x41")))
+    (found,) = read(file_of(connection))
+    assert found.missing == ["< stream 3 has a frame of type 4 that ends within an integer, and is left out"]
+
+
 def test_mutated_packets():
     """Packets of which some have bytes changed: those are not opened, and no line changes."""
     connection = made()
