@@ -549,6 +549,18 @@ def test_vectors_of_the_standards():
         assert opened and (opened.number, opened.payload) == (654360564, b"\1"), version
 
 
+def test_packet_numbers_that_are_written_in_part():
+    """The example of RFC 9000, appendix A.3; and numbers before and after a multiple of what is written."""
+    for written, size, largest, whole in (
+        (0x9B32, 2, 0xA82F30EA, 0xA82F9B32),
+        (5, 1, 0xFE, 0x105),
+        (0xFF, 1, 0x100, 0xFF),
+        (0x80, 1, -1, 0x80),
+        (0, 4, (1 << 32) - 1, 1 << 32),
+    ):
+        assert qpk_keys.whole_number(written, size, largest) == whole, (written, size, largest)
+
+
 def test_a_retry_of_the_standards():
     """The Retry packets of both appendices are read: the client goes on with the connection ID that they choose."""
     for version, packet in enumerate(
