@@ -380,6 +380,16 @@ def test_findings_behind_the_last_acknowledgment():
         assert status == expected and marker.certain + marker.explained == 1, (words, mark, payload, lines)
 
 
+def test_settings_that_are_missing():
+    """A capacity above the maximum is certain only if the peer's SETTINGS are in the file."""
+    for settings, expected in (("@0 > s 0 0", 4), ("@0 < s 4096 0", 1)):
+        connection = Made().begin().take([settings, "@0 > e 3fe1ff03"], acknowledge=0)
+        connection.send("<", connection.packet("<", ack_frame(0, connection.numbers[">"] - 1)))
+        (found,) = read(file_of(connection))
+        _, lines, status = marker_of(found)
+        assert status == expected and "section 4.3.1" in lines[0], (settings, lines)
+
+
 def test_statuses_and_colours():
     """A certain finding has status 1 beside others; JSON has a member, and a terminal another colour."""
     lines = ["< s 4096 0", "> s 0 0", "> b 0 020080", "< b 8 0000d9"]
