@@ -298,7 +298,11 @@ def test_a_start_in_the_middle():
         connection.datagrams = connection.datagrams[begin:]
         (found,) = read(pcapng(ip_packets(connection.datagrams)), keys=others + connection.keys())
         assert words_of(found) == WORDS and found.seen.is_late, (client_id, server_id, len(found.lines))
-        assert found.about == {"client": "10.0.0.1:50000", "server": "10.0.0.2:443"}
+        ends = {"client": "10.0.0.1:50000", "server": "10.0.0.2:443"}
+        assert found.about == ends
+        one_way = [it for it in connection.datagrams if it[1] == SERVER]
+        (found,) = read(pcapng(ip_packets(one_way)), keys=others + connection.keys())
+        assert found.about == ends and words_of(found) == [it for it in WORDS if it[0] == "<"]
     status, output, said = ask("check", CAPTURED / "chromium-moved.pcapng")
     lines = output.decode().splitlines()
     assert status == 4 and lines[1].startswith("packets: client 161 of "), lines[:2]
