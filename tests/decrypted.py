@@ -193,7 +193,8 @@ def test_net_log():
         assert len(own) >= 8 and len(set(own) ^ set(expected[end])) <= 1, (end, set(own) ^ set(expected[end]))
         assert all(fields == expected[end][stream] for stream, fields in own.items() if stream in expected[end])
     status, output, _ = ask("check", "--keys", keys, path)
-    assert status == 0 and b"\nnothing found: " in output, output
+    assert status == 0 and output.startswith(b"connection 0, 127.0.0.1:47170 > 127.0.0.1:4461\n"), output
+    assert b"\nnothing found: " in output, output
 
 
 # ---- Packets that are left out
