@@ -6,9 +6,12 @@ Which lines there may be (docs/QPK.md, Lines of a recording) is checked by qpk, 
 import re
 from typing import Iterable, Iterator, NamedTuple
 
-# What a file begins with that tshark reads: pcapng, pcap in either order of bytes with either unit of time, and gzip
-# around them. dist/qpk-front has the same list.
-CAPTURES = tuple(bytes.fromhex(it) for it in ("0a0d0d0a", "d4c3b2a1", "a1b2c3d4", "4d3cb2a1", "a1b23c4d", "1f8b08"))
+# What a file begins with that is compressed.
+GZIP, XZ, ZSTD = (bytes.fromhex(it) for it in ("1f8b08", "fd377a58", "28b52ffd"))
+# What a capture begins with: pcapng, and pcap in either order of bytes with either unit of time.
+PLAIN_CAPTURES = tuple(bytes.fromhex(it) for it in ("0a0d0d0a", "d4c3b2a1", "a1b2c3d4", "4d3cb2a1", "a1b23c4d"))
+# What a file begins with that qpk-capture reads, if it is no trace. dist/qpk-front has the same list.
+CAPTURES = (*PLAIN_CAPTURES, GZIP, XZ, ZSTD)
 ENDS = {">": "client", "<": "server", "": ""}
 # A time; a mark, which the kind may follow at once; the kind; of a section its stream; and words of hexadecimal.
 LINE = re.compile(r"\s*(?:@\S*\s+)?(?:([<>])\s*)?([edb])(?:(?<=b)\s+\S+)?(?!\S)(.*)")
@@ -24,7 +27,7 @@ class Piece(NamedTuple):
 
 
 def is_capture(head: bytes) -> bool:
-    """Whether a file that begins with these bytes is a capture."""
+    """Whether a file that begins with these bytes is a capture, or is compressed."""
     return head.startswith(CAPTURES)
 
 

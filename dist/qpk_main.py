@@ -3,7 +3,7 @@
 import os
 import signal
 import sys
-from typing import Callable, List, Optional, Tuple
+from typing import BinaryIO, Callable, List, Optional, Tuple
 
 REFUSED = 1  # the status of words or an input that have no answer, and of an output that can't be written
 
@@ -82,8 +82,21 @@ def drop_output() -> None:
         os.dup2(os.open(os.devnull, os.O_WRONLY), sys.stdout.fileno())
 
 
-def standard_input() -> bytes:
-    """Returns all bytes of standard input."""
+def open_input() -> BinaryIO:
+    """Returns standard input, to read its bytes."""
     if sys.stdin is None:
         raise Refusal("refused: input: standard input is closed")
-    return sys.stdin.buffer.read()
+    return sys.stdin.buffer
+
+
+def standard_input() -> bytes:
+    """Returns all bytes of standard input."""
+    return open_input().read()
+
+
+def open_file(name: str) -> BinaryIO:
+    """Opens a file to read its bytes."""
+    try:
+        return open(name, "rb")
+    except (OSError, ValueError):  # the latter is for a name that has a byte 0
+        raise Refusal(f"{name} is not a file that can be read") from None

@@ -18,6 +18,7 @@ from collections import Counter
 from dataclasses import dataclass, field
 from typing import Dict, Iterator, List, Optional, Set, Tuple
 
+from qpk_lists import MOST_LISTS, HeaderList, OnlyLists, fields_of_lines
 from qpk_streams import BLOCKED_STREAMS, HEADERS, MAX_TABLE_CAPACITY, PUSH_PROMISE, SETTINGS
 from qpk_streams import Connection, NotWhole, SourceError, Streams, read_integer
 
@@ -35,6 +36,8 @@ OWN = ("instruction_created", "headers_encoded", "frame_created")
 DECODER_INSTRUCTIONS = ("section_ack", "header_ack", "stream_cancellation", "insert_count_increment")
 ENCODER_INSTRUCTIONS = ("set_dynamic_table_capacity", "insert_with", "duplicate")
 FRAMES = {"headers": HEADERS, "push_promise": PUSH_PROMISE, "settings": SETTINGS}
+LISTS = ("headers", "header_fields", "fields")  # members that have a header list
+MOST_REPEATED = 8  # lists after one that may be the same again, of another event
 SECTIONS = ("frame", "section", "stream")  # where a section may come from, the best first
 # Names of the two settings, the last by its number.
 CAPACITY_NAMES = ("settings_qpack_max_table_capacity", "max_table_capacity", str(MAX_TABLE_CAPACITY))
@@ -67,9 +70,11 @@ def read_records(text: str) -> List[dict]:
     return records
 
 
-def read_traces(text: str) -> List[dict]:
-    """Returns the traces of a file, each with its events."""
-    first, *events = records = read_records(text)
+def read_traces(records: List[dict]) -> List[dict]:
+    """Returns the traces of the records of a file, each with its events."""
+    if not records:
+        raise SourceError("the trace has no record")
+    first, *events = records
     if not all(isinstance(it, dict) for it in records):
         raise SourceError("a record of the trace is no object")
     if "traces" in first:
@@ -178,6 +183,7 @@ class Reader:
     limited: Set[str] = field(default_factory=set)  # the marks of the ends whose SETTINGS were found
     without_bytes: int = 0
     cut: Set[Tuple[str, str]] = field(default_factory=set)  # the streams of which an instruction has no bytes
+    lists: List[HeaderList] = field(default_factory=list)  # of sections that have no bytes
 
     def read(self, event: Event) -> None:
         """Reads an event, if it is one of those with bytes or limits."""
@@ -210,6 +216,17 @@ class Reader:
         """Adds a line of a section, or counts an event without its bytes or its stream."""
         stream = event.data.get("stream_id")
         self.add(event, mark, source, f"b {int(stream or 0)}", None if stream is None else data)
+        if data is None and stream is not None and len(self.lists) < MOST_LISTS:
+            self.add_list(mark, int(stream), event.data)
+
+    def add_list(self, mark: str, stream: int, data: dict) -> None:
+        """Adds the header list of a section that has no bytes, once."""
+        frame = data.get("frame")
+        places = [it.get(name) for it in (data, frame if isinstance(frame, dict) else {}) for name in LISTS]
+        fields = next((it for it in map(fields_of_lines, places) if it), [])
+        found = HeaderList(mark, stream, fields)
+        if fields and found not in self.lists[-MOST_REPEATED:]:
+            self.lists.append(found)
 
     def add_limits(self, event: Event, mark: str, limits: Optional[Tuple[int, int]]) -> None:
         """Adds a line of SETTINGS. An end sends them once."""
@@ -307,19 +324,28 @@ def mark_of(trace: dict) -> str:
 
 def connections_of(text: str) -> List[Connection]:
     """Returns the connections of a file of traces."""
-    connections = []
+    return connections_of_records(read_records(text))
+
+
+def connections_of_records(records: List[dict]) -> List[Connection]:
+    """Returns the connections of the records of a file of traces."""
+    connections: List[Connection] = []
+    lists: List[HeaderList] = []
     try:
-        for trace in read_traces(text):
+        for trace in read_traces(records):
             readers: Dict[str, Reader] = {}
             for event in events_of(trace):
                 readers.setdefault(event.group, Reader(mark_of(trace))).read(event)
             for group, reader in readers.items():
+                lists += reader.lists
                 names = ", ".join(it for it in (str(trace.get("title") or "a trace"), group) if it)
                 about = {"trace": "".join(it if it.isprintable() else " " for it in names)}
                 if reader.found or any(reader.streams.gaps()):
                     connections.append(Connection(len(connections), about, reader.lines(), list(reader.missing())))
     except (AttributeError, KeyError, OverflowError, TypeError, ValueError, NotWhole) as error:
         raise SourceError(f"the trace can't be read, as a value is of another kind: {error!r}") from None
+    if lists and not any(" b " in line for it in connections for line in it.lines):
+        raise OnlyLists(lists)
     if not connections:
         raise SourceError("the trace has no bytes of QPACK: have the program that wrote it log raw bytes")
     return connections

@@ -3,9 +3,10 @@
 from dataclasses import dataclass, field
 from heapq import heappop, heappush
 from io import BytesIO, TextIOWrapper
-from typing import Dict, Iterable, Iterator, List, Optional, Tuple
+from typing import BinaryIO, Dict, Iterable, Iterator, List, Optional, Set, Tuple
 
 from qpk_main import Refusal, printable
+from qpk_verdict import Seen
 
 HEADERS, SETTINGS, PUSH_PROMISE = 1, 4, 5  # types of frames (RFC 9114, section 7.2)
 # Types of unidirectional streams (RFC 9114, section 6.2; RFC 9204, section 4.2).
@@ -15,6 +16,7 @@ FRAMES_OF_QPACK = (HEADERS, SETTINGS, PUSH_PROMISE)  # whose payload is kept unt
 LONGEST_INTEGER = 8  # bytes of an integer of variable length (RFC 9000, section 16)
 MOST_PAYLOAD = 1 << 20  # bytes of a frame that is read; a longer one is left out
 MOST_WAITING = 1 << 24  # bytes of a stream that are kept after a gap; with more, the stream ends at the gap
+MOST_STREAMS = 1 << 17  # of a connection that are read; others are left out
 
 
 class SourceError(Refusal):
@@ -39,7 +41,10 @@ def read_integer(data: bytes, at: int) -> Tuple[int, int]:
     """Returns the integer of variable length at an offset, and the offset after it (RFC 9000, section 16)."""
     if at >= len(data):
         raise NotWhole
-    end = at + (1 << (data[at] >> 6))
+    first = data[at]
+    if first < 0x40:  # most are of one byte
+        return first, at + 1
+    end = at + (1 << (first >> 6))
     if end > len(data):
         raise NotWhole
     return int.from_bytes(data[at:end], "big") & ((1 << (8 * (end - at) - 2)) - 1), end
@@ -144,6 +149,10 @@ class Stream:
         self.pieces[offset] = data
         self.waiting += len(data) - len(before or b"")
 
+    def has_gap(self) -> bool:
+        """Whether bytes of it are missing before others, or are left out."""
+        return self.is_given_up or bool(self.offsets) or bool(self.frames.too_long)
+
     def left_out(self) -> Iterator[str]:
         """Yields which of its bytes are not read."""
         if self.is_given_up:
@@ -199,11 +208,27 @@ class Streams:
     """The streams of a connection, by the mark of the end that sends on them, and their number."""
 
     streams: Dict[Tuple[str, int], Stream] = field(default_factory=dict)
+    left_out: int = 0  # pieces of streams above MOST_STREAMS
+    ended: Set[Tuple[str, int]] = field(default_factory=set)  # streams that their sender gave up (RFC 9000, section 3.1)
 
     def take(self, mark: str, number: int, offset: int, data: bytes) -> Iterator[str]:
         """Takes bytes of a stream, and yields the words of the lines that are whole by then."""
-        stream = self.streams.setdefault((mark, number), Stream(number))
+        stream = self.streams.get((mark, number))
+        if stream is None:
+            if len(self.streams) >= MOST_STREAMS:
+                self.left_out += 1
+                return
+            stream = self.streams[mark, number] = Stream(number)
         yield from lines_of(stream, stream.without_head(stream.receive(offset, data)))
+
+    def end(self, mark: str, number: int) -> None:
+        """Notes that the sender of a stream gave it up, so that what is missing of it never comes."""
+        if (mark, number) in self.streams:
+            self.ended.add((mark, number))
+
+    def count_gaps(self, mark: str) -> int:
+        """Returns how many streams of an end have a gap, of those that it did not give up."""
+        return sum(it.has_gap() for at, it in self.streams.items() if at[0] == mark and at not in self.ended)
 
     def taken(self, mark: str, number: int) -> int:
         """Returns the offset up to which a stream was taken."""
@@ -213,7 +238,10 @@ class Streams:
         """Yields which bytes are missing, or are left out."""
         for (mark, number), stream in sorted(self.streams.items()):
             for it in stream.left_out():
-                yield f"{mark} stream {number}: {it}"
+                is_ended = (mark, number) in self.ended
+                yield f"{mark} stream {number}: {it}{', and its sender gave it up' if is_ended else ''}"
+        if self.left_out:
+            yield f"there are more than {MOST_STREAMS} streams, of which the others are left out"
 
 
 @dataclass
@@ -225,14 +253,18 @@ class Connection:
     lines: List[str] = field(default_factory=list)
     missing: List[str] = field(default_factory=list)
     data: Optional[bytes] = None  # of a recording, which has its lines
+    seen: Optional[Seen] = None  # of the packets of a capture
 
     def name(self) -> str:
         """Returns its number and its ends."""
         return printable(f"connection {self.number}, {' > '.join(self.about.values())}")
 
-    def recording(self) -> bytes:
-        """Returns the recording that qpk reads."""
-        return to_bytes("".join(f"{it}\n" for it in self.lines)) if self.data is None else self.data
+    def write(self, file: BinaryIO) -> None:
+        """Writes the recording that qpk reads."""
+        if self.data is None:
+            file.writelines(to_bytes(f"{it}\n") for it in self.lines)
+        else:
+            file.write(self.data)
 
     def all_lines(self) -> Iterable[str]:
         """Returns the lines of the recording."""

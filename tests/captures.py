@@ -13,6 +13,7 @@ import io
 import json
 import os
 import random
+import re
 import shutil
 import signal
 import subprocess
@@ -166,7 +167,7 @@ def test_a_frame_in_pieces():
         assert not list(frames.take(bytes.fromhex(head)))
         assert_linear(lambda size, frames=frames: [list(frames.take(piece)) for _ in range(size)], 1000)
         assert (frames.parts is not None) == is_kept and frames.left
-    streams = capture.Streams()
+    streams = qpk_streams.Streams()
     assert_linear(lambda size: list(streams.take(">", size, 0, b"\x21\x00" * size)), 20_000)
 
 
@@ -174,7 +175,7 @@ def test_a_section_that_is_too_long():
     """It is left out and reported, and what comes after it is read. A section of the most bytes is read."""
     most = qpk_streams.MOST_PAYLOAD
     for size, expected in ((most, [f"b 0 {bytes(most).hex()}", "b 0 0000d1"]), (most + 1, ["b 0 0000d1"])):
-        streams, data = capture.Streams(), b"\x01" + (0x80000000 | size).to_bytes(4, "big") + bytes(size)
+        streams, data = qpk_streams.Streams(), b"\x01" + (0x80000000 | size).to_bytes(4, "big") + bytes(size)
         pieces = [data[at : at + 65536] for at in range(0, len(data), 65536)] + [bytes.fromhex("01030000d1")]
         offsets = [sum(map(len, pieces[:at])) for at in range(len(pieces))]
         got = [it for at, piece in zip(offsets, pieces) for it in streams.take(">", 0, at, piece)]
@@ -196,7 +197,7 @@ def test_pieces_after_a_gap():
 
 def test_too_much_after_a_gap():
     """More bytes than a stream keeps after a gap end it there, and none of them is kept."""
-    most, streams = qpk_streams.MOST_WAITING, capture.Streams()
+    most, streams = qpk_streams.MOST_WAITING, qpk_streams.Streams()
     for offset in range(10, most + 10, 1 << 20):
         assert not list(streams.take("<", 0, offset, bytes(1 << 20)))
     assert list(streams.gaps()) == ["< stream 0: bytes from 0 to 10 are missing"]
@@ -435,10 +436,11 @@ def show_by(tshark):
         program.write_text(f"#!/bin/sh\n{tshark}\n", encoding="utf-8")
         program.chmod(0o755)
         capture.write_bytes(bytes.fromhex("0a0d0d0a"))
-        command, variables = [str(TOP / "dist" / "qpk-capture"), "show", str(capture)], {"TSHARK": str(program)}
+        variables = {"TSHARK": str(program)}
+        command = [str(TOP / "dist" / "qpk-capture"), "show", "--by", "tshark", str(capture)]
         pipes = {"stdout": subprocess.PIPE, "stderr": subprocess.PIPE, "encoding": "utf-8"}
         ran = subprocess.run(command, env={**os.environ, **variables}, timeout=SECONDS, check=False, **pipes)
-        return ran.returncode, ran.stderr.replace(room, "")
+        return ran.returncode, re.sub(r"/\S*\.pcap\b", "a.pcap", ran.stderr)
 
 
 def test_what_tshark_says():
@@ -446,7 +448,7 @@ def test_what_tshark_says():
     much = "yes 'a warning' | head -n 100000 >&2"
     none = "it has no stream that can be read: are the secrets of its connections in the key log?"
     assert show_by(f"{much}; echo '<pdml></pdml>'") == (1, f"qpk-capture: {none}\n")
-    said = "qpk-capture: tshark can't read /a.pcapng: it is cut short\n"
+    said = "qpk-capture: tshark can't read a.pcap: it is cut short\n"
     assert show_by(f"{much}; echo 'it is cut short' >&2; exit 2") == (1, said)
     assert show_by("echo '<pdml></pdml>'; echo 'it is cut short' >&2; exit 2") == (1, said)
     assert show_by("echo '<pdml>'")[1].startswith("qpk-capture: what tshark printed is no PDML: ")
@@ -471,10 +473,15 @@ def test_chromium():
     run(TOP / "qpk", "check", KEPT)
 
 
-def main():
-    """Runs all tests, over the program of dist/ if that can be built."""
+def build():
+    """Builds the program of dist/, if that is possible."""
     if PROGRAM.parent != TOP:
         subprocess.run(["make", "-s", "-C", str(TOP / "dist"), f"BUILD={BUILT.name}", str(PROGRAM)], check=True)
+
+
+def main():
+    """Runs all tests, over the program of dist/ if that can be built."""
+    build()
     return run_tests(globals(), "captures", "dist/qpk-capture")
 
 

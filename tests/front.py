@@ -18,7 +18,7 @@ import tempfile
 import time
 from pathlib import Path
 
-from running import TOP, answers_at_once, install, missing_tool, run_tests, shows_no_fault_of_a_script
+from running import TOP, answers_at_once, can_decrypt, install, missing_tool, run_tests, shows_no_fault_of_a_script
 
 FOLDER = tempfile.TemporaryDirectory(prefix="h3-qpack-front-")  # which ends with the script
 ROOM = Path(FOLDER.name)
@@ -103,7 +103,6 @@ def test_the_rest_is_of_the_program():
         (("decode", "--json", "42"), "0000ff24"),
         (("inspect", "4096"), "e\t6294e7838c767f01\n"),
         (("run", "4096", "1"), "encode\t4\tfoo\tbar\n"),
-        (("help",), ""),
         (("help", "decode"), ""),
         (("show", "--help", "x"), ""),
         (("show",), FAULTS),
@@ -215,7 +214,7 @@ def test_captures_and_traces():
     assert run(INSTALLED, "show", trace) == run(link, "show", trace) == run(FRONTS[0], "show", trace)
     assert b"foo: bar" in run(INSTALLED, "show", trace)[1]
     capture = TOP / "tests" / "captured" / "chromium.pcapng"
-    if shutil.which("tshark"):
+    if can_decrypt():
         shown = run(INSTALLED, "show", CHROMIUM)[1]
         for front in FRONTS:
             assert run(front, "show", capture)[1].partition(b"\n")[2] == shown
@@ -225,15 +224,41 @@ def test_captures_and_traces():
 
 
 def test_what_a_capture_is():
-    """By its first bytes a file is a capture for each script, which has tshark read it; other bytes are no text."""
-    captures = ("0a0d0d0a", "d4c3b2a1", "a1b2c3d4", "4d3cb2a1", "a1b23c4d", "1f8b0800")
-    variables = {**os.environ, "TSHARK": "false", "QPK": str(PROGRAM)}
-    for head in (*captures, "0a0d0d0b", "1f8b0000", "00000000"):
+    """By its first bytes a file is a capture for each script, or is compressed; other bytes are no text."""
+    captures = ("0a0d0d0a", "d4c3b2a1", "a1b2c3d4", "4d3cb2a1", "a1b23c4d")
+    compressed = ("1f8b0800", "fd377a58", "28b52ffd")
+    for head in (*captures, *compressed, "0a0d0d0b", "1f8b0000", "00000000"):
         (ROOM / "head").write_bytes(bytes.fromhex(head) + b"\0\xff")
-        said = b"tshark can't read " if head in captures else b"the input is no text; --qif reads a recording "
+        said = b"the capture has no packets: " if head in captures else b"the input is no text; --qif reads a recording "
+        said = b"the file can't be decompressed" if head in compressed else said
         for words in (*((it, "show") for it in FRONTS), (INSTALLED, "stats"), (f"{INSTALLED}-capture", "show")):
-            status, output, faults = run(*words, ROOM / "head", env=variables)
+            status, output, faults = run(*words, ROOM / "head", env={**os.environ, "QPK": str(PROGRAM)})
             assert (status, output) == (1, b"") and said in faults, (head, words, faults)
+
+
+def test_a_file_alone():
+    """A word that is no command and names a file shows that; a command or an unknown word stays what it is."""
+    write("recording", FAULTS)
+    write("inspect", FAULTS)
+    capture = TOP / "tests" / "captured" / "chromium.pcapng"
+    for front in FRONTS:
+        assert run(front, "recording", cwd=ROOM) == run(front, "show", "recording", cwd=ROOM)
+        assert run(front, "./inspect", "--json", cwd=ROOM) == run(front, "show", "--json", "inspect", cwd=ROOM)
+        assert run(front, capture, "--stream", "4") == run(front, "show", capture, "--stream", "4")
+        for words in (("inspect", "x"), ("recordings",), ("",), (".",)):
+            assert run(front, *words, cwd=ROOM) == run(PROGRAM, *words), words
+
+
+def test_help_on_all():
+    """It is the program's, and has each command, those too that are scripts."""
+    for words in (("help",), ("-h",), ("--help",)):
+        expected = run(PROGRAM, *words)[1].splitlines()
+        for front in FRONTS:
+            status, output, said = run(front, *words)
+            lines = output.splitlines()
+            assert (status, said) == (0, b"") and [it for it in lines if it in expected] == expected, (words, output)
+            added = [it.split()[0] for it in lines if it not in expected]
+            assert added == [b"report", b"stats", b"table"], output
 
 
 def test_colours_take_nothing_away():

@@ -17,7 +17,7 @@ import sys
 import tempfile
 from pathlib import Path
 
-from running import FORMED, PLAIN, TOP, assert_linear, run_tests, shows_no_fault_of_a_script
+from running import FORMED, PLAIN, TOP, assert_linear, can_decrypt, run_tests, shows_no_fault_of_a_script
 
 sys.dont_write_bytecode = True
 sys.path.insert(0, str(TOP / "dist"))
@@ -145,7 +145,7 @@ def test_numbers_of_chromium():
 
 def test_numbers_of_the_capture():
     """A capture has the same numbers, after a line with its connection."""
-    if shutil.which("tshark"):
+    if can_decrypt():
         head, *found = ask_json("stats", CAPTURED / "chromium.pcapng")
         assert head == {"connection": 0} and found == ask_json("stats", RECORDING)
 

@@ -5,6 +5,7 @@ import subprocess
 import time
 import traceback
 from concurrent.futures import ThreadPoolExecutor
+from ctypes.util import find_library
 from pathlib import Path
 
 CONTROLS = re.compile(rb"[\x00-\x08\x0b-\x1f\x7f]|\xc2[\x80-\x9f]")  # in UTF-8, but for TAB and line feed
@@ -72,6 +73,11 @@ def answers_at_once():
 def missing_tool():
     """Returns a program that make needs to install dist/ and that is not there, or nothing."""
     return next((it for it in ("make", "cc", "objcopy") if not shutil.which(it)), "")
+
+
+def can_decrypt():
+    """Whether qpk-capture can read a capture here."""
+    return bool(find_library("crypto") or shutil.which("tshark"))
 
 
 def install(room):

@@ -1,21 +1,25 @@
 # Completion of qpk for bash. Where no word fits, bash completes the name of a file.
 _qpk() {
-    local words='' source='--keys --connection --pdml --max-capacity --max-blocked --qif'
+    local words='' source='--keys --connection --by --pdml --max-capacity --max-blocked --qif'
     if [ "$COMP_CWORD" = 1 ]; then
         words='encode decode show check explain report stats table inspect run help --version'
     else
         case ${COMP_WORDS[COMP_CWORD - 1]} in
         --keys) COMPREPLY=() && return ;;
+        --by)
+            mapfile -t COMPREPLY < <(compgen -W 'libcrypto tshark' -- "${COMP_WORDS[COMP_CWORD]}")
+            return
+            ;;
         esac
         case ${COMP_WORDS[1]} in
         encode) words='--qif' ;;
         decode) words='--hex --json --qif' ;;
         show)
-            words='--table --json --qlog --max-capacity --max-blocked --qif --keys --connection --stream'
+            words='--table --json --qlog --max-capacity --max-blocked --qif --keys --connection --by --stream'
             words+=' --color=always --color=auto --color=never'
             ;;
         check)
-            words='--json --max-capacity --max-blocked --qif --keys --connection'
+            words='--json --max-capacity --max-blocked --qif --keys --connection --by'
             words+=' --color=always --color=auto --color=never'
             ;;
         explain)

@@ -35,6 +35,7 @@ class Source:
     max_capacity: Optional[int] = None
     max_blocked: Optional[int] = None
     is_qif: bool = False
+    by: Optional[str] = None  # what decrypts a capture
 
     def limits(self) -> List[str]:
         """Returns the words of qpk that have the limits."""
@@ -135,7 +136,8 @@ def read_recordings(source: Source) -> List[Recording]:
     if source.file != "-" and not os.path.isfile(source.file):
         raise ReportError(f"{source.file} is not a file that can be read")
     data = standard_input() if source.file == "-" else Path(source.file).read_bytes()
-    if source.keys is not None or source.connection is not None or not source.is_qif and is_scripted(data[:64]):
+    has_words = source.keys is not None or source.connection is not None or source.by is not None
+    if has_words or not source.is_qif and is_scripted(data[:64]):
         return read_capture(source, ["--", source.file], data if source.file == "-" else None)
     words = [*source.limits(), *(["--qif"] if source.is_qif else [])]
     name = "standard input" if source.file == "-" else os.path.basename(source.file)
@@ -152,6 +154,7 @@ def read_capture(source: Source, words: List[str], data: Optional[bytes]) -> Lis
     command = [find_program("qpk-capture"), "lines"]
     command += [] if source.keys is None else [f"--keys={source.keys}"]
     command += [] if source.connection is None else ["--connection", str(source.connection)]
+    command += [] if source.by is None else [f"--by={source.by}"]
     command += words
     try:
         ran = subprocess.run(command, input=data, stdout=subprocess.PIPE, check=False)

@@ -20,7 +20,8 @@ REFUSED_PART = 2  # the status where the answer is there, and something in the r
 FILE = "FILE is a recording, as qpk show reads it (qpk help show), or a capture. A minus is standard input."
 OPTIONS = """\
 --keys KEYLOG      the secrets of a capture's connections; a capture that contains them needs none
---connection N     only this connection of a capture, as tshark numbers them, from 0
+--connection N     only this connection of a capture, from 0
+--by tshark        have tshark decrypt a capture, and not libcrypto
 --pdml FILE        in the place of a capture: what tshark -T pdml printed
 --max-capacity N   the maximum table capacity in bytes, where no line s has it; else 4096
 --max-blocked N    how many streams may be blocked, where no line s has it; else 100
@@ -119,6 +120,7 @@ def parser_of(command: str) -> Parser:
     parser.add_argument("-h", "--help", nargs=0, action=PrintHelp)
     parser.add_argument("file", nargs="?", metavar="FILE")
     parser.add_argument("--keys", metavar="KEYLOG")
+    parser.add_argument("--by", metavar="PROGRAM")
     parser.add_argument("--pdml", metavar="FILE")
     for option in ("--connection", "--max-capacity", "--max-blocked"):
         parser.add_argument(option, type=number, metavar="N")
@@ -284,7 +286,7 @@ def answer(words: argparse.Namespace) -> int:
     """Does what the words ask for, and returns the status."""
     sys.stdout.reconfigure(errors="backslashreplace")  # type: ignore[attr-defined]
     source = Source(
-        words.file, words.keys, words.pdml, words.connection, words.max_capacity, words.max_blocked, words.qif
+        words.file, words.keys, words.pdml, words.connection, words.max_capacity, words.max_blocked, words.qif, words.by
     )
     return REFUSED_PART if COMMANDS[words.command](words, read_recordings(source)) else 0
 

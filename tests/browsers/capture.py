@@ -1,4 +1,4 @@
-"""A capture of a run by dumpcap, and the lists of fields that qpk reads in it by tshark."""
+"""A capture of a run by dumpcap, and the lists of fields that qpk reads in it."""
 import collections
 import json
 import os
@@ -10,12 +10,11 @@ from browsers import GIVEN_UP
 from nghttp3 import Failure
 
 QPK = os.path.join(os.path.dirname(os.path.abspath(__file__)), '..', '..', 'qpk')
-PROGRAMS = ('dumpcap', 'tshark')
 
 
 def is_possible():
-    """Whether datagrams can be captured here: with dumpcap and tshark, as a user who may."""
-    if not all(map(shutil.which, PROGRAMS)):
+    """Whether datagrams can be captured here: with dumpcap, as a user who may."""
+    if not shutil.which('dumpcap'):
         return False
     interfaces = subprocess.run(['dumpcap', '-D'], capture_output=True, text=True, check=False)
     return 'lo' in interfaces.stdout.split()

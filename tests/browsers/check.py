@@ -4,7 +4,7 @@
 A page makes 170 requests, twelve at once, of which 20 are aborted, under four settings, in Chromium and in Firefox. It
 compares the fields of requests and answers that it knows. nghttp3 decodes each section again, both ways, and finds the
 fields that the server logged. And the browser's own log has the same lists. One run with Chromium is captured, where
-dumpcap and tshark are installed: qpk show must read the same lists in the capture, and qpk check find nothing wrong. It
+dumpcap is installed: qpk show must read the same lists in the capture, and qpk check find nothing wrong. It
 needs chromium or firefox-esr, and on Debian libnss3-tools for Firefox, the packages of the server and libnghttp3-3. A
 browser that is not installed is left out. It uses addresses of this machine alone.
 

@@ -17,6 +17,7 @@ import shutil
 import subprocess
 import sys
 import tempfile
+from ctypes.util import find_library
 from pathlib import Path
 
 import devtools
@@ -148,9 +149,9 @@ def check_recording(pages):
 
 
 def check_capture(pages):
-    """Checks the report of the capture, if tshark is there. Its lines have numbers lower by one."""
-    if not shutil.which('tshark'):
-        raise NotShown('without tshark')
+    """Checks the report of the capture, if it can be decrypted. Its lines have numbers lower by one."""
+    if not (find_library('crypto') or shutil.which('tshark')):
+        raise NotShown('without libcrypto and tshark')
     return f"{compare_lists(pages.open(run('report', CAPTURED / 'chromium.pcapng')))} lists"
 
 
