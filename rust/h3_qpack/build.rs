@@ -44,8 +44,7 @@ fn target(word: &str) -> String {
     env::var(format!("CARGO_CFG_TARGET_{word}")).unwrap_or_default()
 }
 
-/// Returns the name of the text of assembly for the target, as `dist/processor` has it. The text for aarch64 uses the
-/// register x18, which Android keeps for itself.
+/// Returns the name of the text of assembly for the target, as `dist/processor` has it.
 fn choose_text() -> Option<&'static str> {
     if target("POINTER_WIDTH") != "64" || target("ENDIAN") != "little" {
         return None;
@@ -54,7 +53,12 @@ fn choose_text() -> Option<&'static str> {
         ("x86_64", "linux" | "freebsd" | "netbsd" | "openbsd" | "dragonfly" | "illumos" | "solaris" | "android") => {
             Some("x86_64-elf")
         }
+        ("x86_64", "windows") => Some("x86_64-coff"),
+        ("x86_64", "macos") => Some("x86_64-macho"),
         ("aarch64", "linux" | "freebsd" | "netbsd" | "openbsd") => Some("aarch64-elf"),
+        ("aarch64", "android") => Some("aarch64-android-elf"),
+        ("aarch64", "macos") => Some("aarch64-macho"),
+        ("riscv64", "linux") => Some("riscv64-elf"),
         _ => None,
     }
 }
