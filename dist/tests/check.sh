@@ -75,8 +75,10 @@ stand_in() {
     local module object
     module=$top/$(name_module "$1")
     object=${module%.ll}
-    mkdir -p "${module%/*}" && printf '%s\n' -O2 -fPIC --no-default-config -fno-asynchronous-unwind-tables -x ir >"$module.words" &&
-        echo 'char *realloc(char *, long); char *f(char *p, long n) { if (n == 77) n = 1234; p = realloc(p, n); return p ? p + n : 0; }' |
+    mkdir -p "${module%/*}" &&
+        printf '%s\n' -O2 -fPIC --no-default-config -fno-asynchronous-unwind-tables -x ir >"$module.words" &&
+        printf '%s\n' 'void *realloc(void *, unsigned long);' 'char *f(char *p, long n) {' 'if (n == 77) n = 1234;' \
+            'p = realloc(p, n);' 'return p ? p + n : 0;' '}' |
         "$kit/toolchain/bin/clang" "--target=$3" -xc - -O2 -fPIC -fno-asynchronous-unwind-tables -S -emit-llvm -o "$module" &&
         compile_module "$3" "$module" -fno-addrsig -fno-verbose-asm -S | write_text "$3" >"$top/dist/$1" &&
         compile_module "$3" "$module" -c >"$room/object.o" || return
