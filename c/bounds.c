@@ -212,6 +212,7 @@ static void cancel_blocked(void) {
 }
 
 int main(void) {
+  live = blocks = 0; /* the start of a program takes blocks too, on Windows */
   hold_decoder();
   for (size_t len = 1024; len <= 1 << 22; len *= 16) hold_piece(len);
   hold_encoder(100, ENCODER_BOUND);

@@ -2,8 +2,8 @@
 # Tests the C library. It needs a C and a C++ compiler, make, pkg-config, Python 3.8 and the headers of nghttp3 and of
 # ngtcp2 with GnuTLS (Debian: gcc, g++, make, pkg-config, python3, libnghttp3-dev, libngtcp2-dev,
 # libngtcp2-crypto-gnutls-dev and libgnutls28-dev), and installs by apt-get what is not there, which only root can. Where
-# nghttp3 can't be had, all but the interface and the example is left out, and where ngtcp2 can't, the connection over
-# QUIC; the last line says so. Without a compiler nothing is tested, and that is a failure. valgrind is used where it is
+# nghttp3 can't be had, the tests beside it are left out, and where ngtcp2 can't, the connection over QUIC; the last line
+# says so. Without a compiler nothing is tested, and that is a failure. valgrind is used where it is
 # there. The library is the archive that is proved, if it is built of these sources; else that of dist/, if it was
 # generated from them; else the archive, which is proved first, in 20 minutes. Ends in a line of what passed, with a
 # status that is not 0 if something failed.
@@ -42,10 +42,10 @@ choose_tests() {
         echo "not shown: a connection of the library in C over QUIC, without ngtcp2"
     fi
     if [ -n "$(list_nghttp3)" ]; then
-        tests=
+        tests="calls inserts memory"
         peer=
-        left_out=", of the interface and the example alone: nghttp3 could not be had"
-        echo "not shown: the tests in C, without nghttp3"
+        left_out=", without the tests beside nghttp3: it could not be had"
+        echo "not shown: the tests in C beside nghttp3, without nghttp3"
     fi
 }
 
@@ -121,10 +121,6 @@ for test in $tests; do
     compile "$test.sanitized" "tests/$test.c" -O1 -g -fsanitize=address,undefined -fno-sanitize-recover
     run "$room/$test.sanitized" "$corpus"
 done
-if [ -z "$tests" ]; then
-    echo "c/check.sh: $passed runs passed over $library$left_out"
-    exit
-fi
 choose_more calls
 compile calls.exported tests/calls.c -DH3_QPACK_NO_INLINE
 run "$room/calls.exported" "$corpus"
@@ -145,6 +141,10 @@ choose_more bounds
 compile bounds bounds.c -O2
 run "$room/bounds"
 cat "$room/told"
+if [ -z "$peer" ]; then
+    echo "c/check.sh: $passed runs passed over $library, $with$left_out"
+    exit
+fi
 choose_more held
 compile held held.c -O2
 run "$room/held" "$corpus"

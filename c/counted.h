@@ -6,6 +6,10 @@
 #include <malloc.h>
 #include "tests/common.h"
 
+#ifdef _WIN32
+#define malloc_usable_size(p) ((p) ? _msize(p) : 0)
+#endif
+
 /* The bytes and the number of the blocks that are live, as malloc says, and the most bytes since a case began.
  * |most_moving| has 8 bytes more for each block, and a block that is enlarged twice, as before and as after it. */
 static size_t live, blocks, most_live, most_moving;

@@ -6,8 +6,8 @@
  *   encode ..   allocations a list of the encoder as it encodes, and of the decoder as it receives and decodes, over the
  *               whole corpus
  *   full table  an encoder and a decoder whose table of 65,536 bytes is full of entries of 61 bytes with five names */
-#include "counted.h"
 #include "libraries.h"
+#include "counted.h"
 
 #define CAPACITY 4096
 #define FULL 65536

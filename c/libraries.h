@@ -2,7 +2,7 @@
 #ifndef LIBRARIES_H
 #define LIBRARIES_H
 
-#include "tests/common.h"
+#include "tests/peer.h"
 
 /* What an encoder wrote of a list. */
 typedef struct {

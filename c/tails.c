@@ -3,8 +3,8 @@
  * the least time is kept, so that what the machine does beside it does not count. Prints of encode and of receive the
  * median, the greatest but for one call in 10,000, and the greatest time, and the most bytes that were allocated in one
  * call, and the most allocations. Columns are parted by TABs. */
-#include "counted.h"
 #include "libraries.h"
+#include "counted.h"
 
 #define FIELDS 10
 #define NEW 3

@@ -463,48 +463,62 @@ H3_QPACK_INLINE h3_qpack_decoded_alone h3_qpack_decode_stateless(const uint8_t *
                                                                  uint64_t max_section_size, h3_qpack_field *fields,
                                                                  size_t fieldslen, uint8_t *out, size_t outlen);
 
-/* ---- The exports of the verified library. Call those above: these check neither pointers nor lengths. */
+/* ---- The exports of the verified library. Call those above: these check neither pointers nor lengths.
+ *
+ * They are assembly, which is the same on every system of a processor. So on Windows with x86-64 they are called as on the
+ * others, by the convention of System V. GCC and clang can call them. */
 
-uint32_t h3q_version(void);
-int32_t h3q_encoder_new(size_t max_capacity, size_t max_blocked, size_t capacity, size_t most_unacknowledged,
-                        uint64_t seed, void **at);
-void h3q_encoder_free(h3_qpack_encoder encoder);
-h3_qpack_encoded h3q_encoder_encode(h3_qpack_encoder *encoder, uint64_t stream_id, const h3_qpack_nv *nva, size_t nvlen,
-                                    uint8_t *section, size_t sectionlen);
-h3_qpack_written h3q_encoder_section(h3_qpack_encoder *encoder, uint8_t *section, size_t sectionlen);
-size_t h3q_encoder_stream(h3_qpack_encoder *encoder, uint8_t *out, size_t outlen);
-size_t h3q_encoder_stream_len(h3_qpack_encoder *encoder);
-h3_qpack_received h3q_encoder_read(h3_qpack_encoder *encoder, const uint8_t *src, size_t srclen);
-int32_t h3q_encoder_set_peer_settings(h3_qpack_encoder *encoder, size_t max_capacity, size_t max_blocked);
-int32_t h3q_encoder_set_capacity(h3_qpack_encoder *encoder, size_t capacity);
-size_t h3q_encoder_blocked(h3_qpack_encoder *encoder);
-size_t h3q_encoder_unacknowledged(h3_qpack_encoder *encoder);
-size_t h3q_encoder_insert_count(h3_qpack_encoder *encoder);
-size_t h3q_encoder_known_received_count(h3_qpack_encoder *encoder);
-size_t h3q_encoder_capacity(h3_qpack_encoder *encoder);
-size_t h3q_encoder_table_size(h3_qpack_encoder *encoder);
-size_t h3q_encoder_entries(h3_qpack_encoder *encoder);
-h3_qpack_field h3q_encoder_entry(h3_qpack_encoder *encoder, size_t index, uint8_t *out, size_t outlen);
-int32_t h3q_decoder_new(size_t max_capacity, size_t max_blocked, uint64_t max_section_size, void **at);
-void h3q_decoder_free(h3_qpack_decoder decoder);
-h3_qpack_decoded h3q_decoder_decode(h3_qpack_decoder *decoder, uint64_t stream_id, const uint8_t *src, size_t srclen);
-h3_qpack_field h3q_decoder_field(h3_qpack_decoder *decoder, size_t index, uint8_t *out, size_t outlen);
-h3_qpack_written h3q_decoder_fields(h3_qpack_decoder *decoder, h3_qpack_field *fields, size_t fieldslen, uint8_t *out,
-                                    size_t outlen);
-h3_qpack_received h3q_decoder_read(h3_qpack_decoder *decoder, const uint8_t *src, size_t srclen);
-size_t h3q_decoder_insert_count(h3_qpack_decoder *decoder);
-size_t h3q_decoder_blocked(h3_qpack_decoder *decoder);
-size_t h3q_decoder_capacity(h3_qpack_decoder *decoder);
-size_t h3q_decoder_table_size(h3_qpack_decoder *decoder);
-size_t h3q_decoder_entries(h3_qpack_decoder *decoder);
-h3_qpack_field h3q_decoder_entry(h3_qpack_decoder *decoder, size_t index, uint8_t *out, size_t outlen);
-uint32_t h3q_decoder_next_ready(h3_qpack_decoder *decoder, uint64_t *stream_id);
-size_t h3q_decoder_stream(h3_qpack_decoder *decoder, uint8_t *out, size_t outlen);
-size_t h3q_decoder_stream_len(h3_qpack_decoder *decoder);
-int32_t h3q_decoder_cancel(h3_qpack_decoder *decoder, uint64_t stream_id);
-h3_qpack_written h3q_encode_stateless(const h3_qpack_nv *nva, size_t nvlen, uint8_t *section, size_t sectionlen);
-h3_qpack_decoded_alone h3q_decode_stateless(const uint8_t *src, size_t srclen, uint64_t max_section_size,
-                                            h3_qpack_field *fields, size_t fieldslen, uint8_t *out, size_t outlen);
+#if defined _WIN64 && defined __x86_64__
+#define H3_QPACK_CALL __attribute__((sysv_abi))
+#elif defined _WIN32 || defined __CYGWIN__
+#error "h3_qpack is for Windows on x86-64 alone, by GCC or clang"
+#else
+#define H3_QPACK_CALL
+#endif
+
+H3_QPACK_CALL uint32_t h3q_version(void);
+H3_QPACK_CALL int32_t h3q_encoder_new(size_t max_capacity, size_t max_blocked, size_t capacity,
+                                      size_t most_unacknowledged, uint64_t seed, void **at);
+H3_QPACK_CALL void h3q_encoder_free(h3_qpack_encoder encoder);
+H3_QPACK_CALL h3_qpack_encoded h3q_encoder_encode(h3_qpack_encoder *encoder, uint64_t stream_id, const h3_qpack_nv *nva,
+                                                  size_t nvlen, uint8_t *section, size_t sectionlen);
+H3_QPACK_CALL h3_qpack_written h3q_encoder_section(h3_qpack_encoder *encoder, uint8_t *section, size_t sectionlen);
+H3_QPACK_CALL size_t h3q_encoder_stream(h3_qpack_encoder *encoder, uint8_t *out, size_t outlen);
+H3_QPACK_CALL size_t h3q_encoder_stream_len(h3_qpack_encoder *encoder);
+H3_QPACK_CALL h3_qpack_received h3q_encoder_read(h3_qpack_encoder *encoder, const uint8_t *src, size_t srclen);
+H3_QPACK_CALL int32_t h3q_encoder_set_peer_settings(h3_qpack_encoder *encoder, size_t max_capacity, size_t max_blocked);
+H3_QPACK_CALL int32_t h3q_encoder_set_capacity(h3_qpack_encoder *encoder, size_t capacity);
+H3_QPACK_CALL size_t h3q_encoder_blocked(h3_qpack_encoder *encoder);
+H3_QPACK_CALL size_t h3q_encoder_unacknowledged(h3_qpack_encoder *encoder);
+H3_QPACK_CALL size_t h3q_encoder_insert_count(h3_qpack_encoder *encoder);
+H3_QPACK_CALL size_t h3q_encoder_known_received_count(h3_qpack_encoder *encoder);
+H3_QPACK_CALL size_t h3q_encoder_capacity(h3_qpack_encoder *encoder);
+H3_QPACK_CALL size_t h3q_encoder_table_size(h3_qpack_encoder *encoder);
+H3_QPACK_CALL size_t h3q_encoder_entries(h3_qpack_encoder *encoder);
+H3_QPACK_CALL h3_qpack_field h3q_encoder_entry(h3_qpack_encoder *encoder, size_t index, uint8_t *out, size_t outlen);
+H3_QPACK_CALL int32_t h3q_decoder_new(size_t max_capacity, size_t max_blocked, uint64_t max_section_size, void **at);
+H3_QPACK_CALL void h3q_decoder_free(h3_qpack_decoder decoder);
+H3_QPACK_CALL h3_qpack_decoded h3q_decoder_decode(h3_qpack_decoder *decoder, uint64_t stream_id, const uint8_t *src,
+                                                  size_t srclen);
+H3_QPACK_CALL h3_qpack_field h3q_decoder_field(h3_qpack_decoder *decoder, size_t index, uint8_t *out, size_t outlen);
+H3_QPACK_CALL h3_qpack_written h3q_decoder_fields(h3_qpack_decoder *decoder, h3_qpack_field *fields, size_t fieldslen,
+                                                  uint8_t *out, size_t outlen);
+H3_QPACK_CALL h3_qpack_received h3q_decoder_read(h3_qpack_decoder *decoder, const uint8_t *src, size_t srclen);
+H3_QPACK_CALL size_t h3q_decoder_insert_count(h3_qpack_decoder *decoder);
+H3_QPACK_CALL size_t h3q_decoder_blocked(h3_qpack_decoder *decoder);
+H3_QPACK_CALL size_t h3q_decoder_capacity(h3_qpack_decoder *decoder);
+H3_QPACK_CALL size_t h3q_decoder_table_size(h3_qpack_decoder *decoder);
+H3_QPACK_CALL size_t h3q_decoder_entries(h3_qpack_decoder *decoder);
+H3_QPACK_CALL h3_qpack_field h3q_decoder_entry(h3_qpack_decoder *decoder, size_t index, uint8_t *out, size_t outlen);
+H3_QPACK_CALL uint32_t h3q_decoder_next_ready(h3_qpack_decoder *decoder, uint64_t *stream_id);
+H3_QPACK_CALL size_t h3q_decoder_stream(h3_qpack_decoder *decoder, uint8_t *out, size_t outlen);
+H3_QPACK_CALL size_t h3q_decoder_stream_len(h3_qpack_decoder *decoder);
+H3_QPACK_CALL int32_t h3q_decoder_cancel(h3_qpack_decoder *decoder, uint64_t stream_id);
+H3_QPACK_CALL h3_qpack_written h3q_encode_stateless(const h3_qpack_nv *nva, size_t nvlen, uint8_t *section,
+                                                    size_t sectionlen);
+H3_QPACK_CALL h3_qpack_decoded_alone h3q_decode_stateless(const uint8_t *src, size_t srclen, uint64_t max_section_size,
+                                                          h3_qpack_field *fields, size_t fieldslen, uint8_t *out,
+                                                          size_t outlen);
 
 /* ---- What the bodies below share. H3Q_HAVE_NULL are fields of which a pointer is NULL, which the exports may not be
  * passed: the two calls pass a copy without NULL, from malloc. */

@@ -20,7 +20,7 @@ COPIES = [
     ("rust/h3_qpack", ".", ["LICENSE"]),
     ("bindings/go", ".", ["LICENSE"]),
     ("bindings/python", ".", ["LICENSE"]),
-    ("rust/h3_qpack/generated", "dist", ["x86_64-elf.s", "aarch64-elf.s", "heap-x86_64-elf.s", "heap-aarch64-elf.s"]),
+    ("rust/h3_qpack/generated", "dist", ["[!q]*-elf.s", "*-coff.s", "*-macho.s"]),
     ("rust/h3_qpack/tests", "c/tests", ["layout.txt"]),
     ("rust/h3_qpack/tests/data", "crates/qpack_tests/data", ["corpus.qif", "nghttp3_*.txt", "stateless_h3.tsv"]),
     ("examples/http3-server/www", "dist/report", ["element.js", "qpack.css"]),

@@ -36,8 +36,9 @@ OF_INTERFACE = [
 # Places of the first number, or of the second. The name of the shared library has the first: it is 0 until 1.0.
 MAJOR = [
     ("include/h3_qpack.h", r"^#define H3_QPACK_VERSION_MAJOR (\d+)$"),
-    ("dist/Makefile", r"^SHARED = libh3_qpack\.so\.(\d+)$"),
+    ("dist/Makefile", r"^NUMBER = (\d+)$"),
     ("dist/CMakeLists.txt", r"\bSOVERSION (\d+)$"),
+    ("dist/CMakeLists.txt", r"\bRUNTIME_OUTPUT_NAME h3_qpack-(\d+)$"),
     ("dist/meson.build", r"^  soversion: '(\d+)',$"),
     ("dist/h3_qpack.map", r"^H3_QPACK_(\d+) \{$"),
     ("dist/debian/libh3-qpack0.symbols", r"^libh3_qpack\.so\.(\d+) "),

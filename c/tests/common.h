@@ -7,7 +7,6 @@
 #include <stdlib.h>
 #include <string.h>
 #include <time.h>
-#include <nghttp3/nghttp3.h>
 #include "h3_qpack.h"
 
 #define CHECK(x) \
@@ -25,10 +24,20 @@ static inline uint64_t now(void) {
   return (uint64_t)t.tv_sec * 1000000000 + (uint64_t)t.tv_nsec;
 }
 
-/* A list of fields, as both libraries take it. */
+#ifndef PEER_H
+/* A test without a peer has nothing in the place of the peer's fields. */
+typedef char their_nv;
+
+static inline their_nv to_theirs(const h3_qpack_nv *nv) {
+  (void)nv;
+  return 0;
+}
+#endif
+
+/* A list of fields, as this library takes it, and as nghttp3 does in the tests that include peer.h. */
 typedef struct {
   h3_qpack_nv *nv;
-  nghttp3_nv *ng;
+  their_nv *ng;
   size_t len, room;
 } list;
 
@@ -61,10 +70,8 @@ static inline void add_field(list *l, const void *name, size_t namelen, const vo
   }
   h3_qpack_nv nv = {copy_of(name, namelen), namelen, copy_of(value, valuelen), valuelen,
                     (uint8_t)(never ? H3_QPACK_NV_FLAG_NEVER_INDEX : 0)};
-  nghttp3_nv ng = {(uint8_t *)nv.name, (uint8_t *)nv.value, namelen, valuelen,
-                   (uint8_t)(never ? NGHTTP3_NV_FLAG_NEVER_INDEX : NGHTTP3_NV_FLAG_NONE)};
   l->nv[l->len] = nv;
-  l->ng[l->len++] = ng;
+  l->ng[l->len++] = to_theirs(&nv);
   nfields++;
 }
 
@@ -227,62 +234,6 @@ static inline size_t exchange_list(h3_qpack_encoder *e, h3_qpack_decoder *d, uin
 static inline void hear(h3_qpack_encoder *e, const void *p, size_t len) {
   h3_qpack_received r = h3_qpack_encoder_read_decoder(e, p, len);
   CHECK(r.status == H3_QPACK_OK && r.taken == len);
-}
-
-/* nghttp3 asks this program for memory, where a linker can count it. */
-static inline void *their_malloc(size_t size, void *data) {
-  (void)data;
-  return malloc(size);
-}
-
-static inline void their_free(void *p, void *data) {
-  (void)data;
-  free(p);
-}
-
-static inline void *their_calloc(size_t count, size_t size, void *data) {
-  (void)data;
-  return calloc(count, size);
-}
-
-static inline void *their_realloc(void *p, size_t size, void *data) {
-  (void)data;
-  return realloc(p, size);
-}
-
-static const nghttp3_mem their_memory = {NULL, their_malloc, their_free, their_calloc, their_realloc};
-
-/* Reads a section with nghttp3, and compares its fields with a list. Returns 0 where the section waits. */
-static inline int read_theirs(nghttp3_qpack_decoder *d, int64_t stream_id, const list *l, const uint8_t *p,
-                              size_t len) {
-  nghttp3_qpack_stream_context *context;
-  CHECK(!nghttp3_qpack_stream_context_new(&context, stream_id, &their_memory));
-  size_t k = 0;
-  for (;;) {
-    nghttp3_qpack_nv nv;
-    uint8_t flags;
-    nghttp3_ssize taken = nghttp3_qpack_decoder_read_request(d, context, &nv, &flags, p, len, 1);
-    CHECK(taken >= 0);
-    p += taken;
-    len -= (size_t)taken;
-    if (flags & NGHTTP3_QPACK_DECODE_FLAG_BLOCKED) {
-      nghttp3_qpack_stream_context_del(context);
-      return 0;
-    }
-    if (flags & NGHTTP3_QPACK_DECODE_FLAG_EMIT) {
-      const h3_qpack_nv *ours = &l->nv[k++];
-      nghttp3_vec name = nghttp3_rcbuf_get_buf(nv.name), value = nghttp3_rcbuf_get_buf(nv.value);
-      CHECK(k <= l->len && name.len == ours->namelen && !memcmp(name.base, ours->name, name.len));
-      CHECK(value.len == ours->valuelen && !memcmp(value.base, ours->value, value.len));
-      CHECK(!(nv.flags & NGHTTP3_NV_FLAG_NEVER_INDEX) == !ours->flags);
-      nghttp3_rcbuf_decref(nv.name);
-      nghttp3_rcbuf_decref(nv.value);
-    }
-    if (flags & NGHTTP3_QPACK_DECODE_FLAG_FINAL) break;
-  }
-  CHECK(k == l->len);
-  nghttp3_qpack_stream_context_del(context);
-  return 1;
 }
 
 #endif

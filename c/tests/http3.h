@@ -3,7 +3,7 @@
 #ifndef HTTP3_H
 #define HTTP3_H
 
-#include "common.h"
+#include "peer.h"
 
 #define STREAMS 424
 #define REQUESTS 100

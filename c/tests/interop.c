@@ -1,6 +1,6 @@
 /* The corpus and lists at random, both ways with nghttp3 in one process, at five capacities and three limits. Streams
  * are cut at random; where |late| instructions come behind sections, which then wait; some streams are given up. */
-#include "common.h"
+#include "peer.h"
 
 #define SECTION (1 << 16)
 

@@ -1,8 +1,8 @@
 #!/usr/bin/env bash
 # Plants faults in a copy of dist/ and of its sources, and has dist/check find each: it names the file, and its status is
 # not 0. Each fault has its sum in SUMS. The copy has stand-ins for the objects that were proved: what the kit's clang
-# makes of the assembly before the fault. Without the kit nothing is shown, and a line says so. The last line is
-# 'N passed, M failed'.
+# makes of the assembly before the fault, or for the library what it makes of a small function. Without the kit nothing is
+# shown, and a line says so. The last line is 'N passed, M failed'.
 # shellcheck disable=SC2046,SC2086 # the names of files are words
 set -uo pipefail
 cd "$(dirname "$0")/../.." || exit 1
@@ -33,10 +33,7 @@ write_sums() {
 
 # Prints the files that SUMS has sums of.
 list_made() {
-    local target
-    list_texts | cut -d ' ' -f 1
-    for target in $(list_targets); do name_heap "$target"; done
-    list_copies | cut -d ' ' -f 1
+    { list_texts && list_ports && list_heaps && list_copies; } | cut -d ' ' -f 1
 }
 
 # Makes the copy one in which nothing differs: the copies, the assembly of heap.c, the objects and SUMS.
@@ -48,8 +45,15 @@ make_equal() {
     (
         . "$top/dist/texts"
         kit=$(dirname "$(rt doc)")
-        for target in $(list_targets); do write_heap "$target" >"$top/dist/$(name_heap "$target")"; done
-        while read -r file crate target _; do assemble "$file" "$crate" "$target" || exit; done < <(list_texts)
+        while read -r file target; do write_heap "$file" "$target" >"$top/dist/$file" || exit; done < <(list_heaps)
+        while read -r file crate target _; do
+            if list_modules | grep -qxF "$file"; then
+                stand_in "$file" "$crate" "$target" || exit
+            else
+                assemble "$file" "$crate" "$target" || exit
+            fi
+        done < <(list_texts)
+        while read -r file of target; do port "$file" "$of" "$target" || exit; done < <(list_ports)
     ) && write_sums
 }
 
@@ -64,6 +68,29 @@ assemble() {
     *.a) rm -f "$object" && ar rc "$object" "$room/object.o" ;;
     *) cp "$room/object.o" "$object" ;;
     esac
+}
+
+# Makes the stand-in of the module of a file, with the file and the object that are made of it.
+stand_in() {
+    local module object
+    module=$top/$(name_module "$1")
+    object=${module%.ll}
+    mkdir -p "${module%/*}" &&
+        printf '%s\n' -O2 -fPIC --no-default-config -fno-asynchronous-unwind-tables -x ir >"$module.words" &&
+        printf '%s\n' 'void *realloc(void *, unsigned long);' 'char *f(char *p, long n) {' 'if (n == 77) n = 1234;' \
+            'p = realloc(p, n);' 'return p ? p + n : 0;' '}' |
+        "$kit/toolchain/bin/clang" "--target=$3" -xc - -O2 -fPIC -fno-asynchronous-unwind-tables -S -emit-llvm -o "$module" &&
+        compile_module "$3" "$module" -fno-addrsig -fno-verbose-asm -S | write_text "$3" >"$top/dist/$1" &&
+        compile_module "$3" "$module" -c >"$room/object.o" || return
+    case $object in
+    *.a) rm -f "$object" && ar rc "$object" "$room/object.o" ;;
+    *) cp "$room/object.o" "$object" ;;
+    esac
+}
+
+# Makes what is compiled from the module of another file.
+port() {
+    { echo "/* planted */" && write_port "$1" "$top/$(name_module "$2")" "$3"; } >"$top/dist/$1"
 }
 
 # Runs dist/check of the copy. Holds it to a status, and to the files and crates that it names, and no others.
@@ -127,11 +154,22 @@ refuse_lost() {
         mv "$room/lost" "$top/dist/$1" && cp "$room/SUMS" "$top/dist/SUMS"
 }
 
-# An object that is not there, and one that is older than the sources, are not compared with.
+# An object that is not there, and one that is older than the sources, are not compared with, nor is a lost module.
 skip_objects() {
     local lost=$top/crates/h3_qpack_c/out/aarch64-elf older=$top/crates/qpk_program/out/qpk-x86_64-elf
-    mv "$lost" "$room/object" && touch -d 2000-01-01 "$older" && expect 2 aarch64-elf.s qpk-x86_64-elf.s &&
-        mv "$room/object" "$lost" && touch "$older"
+    local module=$top/crates/h3_qpack_c/out/libh3_qpack_c.a.ll
+    mv "$lost" "$room/object" && mv "$module" "$room/module" && touch -d 2000-01-01 "$older" &&
+        expect 2 aarch64-elf.s qpk-x86_64-elf.s x86_64-coff.s x86_64-macho.s &&
+        mv "$room/object" "$lost" && mv "$room/module" "$module" && touch "$older"
+}
+
+# Another register or number in each file for another target, a call that leads elsewhere in the one for COFF.
+refuse_ports() {
+    plant dist/x86_64-coff.s '0,/callq\trealloc/s/callq\trealloc/callq\tmalloc/' &&
+        plant dist/aarch64-macho.s '0,/_realloc/s/_realloc/_malloc/' &&
+        plant dist/x86_64-macho.s '0,/_realloc/s/_realloc/_malloc/' &&
+        plant dist/riscv64-elf.s '0,/realloc/s/realloc/malloc/' &&
+        plant dist/aarch64-android-elf.s '0,/x0/s/x0/x1/' && expect 1 $ports && put_back
 }
 
 # Without the kit, and with another, no file that the kit made is compared.
@@ -150,17 +188,19 @@ fi
 kit_here=$(rt version)
 texts=$(list_texts | cut -d ' ' -f 1)
 heaps=$(list_made | grep '^heap-')
+ports=$(list_ports | cut -d ' ' -f 1)
 copies='LICENSE h3_qpack.c h3_qpack.h roundtrip.c'
 try "copy dist/ and its sources" copy_tree && try "make the copy equal" make_equal && try "nothing differs" expect 0 ||
     { tell_count; exit 1; }
 cp "$top/dist/SUMS" "$room/SUMS"
 # A fault that is not found stays, and the tests after it would fail for it: the first one ends the script.
 try "another constant in each file of assembly" refuse_constants $texts &&
+    try "another call in each file for another target" refuse_ports &&
     try "a blank in each other file" refuse_blanks $heaps $copies &&
     try "another body in heap.c" refuse dist/heap.c 's/malloc(len ? len : align)/malloc(len)/' $heaps &&
     try "os.c that is not there, and heap.c without a sum" refuse_lost os.c heap.c &&
     try "objects that are not there, or older" skip_objects &&
     try "no kit, and another kit" skip_made &&
     try "a comment in a source of both crates" refuse crates/qpack_base/src/bytes.rt '$a // planted' \
-        h3_qpack_c qpk_program $texts
+        h3_qpack_c qpk_program $texts $ports
 tell_count

@@ -146,7 +146,7 @@ refuse_by_meson() {
     refuse_setup "$1" meson setup "$dist" "$room/meson.refused.$RANDOM" --native-file "$room/native" "${@:2}"
 }
 
-bits='no assembly for .* with pointers of 32 bits .* compile for Linux on x86_64 or aarch64, with 64 bits'
+bits='no assembly for .* with pointers of 32 bits .* compile for 64 bits, for a system and a processor'
 static='no shared library can be linked with -static: '
 if has cc make; then
     try "make check in a copy of dist/ alone" check_alone

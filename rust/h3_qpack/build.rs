@@ -15,9 +15,6 @@ const PREFIX: &str = "h3_qpack_rs_";
 /// How the names begin that a linker sees: the exports, and the functions for memory.
 const NAMES: [&str; 2] = ["h3q_", "rattle_"];
 
-/// The files of the folder `generated`.
-const ASSEMBLY: [&str; 4] = ["x86_64-elf.s", "heap-x86_64-elf.s", "aarch64-elf.s", "heap-aarch64-elf.s"];
-
 fn main() {
     println!("cargo:rerun-if-env-changed=H3_QPACK_LIB");
     let prefix = match env::var_os("H3_QPACK_LIB") {
@@ -26,7 +23,11 @@ fn main() {
             ""
         }
         None => {
-            ASSEMBLY.iter().for_each(|name| write_prefixed(name));
+            if let Some(text) = choose_text() {
+                write_prefixed(&format!("{text}.s"), "library.s");
+                write_prefixed(&format!("heap-{text}.s"), "heap.s");
+                println!("cargo:rustc-cfg=h3_qpack_assembly");
+            }
             PREFIX
         }
     };
@@ -38,15 +39,39 @@ fn out_folder() -> PathBuf {
     PathBuf::from(env::var_os("OUT_DIR").expect("cargo sets OUT_DIR"))
 }
 
-/// Writes a file of assembly with the prefix to the folder of the build.
-fn write_prefixed(name: &str) {
+/// Returns a word of cargo about the target.
+fn target(word: &str) -> String {
+    env::var(format!("CARGO_CFG_TARGET_{word}")).unwrap_or_default()
+}
+
+/// Returns the name of the text of assembly for the target, as `dist/processor` has it.
+fn choose_text() -> Option<&'static str> {
+    if target("POINTER_WIDTH") != "64" || target("ENDIAN") != "little" {
+        return None;
+    }
+    match (target("ARCH").as_str(), target("OS").as_str()) {
+        ("x86_64", "linux" | "freebsd" | "netbsd" | "openbsd" | "dragonfly" | "illumos" | "solaris" | "android") => {
+            Some("x86_64-elf")
+        }
+        ("x86_64", "windows") => Some("x86_64-coff"),
+        ("x86_64", "macos") => Some("x86_64-macho"),
+        ("aarch64", "linux" | "freebsd" | "netbsd" | "openbsd") => Some("aarch64-elf"),
+        ("aarch64", "android") => Some("aarch64-android-elf"),
+        ("aarch64", "macos") => Some("aarch64-macho"),
+        ("riscv64", "linux") => Some("riscv64-elf"),
+        _ => None,
+    }
+}
+
+/// Writes a file of assembly with the prefix to the folder of the build, under a name of its own.
+fn write_prefixed(name: &str, own: &str) {
     let source = Path::new("generated").join(name);
     println!("cargo:rerun-if-changed={}", source.display());
     let mut text = std::fs::read_to_string(&source).expect("the crate has its assembly");
     for begin in NAMES {
         text = text.replace(begin, &format!("{PREFIX}{begin}"));
     }
-    std::fs::write(out_folder().join(name), text).expect("OUT_DIR can be written");
+    std::fs::write(out_folder().join(own), text).expect("OUT_DIR can be written");
 }
 
 /// Returns the archive of a path that is its own or its folder's. Ends the build if there is none.

@@ -22,7 +22,7 @@
 #![deny(missing_docs)]
 #![deny(unsafe_op_in_unsafe_fn)]
 #![deny(unsafe_code)]
-// `h3_qpack_archive` is of build.rs. Before Rust 1.80 it can't be declared without a warning.
+// `h3_qpack_archive` and `h3_qpack_assembly` are of build.rs. Before Rust 1.80 they can't be declared without a warning.
 #![allow(unknown_lints, unexpected_cfgs)]
 
 pub mod connection;

@@ -138,10 +138,20 @@ struct Handle {
 }
 
 /// Declares exports. build.rs puts a prefix before the names of those that the crate includes as assembly, so that a
-/// program can link the library in C too.
+/// program can link the library in C too. On Windows they are called as on the other systems of the processor, for they
+/// are the same assembly.
 macro_rules! declare {
-    ($(fn $name:ident($($argument:ident: $kind:ty),* $(,)?) $(-> $result:ty)?;)*) => {
-        extern "C" {
+    ($($declarations:tt)*) => {
+        #[cfg(not(windows))]
+        declare_as! { "C" $($declarations)* }
+        #[cfg(windows)]
+        declare_as! { "sysv64" $($declarations)* }
+    };
+}
+
+macro_rules! declare_as {
+    ($abi:literal $(fn $name:ident($($argument:ident: $kind:ty),* $(,)?) $(-> $result:ty)?;)*) => {
+        extern $abi {
             $(
                 #[link_name = concat!(env!("H3_QPACK_PREFIX"), stringify!($name))]
                 fn $name($($argument: $kind),*) $(-> $result)?;
