@@ -113,7 +113,7 @@ def compare_parts(questions, said):
 
 def without_answers(said):
     """Returns what rt try printed, without the answers."""
-    return re.sub(r"^== \w+\n.*?^asked: .* calls$", "", said, flags=re.M | re.S)
+    return re.sub(r"^== \w+\n(?:(?!== \w+$).*\n)*?asked: .* calls$", "", said, flags=re.M)
 
 
 def to_field(name, value):

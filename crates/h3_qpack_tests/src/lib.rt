@@ -1,9 +1,10 @@
-//! Cases of h3's names: the dynamic table, the encoder and the decoder over one, sections without a table, and lists of
-//! at most two bytes, in the format of `qpack_testing::cases`.
+//! Cases of h3's names: the dynamic table and its indexes, the encoder and the decoder over one, sections without a
+//! table, and lists of at most two bytes, in the format of `qpack_testing::cases`.
 #![tactic(auto)]
 
 mod decoder;
 mod encoder;
+mod positions;
 mod repeated;
 mod short_lists;
 mod stateless;
@@ -14,13 +15,15 @@ use anyhow::Result;
 use decoder::H3Decoder;
 use encoder::H3Encoder;
 use h3_qpack::dynamic::{Index, NoIndex};
+use positions::Positions;
 use qpack_testing::cases::{Kinds, Run, answer_calls, hold, hold_files};
 use short_lists::ShortLists;
 use stateless::Stateless;
 use table::{Received, Table};
 
 /// The files of cases.
-const FILES: [&str; 7] = [
+const FILES: [&str; 8] = [
+    "positions.txt",
     "tables.txt",
     "h3_encoder.txt",
     "h3_decoder.txt",
@@ -36,6 +39,7 @@ struct Names;
 impl Kinds for Names {
     fn hold_kind(kind: &str, run: &mut Run<'_>) {
         match kind {
+            "positions" => hold::<Positions>(run),
             "table" => hold::<Table>(run),
             "received-table" => hold::<Received>(run),
             "h3-encoder" => hold::<H3Encoder>(run),

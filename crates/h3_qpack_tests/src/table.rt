@@ -183,9 +183,12 @@ impl Table {
     /// Makes a call, whether or not memory is refused.
     fn make_any(&mut self, word: &str, call: &mut Call<'_>) {
         match word {
-            "finds" | "inserts" | "block" => self.show_given_up(word, call),
+            "finds" | "finds-name" | "inserts" | "block" => self.show_given_up(word, call),
             "sends-found" | "sends-inserted" => self.show_sent(word, call),
-            "limits" | "sends-nothing" | "receives" | "acknowledges" | "cancels" => {
+            "commits" => self.show_committed(call),
+            "blocked" => call.show(&self.table.blocked_blocks()),
+            "unacknowledged" => call.show(&self.table.unacknowledged_blocks()),
+            "limits" | "receives" | "acknowledges" | "cancels" => {
                 let done = call_with_number(&mut self.table, word, call.count());
                 call.show_done(&done);
             }
@@ -212,13 +215,25 @@ impl Table {
         call.say(" requires ");
         call.show_value(&sent);
     }
+
+    /// Appends the base of a block, and how it inserts each of some fields. The block is sent on a stream then, with a
+    /// required insert count that need not be its own.
+    fn show_committed(&mut self, call: &mut Call<'_>) {
+        let (stream, required) = (call.number(), call.count());
+        let fields = call.headers();
+        let mut block = self.table.encoder(stream);
+        call.say_number("base ", block.base());
+        show_insertions(call, &mut block, &fields);
+        let done = block.commit(required);
+        call.say("; ");
+        call.show_done(&done);
+    }
 }
 
 /// Makes a call with a number, which changes what the table knows of the decoder, or allows it.
 fn call_with_number(table: &mut DynamicTable, word: &str, number: usize) -> Result<(), Error> {
     match word {
         "limits" => table.set_max_blocked(number),
-        "sends-nothing" => table.encoder(number as u64).commit(0),
         "acknowledges" => table.untrack_block(number as u64),
         "receives" => {
             table.update_largest_received(number);
@@ -242,12 +257,11 @@ fn show_block(
         show_whole_block(call, block, fields);
         return;
     }
-    let finds = matches!(word, "finds" | "sends-found");
     for field in fields {
-        if finds {
-            call.show_value(&block.find(field));
-        } else {
-            call.show_value(&block.insert(field));
+        match word {
+            "finds" | "sends-found" => call.show_value(&block.find(field)),
+            "finds-name" => call.show_value(&block.find_line_name(&field.as_line())),
+            _ => call.show_value(&block.insert(field)),
         }
     }
 }
@@ -265,10 +279,19 @@ fn show_whole_block(
         call.say("; ");
         call.show_value(&block.find(first));
     }
+    show_insertions(call, block, fields);
+    call.say_number("; ", block.total_inserted());
+    call.say(" inserted");
+}
+
+/// Appends how a block inserts each of some fields.
+fn show_insertions(
+    call: &mut Call<'_>,
+    block: &mut DynamicTableEncoder<'_>,
+    fields: &[HeaderField],
+) {
     for field in fields {
         call.say("; ");
         call.show_value(&block.insert(field));
     }
-    call.say_number("; ", block.total_inserted());
-    call.say(" inserted");
 }

@@ -44,7 +44,7 @@ fn make(word: &str, call: &mut Call<'_>) {
             let index = call.count();
             show_result(call, &StaticTable::get(index));
         }
-        "compares" | "finds" | "changes" | "shows" => fields::make(word, call),
+        "compares" | "alters" | "finds" | "changes" | "shows" => fields::make(word, call),
         "windows" => show_windows(call),
         "unreturned" => show_unreturned(call),
         _ => reading::make(word, call),

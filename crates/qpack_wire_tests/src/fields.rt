@@ -21,6 +21,7 @@ pub(crate) fn make(word: &str, call: &mut Call<'_>) {
 fn make_for(word: &str, call: &mut Call<'_>, field: &HeaderField, others: &[HeaderField]) {
     match word {
         "compares" => show_comparison(call, field, others.first().unwrap_or(field)),
+        "alters" => show_altered(call, field, others.first().unwrap_or(field)),
         "finds" => show_found(call, field),
         "changes" => show_changed(call, field),
         _ => show_field(call, field),
@@ -59,15 +60,15 @@ fn show_changed(call: &mut Call<'_>, field: &HeaderField) {
     let index = StaticTable::find_name(field.name.as_slice());
     call.holds(index.is_some(), "no field has the name");
     if let Ok(named) = StaticTable::get(index.unwrap_or(0)) {
-        show_comparison(call, &named, field);
-        show_with_value(call, &named, field.value.as_slice());
+        show_altered(call, &named, field);
     }
 }
 
-/// Appends a field with another value.
-fn show_with_value(call: &mut Call<'_>, named: &HeaderField, value: &[u8]) {
-    let value = call.copy(value);
-    match named.with_value(value) {
+/// Appends how a field compares with another, and what it is with the value of that one.
+fn show_altered(call: &mut Call<'_>, field: &HeaderField, other: &HeaderField) {
+    show_comparison(call, field, other);
+    let value = call.copy(other.value.as_slice());
+    match field.with_value(value) {
         Ok(changed) => show_parts(call, changed),
         Err(_) => call.lack_memory(),
     }
