@@ -185,7 +185,7 @@ abbrev pub WritesReply : Reply → Option (List ℕ) → Option (List ℕ) → B
 WritesReply (Whole a) old new found = WritesWhole a old new found
 WritesReply (Shown showing) old new found = AppendsSome old new
 
--- why writing a whole output ended: a part of it was written, or all, and then the refusal in it is told
+-- why writing a whole output ended: a part of it was written, or all, and then the refusal in it is reported
 abbrev pub StopsWhole : Command → Output → Option (List ℕ) → Option (List ℕ) → Refusal → Type 0
 StopsWhole command whole old new r =
     (IsUnwritten command r × AppendsPart old new whole.bytes.items)

@@ -24,7 +24,7 @@ pub enum Refusal {
     Input,
     /// The output could not be written.
     Output,
-    /// Nobody reads the output any more, as behind `| head`: nothing is told of it.
+    /// Nobody reads the output any more, as behind `| head`: nothing is printed for it.
     Unread,
     /// The input has a fault, or no memory was left.
     Fault(Fault),
