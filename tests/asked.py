@@ -7,7 +7,7 @@ The answer that is expected is a text, a pattern, or None where any will do.
 import re
 import subprocess
 import sys
-from dataclasses import dataclass, field
+from dataclasses import dataclass, field, replace
 from pathlib import Path
 
 REFUSALS = (b"qpk: refused: memory\n", b"qpk: refused: output\n")
@@ -46,10 +46,10 @@ class Question:
 
     def compare_refused(self, answers):
         """Does what `compare` does where one allocation was refused: one answer may tell that."""
-        for number, ((_, expected), answer) in enumerate(zip(self.calls, answers)):
+        for number, ((call, expected), answer) in enumerate(zip(self.calls, answers)):
             if not is_expected(expected, answer) and tells_refusal(answer, expected):
-                answers = [*answers[:number], expected, *answers[number + 1 :]]
-                break
+                calls = [*self.calls[:number], (call, None), *self.calls[number + 1 :]]
+                return replace(self, calls=calls).compare(answers)
         return self.compare(answers)
 
     def compare(self, answers):
