@@ -196,6 +196,27 @@ def test_the_end_of_the_reader():
             assert run("sh", "-c", command)[2] == status, color
 
 
+def test_a_long_recording():
+    """show and check take a time that is linear in their input, and at most three times its memory, which is more than
+    this process has: the program's own counts from there."""
+    line = "b 4 0000d1d7c1510b2f61626364656667686970\n"
+    (ROOM / "short").write_text(line * 125_000, encoding="ascii")
+    (ROOM / "long").write_text(line * 500_000, encoding="ascii")
+    for word in ("show", "check"):
+        seconds, _ = cost_of(word, ROOM / "short")
+        more, memory = cost_of(word, ROOM / "long")
+        assert more <= 6 * seconds + 0.02 and memory <= 3 * (ROOM / "long").stat().st_size, (word, seconds, more, memory)
+
+
+def cost_of(word, path):
+    """Returns the seconds and the bytes of memory that the program took for a file."""
+    with open(path, "rb") as file, subprocess.Popen([PROGRAM, word], stdin=file, stdout=subprocess.DEVNULL) as running:
+        _, status, used = os.wait4(running.pid, 0)
+        running.returncode = os.WEXITSTATUS(status)
+    assert running.returncode == 0
+    return used.ru_utime + used.ru_stime, used.ru_maxrss * 1024
+
+
 def test_recordings_of_the_interop():
     """A recording of bytes is read as one, even if it begins as a trace does."""
     recording = b"\x1e" + bytes(7) + (3).to_bytes(4, "big") + b"\x00\x00\xd1"
