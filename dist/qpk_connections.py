@@ -5,10 +5,11 @@ from typing import Dict, List, NamedTuple, Set, Tuple
 from qpk_datagrams import Address, Datagram
 from qpk_keys import VERSION_1, KeyLog, Keys, Opened, Version, initial_secrets, keys_of
 from qpk_libcrypto import AES_128
+from qpk_lines import PEER
 from qpk_quic import ACK, CLOSE_BY_APPLICATION, CRYPTO, NEW_CONNECTION_ID, RESET_STREAM, STREAM
 from qpk_quic import Frame, Numbers, read_frames
 from qpk_streams import SourceError, Stream, Streams
-from qpk_verdict import PEER, SeenOfEnd
+from qpk_verdict import SeenOfEnd
 
 MOST_FAULTS = 8  # of a connection that are told
 QPACK_ERRORS = (0x200, 0x201, 0x202)  # RFC 9204, section 6

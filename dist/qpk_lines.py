@@ -12,7 +12,10 @@ GZIP, XZ, ZSTD = (bytes.fromhex(it) for it in ("1f8b08", "fd377a58", "28b52ffd")
 PLAIN_CAPTURES = tuple(bytes.fromhex(it) for it in ("0a0d0d0a", "d4c3b2a1", "a1b2c3d4", "4d3cb2a1", "a1b23c4d"))
 # What a file begins with that qpk-capture reads, if it is no trace. dist/qpk-front has the same list.
 CAPTURES = (*PLAIN_CAPTURES, GZIP, XZ, ZSTD)
+# The marks of lines: the ends that they stand for, the mark of each, and that of the other end.
 ENDS = {">": "client", "<": "server", "": ""}
+MARKS = {end: mark for mark, end in ENDS.items()}
+PEER = {">": "<", "<": ">", "": ""}
 # A time; a mark, which the kind may follow at once; the kind; of a section its stream; and words of hexadecimal.
 LINE = re.compile(r"\s*(?:@\S*\s+)?(?:([<>])\s*)?([edb])(?:(?<=b)\s+\S+)?(?!\S)(.*)")
 

@@ -4,12 +4,12 @@ import json
 from typing import Any, Dict, Iterator, List, NamedTuple, Tuple
 from urllib.parse import unquote
 
+from qpk_lines import ENDS
 from qpk_main import printable
 from qpk_streams import SourceError, to_bytes
 
 ESCAPED = "%ESCAPED:\u200b "  # before a line of a net log whose bytes above ASCII are written as in addresses
 MOST_LISTS = 1 << 20  # that are kept; others are left out
-ENDS = {">": "client", "<": "server"}
 
 
 class HeaderList(NamedTuple):

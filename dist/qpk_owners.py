@@ -4,8 +4,8 @@ from typing import Dict, Iterator, List, Optional, Tuple
 
 from qpk_connections import Pair, QuicConnection
 from qpk_datagrams import Address, Datagram
+from qpk_lines import PEER
 from qpk_quic import LONGEST_ID
-from qpk_verdict import PEER
 
 MOST_IDS = 1 << 16  # connection IDs that are kept of a capture
 MOST_PAIRS = 1 << 16  # pairs of addresses whose connection is kept

@@ -18,6 +18,7 @@ from collections import Counter
 from dataclasses import dataclass, field
 from typing import Dict, Iterator, List, Optional, Set, Tuple
 
+from qpk_lines import PEER
 from qpk_lists import MOST_LISTS, HeaderList, OnlyLists, fields_of_lines
 from qpk_streams import BLOCKED_STREAMS, HEADERS, MAX_TABLE_CAPACITY, PUSH_PROMISE, SETTINGS
 from qpk_streams import Connection, NotWhole, SourceError, Streams, read_integer
@@ -203,7 +204,7 @@ class Reader:
 
     def peer(self) -> str:
         """Returns the mark of the other end."""
-        return "<" if self.own == ">" else ">"
+        return PEER[self.own]
 
     def add(self, event: Event, mark: str, source: str, words: str, data: Optional[bytes]) -> None:
         """Adds a line with bytes, or counts an event that has none."""
@@ -320,11 +321,6 @@ def mark_of(trace: dict) -> str:
     point = trace.get("vantage_point", {})
     point = point if isinstance(point, dict) else {"type": point}
     return "<" if "server" in (point.get("type"), point.get("flow")) else ">"
-
-
-def connections_of(text: str) -> List[Connection]:
-    """Returns the connections of a file of traces."""
-    return connections_of_records(read_records(text))
 
 
 def connections_of_records(records: List[dict]) -> List[Connection]:

@@ -40,11 +40,6 @@ def is_long(data: bytes, begin: int) -> bool:
     return data[begin] & 0x80 != 0
 
 
-def version_of(data: bytes) -> Optional[int]:
-    """Returns the version that a datagram names, if it begins with a long header."""
-    return int.from_bytes(data[1:5], "big") if len(data) >= 7 and is_long(data, 0) else None
-
-
 def read_long_header(data: bytes, begin: int) -> Optional[LongHeader]:
     """Returns the long header at an offset, or nothing if it is of another version or is cut."""
     version = VERSIONS.get(int.from_bytes(data[begin + 1 : begin + 5], "big"))

@@ -11,11 +11,12 @@ from qpk_connections import Kept, Pair, QuicConnection
 from qpk_datagrams import Datagram, text_of
 from qpk_keys import EARLY, INITIAL, RETRY, SHORTEST, VERSIONS, KeyLog, Keys, Opened, initial_secrets
 from qpk_libcrypto import AES_128
+from qpk_lines import PEER
 from qpk_owners import Owner, Owners
 from qpk_quic import FIXED_BIT, LongHeader, is_long, read_long_header
 from qpk_strangers import ENOUGH, Found, Room, Strangers
 from qpk_streams import Connection
-from qpk_verdict import PEER, Seen
+from qpk_verdict import Seen
 
 MOST_CONNECTIONS = 1 << 12  # that are read; Initial packets of more are left out
 LEAST_SEGMENT, MOST_SEGMENT = 1200, 1500  # bytes of a datagram of those that were captured as one

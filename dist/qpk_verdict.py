@@ -8,10 +8,10 @@ import json
 import re
 from typing import Any, Dict, Iterable, Iterator, List, NamedTuple, Optional, Tuple
 
+from qpk_lines import ENDS, MARKS, PEER
+
 FOUND, PERHAPS = 1, 4  # statuses of check
 MOST_NAMED = 8  # ranges of packet numbers that are named of an end; the others are counted
-ENDS = {">": "client", "<": "server"}
-PEER = {">": "<", "<": ">", "": ""}
 # A finding as qpk check prints it: who, what it is about, what is wrong, and the section.
 FINDING = re.compile(
     r"line (\d+): (?:\S+ (?=[<>] ))?(?:([<>]) )?(encoder|decoder|section|record)\b[^:]*: (.*) \[RFC 9204, section ([\d.]+)"
@@ -150,7 +150,7 @@ class Marker:
         it = json.loads(line)
         if "fault" not in it:
             return None
-        mark = {"client": ">", "server": "<"}.get(it.get("from", ""), "")
+        mark = MARKS.get(it.get("from", ""), "")
         subject = next((name for name in ("encoder", "decoder", "section") if name in it), "record")
         return int(it["line"]), mark, subject, str(it["fault"]), str(it.get("rfc9204", ""))
 

@@ -433,7 +433,7 @@ def test_forms_of_a_file():
     files = [pcap(packets, order=order, is_nano=is_nano) for order in "<>" for is_nano in (True, False)]
     files += [pcapng(packets, order=order, resolution=it) for order in "<>" for it in (3, 6, 9)]
     files.append(pcapng(packets[:40]) + pcapng(packets[40:], order=">"))
-    files += [gzip.compress(files[0]), lzma.compress(files[1]), gzip.compress(files[5]) + b""]
+    files += [gzip.compress(files[0]), lzma.compress(files[1]), gzip.compress(files[5])]
     half = len(files[0]) // 2
     files.append(gzip.compress(files[0][:half]) + gzip.compress(files[0][half:]))
     expected = assert_whole(connection).lines
@@ -492,7 +492,6 @@ def test_links():
         (276, b"\x08\x00" + bytes(18)),
     ):
         assert_whole(connection, pcapng([(when, head + it) for when, it in plain], link), keys=keys)
-    connection.ends = {">": (b"\x20\x01" + bytes(13) + b"\1", 50000), "<": (b"\x20\x01" + bytes(13) + b"\2", 443)}
     connection = Made()
     connection.ends = {">": (b"\x20\x01" + bytes(13) + b"\1", 50000), "<": (b"\x20\x01" + bytes(13) + b"\2", 443)}
     found = assert_whole(connection.begin().take(LINES))

@@ -254,7 +254,7 @@ def test_limits_come_once():
 
     def read(size):
         trace = json.dumps({"traces": [{"events": sections * size + limits * size}]})
-        (connection,) = qpk_qlog.connections_of(trace)
+        (connection,) = qpk_qlog.connections_of_records(qpk_qlog.read_records(trace))
         assert [it for it in connection.lines if " s " in it] == ["@0.000000 < s 1 0"]
 
     assert_linear(read, 1000)
