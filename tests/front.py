@@ -18,7 +18,7 @@ import tempfile
 import time
 from pathlib import Path
 
-from running import TOP, answers_at_once, can_decrypt, install, missing_tool, run_tests, shows_no_fault_of_a_script
+from running import TOP, answers_at_once, can_decrypt, cost_of, install, missing_tool, run_tests, shows_no_fault_of_a_script
 
 FOLDER = tempfile.TemporaryDirectory(prefix="h3-qpack-front-")  # which ends with the script
 ROOM = Path(FOLDER.name)
@@ -203,18 +203,11 @@ def test_a_long_recording():
     (ROOM / "short").write_text(line * 125_000, encoding="ascii")
     (ROOM / "long").write_text(line * 500_000, encoding="ascii")
     for word in ("show", "check"):
-        seconds, _ = cost_of(word, ROOM / "short")
-        more, memory = cost_of(word, ROOM / "long")
-        assert more <= 6 * seconds + 0.02 and memory <= 3 * (ROOM / "long").stat().st_size, (word, seconds, more, memory)
-
-
-def cost_of(word, path):
-    """Returns the seconds and the bytes of memory that the program took for a file."""
-    with open(path, "rb") as file, subprocess.Popen([PROGRAM, word], stdin=file, stdout=subprocess.DEVNULL) as running:
-        _, status, used = os.wait4(running.pid, 0)
-        running.returncode = os.WEXITSTATUS(status)
-    assert running.returncode == 0
-    return used.ru_utime + used.ru_stime, used.ru_maxrss * 1024
+        with open(ROOM / "short", "rb") as short, open(ROOM / "long", "rb") as long:
+            seconds, _ = cost_of([PROGRAM, word], short, subprocess.DEVNULL)
+            more, memory = cost_of([PROGRAM, word], long, subprocess.DEVNULL)
+        most = 3 * (ROOM / "long").stat().st_size // 1024
+        assert more <= 6 * seconds + 0.02 and memory <= most, (word, seconds, more, memory)
 
 
 def test_recordings_of_the_interop():

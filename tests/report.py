@@ -17,7 +17,7 @@ import sys
 import tempfile
 from pathlib import Path
 
-from running import FORMED, PLAIN, TOP, assert_linear, can_decrypt, run_tests, shows_no_fault_of_a_script
+from running import FORMED, PLAIN, TOP, assert_linear, can_decrypt, cost_of, run_tests, shows_no_fault_of_a_script
 
 sys.dont_write_bytecode = True
 sys.path.insert(0, str(TOP / "dist"))
@@ -218,29 +218,26 @@ def test_instructions_before_lists():
     assert bars == [[2, 2, 3, 10], [3, 3, 2, 0], [5, 5, 3, 1], [6, 6, 3, 0], [8, 8, 2, 7]], bars
 
 
-def cost_of(*words, text):
+def cost_of_report(*words, text):
     """Returns the seconds and the KB of memory that the script and what it started took, and its output."""
     with tempfile.TemporaryFile() as recording, tempfile.TemporaryFile() as output:
         recording.write(text.encode())
         recording.seek(0)
         command = [sys.executable, str(TOP / "dist" / "qpk-report"), *words, "-"]
-        with subprocess.Popen(command, stdin=recording, stdout=output, env={**os.environ, "QPK": QPK}) as running:
-            _, status, used = os.wait4(running.pid, 0)
-            running.returncode = os.WEXITSTATUS(status)
-        assert running.returncode == 0
+        seconds, memory = cost_of(command, recording, output, env={**os.environ, "QPK": QPK})
         output.seek(0)
-        return used.ru_utime + used.ru_stime, used.ru_maxrss, output.read().decode()
+        return seconds, memory, output.read().decode()
 
 
 def test_large_recordings():
     """Four times the sections take at most six times the time, and no more than 150 MB. The numbers are those of all."""
     beginning, sections = "e 3fe11f6294e7838c767f\n", 40_000
     small, large = ("".join(f"b {4 * it} 028010d1d7c1\n" for it in range(size)) for size in (sections // 4, sections))
-    seconds, _, _ = cost_of("stats", "--json", text=beginning + small)
-    more, memory, output = cost_of("stats", "--json", text=beginning + large)
+    seconds, _, _ = cost_of_report("stats", "--json", text=beginning + small)
+    more, memory, output = cost_of_report("stats", "--json", text=beginning + large)
     assert more <= 6 * seconds and memory <= 150_000, (seconds, more, memory)
     check(json.loads(output), sections=sections, fields=4 * sections, insertions=1, section_bytes=6 * sections)
-    _, memory, output = cost_of("report", text=beginning + large)
+    _, memory, output = cost_of_report("report", text=beginning + large)
     assert memory <= 150_000, memory
     connection = data_of(output)["connections"][0]
     shown, (direction,) = connection["events"], connection["directions"]

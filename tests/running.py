@@ -1,4 +1,5 @@
 """Runs the functions of a script whose names begin with test_, and has what several try: qpk, and a recording."""
+import os
 import re
 import shutil
 import subprocess
@@ -44,6 +45,16 @@ def attempt(test):
         return ""
     except Exception:  # pylint: disable=broad-except # a test may fail in any way
         return f"{test.__name__}:\n{traceback.format_exc()}"
+
+
+def cost_of(command, file, output, **options):
+    """Returns the seconds and the KB of memory that a command took, which reads a file and writes to another. Memory counts
+    from what this process has."""
+    with subprocess.Popen(command, stdin=file, stdout=output, **options) as running:
+        _, status, used = os.wait4(running.pid, 0)
+        running.returncode = os.WEXITSTATUS(status)
+    assert running.returncode == 0, command
+    return used.ru_utime + used.ru_stime, used.ru_maxrss
 
 
 def assert_linear(work, size):
