@@ -15,6 +15,7 @@ use Rattle.qpk.specs.declared.command.Command.{Command}
 use Rattle.qpk.specs.declared.command.Command.TheVariants.{Help, Encode, Decode, DecodeHex, Inspect, Run, Show}
 use Rattle.qpk.specs.declared.command.Command.TheVariants.{DecodeJson, EncodeLists, DecodeRecords, Version, Check}
 use Rattle.qpk.specs.declared.command.Command.TheVariants.{ExplainWords, ExplainInput}
+use Rattle.qpk_view.specs.declared.show.ShowOptions.{ShowOptions}
 use Rattle.qpk.specs.Commands.{KeepsWord, TellsWords, WordsFault}
 use Rattle.qpk.specs.declared.text.Fault.{Fault}
 use Rattle.qpk.specs.declared.text.Fault.TheVariants.{Memory}
@@ -151,42 +152,46 @@ inspected_input (ExplainInput options) input bytes out e is read stops = absurd 
 inspected_input (EncodeLists settings) input bytes out e is read stops = absurd is
 inspected_input (DecodeRecords settings) input bytes out e is read stops = absurd is
 
+-- what holds for each command that shows a connection
+of_show : (P : Command → Type 0) → ((options : ShowOptions) → P (Show options)) → (command : Command) → IsShow command
+    → P command
+of_show P holds (Show options) is = holds options
+of_show P holds (Help topic) is = absurd is
+of_show P holds Version is = absurd is
+of_show P holds Encode is = absurd is
+of_show P holds (Decode limit) is = absurd is
+of_show P holds (DecodeHex limit) is = absurd is
+of_show P holds (DecodeJson limit) is = absurd is
+of_show P holds (Inspect capacity) is = absurd is
+of_show P holds (Run capacity limit) is = absurd is
+of_show P holds (Check options) is = absurd is
+of_show P holds (ExplainWords options) is = absurd is
+of_show P holds (ExplainInput options) is = absurd is
+of_show P holds (EncodeLists settings) is = absurd is
+of_show P holds (DecodeRecords settings) is = absurd is
+
 -- what is shown is answered by whatever was written
+shown_by : (options : ShowOptions) (input old new : Option (List ℕ)) → AppendsSome old new
+    → IfSome input (λ bytes. (out : List ℕ) × Answers (Show options) bytes out × Appends old new out)
+shown_by options None old new wrote = tt
+shown_by options (Some bytes) old new (out, wrote) = (out, tt, wrote)
+
 pub shown_answers : (command : Command) (input old new : Option (List ℕ)) → IsShow command → AppendsSome old new
     → IfSome (input_of command input) (λ bytes. (out : List ℕ) × Answers command bytes out × Appends old new out)
-shown_answers (Show options) None old new is wrote = tt
-shown_answers (Show options) (Some bytes) old new is (out, wrote) = (out, tt, wrote)
-shown_answers (Help topic) input old new is wrote = absurd is
-shown_answers Version input old new is wrote = absurd is
-shown_answers Encode input old new is wrote = absurd is
-shown_answers (Decode limit) input old new is wrote = absurd is
-shown_answers (DecodeHex limit) input old new is wrote = absurd is
-shown_answers (DecodeJson limit) input old new is wrote = absurd is
-shown_answers (Inspect capacity) input old new is wrote = absurd is
-shown_answers (Run capacity limit) input old new is wrote = absurd is
-shown_answers (Check options) input old new is wrote = absurd is
-shown_answers (ExplainWords options) input old new is wrote = absurd is
-shown_answers (ExplainInput options) input old new is wrote = absurd is
-shown_answers (EncodeLists settings) input old new is wrote = absurd is
-shown_answers (DecodeRecords settings) input old new is wrote = absurd is
+shown_answers command input old new is wrote =
+    of_show
+    (λ c. IfSome (input_of c input) (λ bytes. (out : List ℕ) × Answers c bytes out × Appends old new out))
+    (λ options. shown_by options input old new wrote) command is
+
+part_by : (options : ShowOptions) (input old new : Option (List ℕ)) → AppendsPartOfSome old new
+    → WritesPart (Show options) input old new
+part_by options None old new part = tt
+part_by options (Some bytes) old new (out, part) = (out, None, tt, part)
 
 shown_part : (command : Command) (input old new : Option (List ℕ)) → IsShow command → AppendsPartOfSome old new
     → IsBeyond command × WritesPart command input old new
-shown_part (Show options) None old new is part = (tt, tt)
-shown_part (Show options) (Some bytes) old new is (out, part) = (tt, (out, None, tt, part))
-shown_part (Help topic) input old new is part = absurd is
-shown_part Version input old new is part = absurd is
-shown_part Encode input old new is part = absurd is
-shown_part (Decode limit) input old new is part = absurd is
-shown_part (DecodeHex limit) input old new is part = absurd is
-shown_part (DecodeJson limit) input old new is part = absurd is
-shown_part (Inspect capacity) input old new is part = absurd is
-shown_part (Run capacity limit) input old new is part = absurd is
-shown_part (Check options) input old new is part = absurd is
-shown_part (ExplainWords options) input old new is part = absurd is
-shown_part (ExplainInput options) input old new is part = absurd is
-shown_part (EncodeLists settings) input old new is part = absurd is
-shown_part (DecodeRecords settings) input old new is part = absurd is
+shown_part command input old new is part =
+    of_show (λ c. IsBeyond c × WritesPart c input old new) (λ options. (tt, part_by options input old new part)) command is
 
 -- why showing ended early is why the command did
 pub shown_ends : (command : Command) (input old new : Option (List ℕ)) (r : Refusal) → IsShow command
@@ -264,24 +269,9 @@ reply_ends command input old new bytes (Whole a) r read answers stops =
 reply_ends command input old new bytes (Shown showing) r read answers stops =
     shown_ends command input old new r answers stops
 
-show_may_find : (command : Command) (found : Bool) → IsShow command → MayFind command found
-show_may_find (Show options) found is = tt
-show_may_find (Help topic) found is = absurd is
-show_may_find Version found is = absurd is
-show_may_find Encode found is = absurd is
-show_may_find (Decode limit) found is = absurd is
-show_may_find (DecodeHex limit) found is = absurd is
-show_may_find (DecodeJson limit) found is = absurd is
-show_may_find (Inspect capacity) found is = absurd is
-show_may_find (Run capacity limit) found is = absurd is
-show_may_find (Check options) found is = absurd is
-show_may_find (ExplainWords options) found is = absurd is
-show_may_find (ExplainInput options) found is = absurd is
-show_may_find (EncodeLists settings) found is = absurd is
-show_may_find (DecodeRecords settings) found is = absurd is
-
 -- what is found in an answer may be found in that of the command
 pub reply_may_find : (command : Command) (old new : Option (List ℕ)) (reply : Reply) (found : Bool)
     → MayHaveFound command reply → WritesReply reply old new found → MayFind command found
 reply_may_find command old new (Whole a) found may wrote = subst (MayFind command) (sym wrote.0) may
-reply_may_find command old new (Shown showing) found may wrote = show_may_find command found may
+reply_may_find command old new (Shown showing) found may wrote =
+    of_show (λ c. MayFind c found) (λ options. tt) command may
