@@ -11,6 +11,7 @@ from pathlib import Path
 HEAD = re.compile(r"^( {4})?(?:pub(?:\([^)]*\))? )?fn (\w+)")
 # A trait, if there is one, and a type with its arguments, after the parameters of an impl.
 OWNER = re.compile(r"^ (?:(\w+)(?:<.*?>)? for )?(\w+)(?:<(.*)>)?(?: where .*)?$")
+TYPE = re.compile(r"^(?:pub(?:\([^)]*\))? )?(?:struct|enum) (\w+)", re.M)
 PROOF = """use Rattle.{library}.Statement as stated
 
 pub {name}_spec : {{M : Type 1}} → stated.statement M
@@ -63,7 +64,23 @@ def body_of(lines, at, indent):
     return end and (begin, end)
 
 
-def stub_file(path, module, is_kept):
+def module_of(path, source):
+    """Returns the module of a file below a folder of sources, in parts."""
+    module = path.relative_to(source).with_suffix("").parts
+    return () if module in (("lib",), ("main",)) else module
+
+
+def find_homes(source):
+    """Returns the module of each type of the sources. The prover names a type's own functions by it, wherever their
+    impl stands, if all arguments of the type are parameters of the impl."""
+    homes = {}
+    for path in sorted(source.rglob("*.rt")):
+        for name in TYPE.findall(path.read_text(encoding="utf-8")):
+            homes.setdefault(name, []).append(module_of(path, source))
+    return {name: modules[0] for name, modules in homes.items() if len(modules) == 1}
+
+
+def stub_file(path, module, homes, is_kept):
     """Stubs the functions of a file, which is a module's. Returns the path of each, in parts."""
     lines, after, owner, stubs = path.read_text(encoding="utf-8").split("\n"), [], "", []
     at = 0
@@ -76,7 +93,8 @@ def stub_file(path, module, is_kept):
             owner = ""
         head = HEAD.match(line)
         body = head and bool(head[1]) == bool(owner) and body_of(lines, at, head[1] or "")
-        function = head and [*module, *([owner] if owner else []), head[2]]
+        place = homes.get(owner, module)
+        function = head and [*place, *([owner] if owner else []), head[2]]
         if body and not is_kept(function) and "#[cycle" not in lines[at - 1]:
             stubs.append(function)
             after += [*lines[at : body[0] + 1], f"{head[1] or ''}    loop {{}}"]
@@ -92,10 +110,11 @@ def stub(room, crate, kept):
     """Stubs the functions of a copy of a crate, but for those at whose ends the kept paths are."""
     ends = [it.split("::") for it in kept]
     stubs = []
-    for path in sorted((room / "src").rglob("*.rt")):
-        module = path.relative_to(room / "src").with_suffix("").parts
-        module = () if module in (("lib",), ("main",)) else module
-        stubs += stub_file(path, module, lambda function: any(function[-len(it) :] == it for it in ends))
+    source = room / "src"
+    homes = find_homes(source)
+    for path in sorted(source.rglob("*.rt")):
+        stubs += stub_file(path, module_of(path, source), homes,
+                           lambda function: any(function[-len(it) :] == it for it in ends))
     for function in stubs:
         folder = room / "proofs" / Path(*function)
         shutil.rmtree(folder, ignore_errors=True)

@@ -4,7 +4,7 @@ use crate::repeated::Repeated;
 use crate::table::{show_state, table_of};
 use h3_qpack::HeaderField;
 use h3_qpack::coding::Cursor;
-use h3_qpack::dynamic::Index;
+use h3_qpack::dynamic::SortedIndex;
 use h3_qpack::encoder::{Encoder, EncoderError};
 use linked_list_allocator::LocalHeap;
 use qpack_testing::cases::{Call, Subject};
@@ -32,7 +32,7 @@ fn encoder_of(call: &mut Call<'_>) -> Encoder {
 
 /// Makes an encoder over a table of settings, with a limit of blocked streams.
 fn encoder_over_table(call: &mut Call<'_>, max_blocked: usize) -> Encoder {
-    let mut table = table_of::<Index>(call);
+    let mut table = table_of::<SortedIndex>(call);
     let is_limited = table.set_max_blocked(max_blocked).is_ok();
     call.holds(is_limited, "the limit of blocked streams is refused");
     Encoder::from(table)

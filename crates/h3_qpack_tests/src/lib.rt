@@ -14,7 +14,7 @@ mod table;
 use anyhow::Result;
 use decoder::H3Decoder;
 use encoder::H3Encoder;
-use h3_qpack::dynamic::{Index, NoIndex};
+use h3_qpack::dynamic::{NoIndex, SortedIndex};
 use positions::Positions;
 use qpack_testing::cases::{Kinds, Run, answer_calls, hold, hold_files};
 use short_lists::ShortLists;
@@ -43,7 +43,7 @@ impl Kinds for Names {
             "table" => hold::<Table>(run),
             "received-table" => hold::<Received>(run),
             "h3-encoder" => hold::<H3Encoder>(run),
-            "h3-decoder" => hold::<H3Decoder<Index>>(run),
+            "h3-decoder" => hold::<H3Decoder<SortedIndex>>(run),
             "h3-received-decoder" => hold::<H3Decoder<NoIndex>>(run),
             "stateless" => hold::<Stateless>(run),
             "short-lists" => hold::<ShortLists>(run),

@@ -2,8 +2,9 @@
 
 use h3_qpack::HeaderField;
 use h3_qpack::dynamic::{
-    DynamicTable, DynamicTableEncoder, EntryIndex, Error, Index, NoIndex, ReceivedTable,
+    DynamicTable, DynamicTableEncoder, EntryIndex, Error, NoIndex, ReceivedTable, SortedIndex,
 };
+use h3_qpack::encoder::set_dynamic_table_size;
 use qpack_testing::cases::{Call, Subject};
 use std::alloc::Global;
 
@@ -26,7 +27,7 @@ pub(crate) trait Kind: EntryIndex {
     fn empty(alloc: Global) -> DynamicTable<Self>;
 }
 
-impl Kind for Index {
+impl Kind for SortedIndex {
     fn empty(alloc: Global) -> DynamicTable {
         DynamicTable::new(alloc)
     }
@@ -164,7 +165,7 @@ impl Subject for Received {
 impl Subject for Table {
     fn begin(call: &mut Call<'_>, _size: usize) -> Option<Table> {
         Some(Table {
-            table: table_of::<Index>(call),
+            table: table_of::<SortedIndex>(call),
             lacked_memory: false,
         })
     }
@@ -186,6 +187,7 @@ impl Table {
             "finds" | "finds-name" | "inserts" | "block" => self.show_given_up(word, call),
             "sends-found" | "sends-inserted" => self.show_sent(word, call),
             "commits" => self.show_committed(call),
+            "sets-size" => self.show_size_set(call),
             "blocked" => call.show(&self.table.blocked_blocks()),
             "unacknowledged" => call.show(&self.table.unacknowledged_blocks()),
             "limits" | "receives" | "acknowledges" | "cancels" => {
@@ -227,6 +229,17 @@ impl Table {
         let done = block.commit(required);
         call.say("; ");
         call.show_done(&done);
+    }
+}
+
+impl Table {
+    /// Sets a capacity by its instruction. Appends the bytes that were written too.
+    fn show_size_set(&mut self, call: &mut Call<'_>) {
+        let mut written = Vec::new(call.alloc());
+        let set = set_dynamic_table_size(&mut self.table, &mut written, call.count());
+        call.show_done(&set);
+        call.say("; ");
+        call.show_bytes(&written);
     }
 }
 

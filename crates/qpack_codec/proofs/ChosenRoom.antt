@@ -1,11 +1,11 @@
 -- A block that references an entry under some choices is of a table in which an entry fits, and the instruction of an
 -- insertion fits its room.
-use Rattle.std.proofs.Common.{◌≡◌, ℕ, ◌<◌, ◌≤◌, List, [], length, ap, arith}
+use Rattle.std.proofs.Common.{◌≡◌, ℕ, ◌<◌, ◌≤◌, List, [], ap, arith}
 use Rattle.qpack_spec.specs.Chosen.{Chosen, chosen_fields}
 use Rattle.qpack_spec.specs.Field.{Field, FieldLine, fields_of_lines, total_size}
 use Rattle.qpack_spec.specs.Reading.{greatest_of}
 use Rattle.qpack_spec.specs.Rule.{Draft}
-use Rattle.qpack_spec.specs.Table.{Table, fields_in, with_reference, with_entry}
+use Rattle.qpack_spec.specs.Table.{Table, fields_in}
 use Rattle.qpack_spec.proofs.ChosenSteps.{IsKept, every_kept, kept_chosen_fields}
 use Rattle.qpack_spec.proofs.Drafts.{room}
 use Rattle.qpack_table.proofs.Greatest.{greatest_none}

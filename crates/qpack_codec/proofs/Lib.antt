@@ -26,3 +26,4 @@ pub mod InstructionsRoom
 pub mod ReferencedRoom
 pub mod DraftedBlocks
 pub mod Streams
+pub mod Pieces

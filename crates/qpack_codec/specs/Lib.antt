@@ -10,6 +10,7 @@ pub mod Sections
 pub mod Taking
 pub mod Receiving
 pub mod Hearing
+pub mod Pieces
 pub mod Encoding
 pub mod Choices
 pub mod ChoosesAlong

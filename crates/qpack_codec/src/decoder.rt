@@ -16,7 +16,7 @@ use crate::decoder::instructions::take_instructions;
 use crate::decoder::sections::read_section;
 use qpack_base::coding::{Cursor, NoMemory};
 use qpack_base::field::HeaderField;
-use qpack_table::dynamic::{DynamicTable, EntryIndex, Index};
+use qpack_table::dynamic::{DynamicTable, EntryIndex, SortedIndex};
 use qpack_wire::stream::{HeaderAck, StreamCancel};
 use std::alloc::Allocator;
 use std::marker::Model;
@@ -43,7 +43,7 @@ pub struct Decoded {
 /// ([`ReceivedTable`](crate::dynamic::ReceivedTable)). It asks for entries by their places alone, and receives faster
 /// over a table without one.
 #[derive(Debug, Drop)]
-pub struct Decoder<I: EntryIndex = Index> {
+pub struct Decoder<I: EntryIndex = SortedIndex> {
     table: DynamicTable<I>,
     /// How many insertions no increment has reported yet.
     unreported: usize,

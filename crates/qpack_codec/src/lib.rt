@@ -5,6 +5,7 @@
 pub mod decoder;
 pub mod encoder;
 pub mod error;
+pub mod laws;
 pub mod stateless;
 
 pub use decoder::Decoded;

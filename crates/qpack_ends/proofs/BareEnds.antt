@@ -1,8 +1,8 @@
 -- An encoding end of maximum capacity 0 keeps its table as it began: nothing is inserted, and no section waits.
-use Rattle.std.proofs.Common.{◌≡◌, ◌≤◌, ◌<◌, ◌+◌, ℕ, Bool, true, List, [], ◌∷◌, ◌++◌, None, Some, Ok, Err, refl, sym, ap, ◌∙◌, subst}
+use Rattle.std.proofs.Common.{◌≡◌, ◌+◌, ℕ, Bool, true, List, [], ◌∷◌, ◌++◌, None, Some, Ok, Err, refl, sym, ap, ◌∙◌, subst}
 use Rattle.std.proofs.Common.{arith, append-nil, take}
 use Rattle.std.specs.Prelude.{nat_eq, nat_lt, nat_le}
-use Rattle.std.proofs.lemmas.Bool.{cond_both, eq-eqb, leb-true, le-ltb, ltb-false}
+use Rattle.std.proofs.lemmas.Bool.{cond_both, eq-eqb, leb-true, ltb-false}
 use Rattle.qpack_spec.specs.Chosen.{Chosen, chosen_rule}
 use Rattle.qpack_spec.specs.Field.{Field, FieldLine, fields_of_lines, has_name, is_field}
 use Rattle.qpack_spec.specs.Instruction.{EncoderInstruction, DecoderInstruction, Acknowledgment, Cancellation, Increment}
@@ -10,9 +10,9 @@ use Rattle.qpack_spec.specs.Instruction.{written_encoder_instructions}
 use Rattle.qpack_spec.specs.Reading.{greatest_of}
 use Rattle.qpack_spec.specs.Rule.{Draft, empty_draft, committed_table}
 use Rattle.qpack_spec.specs.StrictInstructions.{strict_hear, hear_in_turn}
-use Rattle.qpack_spec.specs.Table.{Table, empty_table, insert_count, commit, without_references, with_capacity, can_evict}
-use Rattle.qpack_spec.specs.Table.{fields_in, without_oldest, without_stream, apply_decoder_instruction}
-use Rattle.qpack_spec.specs.Window.{eviction_count, greatest_capacity}
+use Rattle.qpack_spec.specs.Table.{Table, empty_table, insert_count, commit, without_references, with_capacity}
+use Rattle.qpack_spec.specs.Table.{without_oldest, without_stream, apply_decoder_instruction}
+use Rattle.qpack_spec.specs.Window.{greatest_capacity}
 use Rattle.qpack_spec.proofs.ChosenSteps.{IsKept, every_kept, kept_chosen_fields}
 use Rattle.qpack_spec.proofs.Positions.{FoundEntry}
 use Rattle.qpack_spec.proofs.Results.{bind_ok, ok_is}

@@ -1,6 +1,5 @@
 -- A choice that keeps to the caller's word suits it, also as one of a section.
 use Rattle.std.proofs.Common.{ℕ, Bool, Option, None, Some, true, false, List, [], ◌∷◌}
-use Rattle.qpack_spec.specs.Chosen as chosen
 use Rattle.qpack_spec.specs.Chosen.{Chosen, chosen_field}
 use Rattle.qpack_spec.specs.Field.{FieldLine}
 use Rattle.qpack_spec.specs.Rule.{Draft, empty_draft}

@@ -12,7 +12,7 @@ ghost use Rattle.qpack_ends.specs.Wishes.{KeepsWish, by_wish};
 use qpack_base::field::FieldLine;
 use qpack_base::stored_field::PackedField;
 use qpack_codec::encoder::{Choice, Chooses, Wish};
-use qpack_table::dynamic::{DynamicTableEncoder, SoughtField};
+use qpack_table::dynamic::{DynamicTableEncoder, Index, SoughtField};
 use std::alloc::Global;
 
 /// After an insertion found no room, draining entries are not referenced for this many sections.
@@ -49,7 +49,7 @@ impl Chooser {
     /// Returns the newest equal entry that may be referenced: the newest of all, or the one that it is a copy of.
     fn entry_to_reference(
         &self,
-        block: &DynamicTableEncoder<'_, PackedField>,
+        block: &DynamicTableEncoder<'_, Index, PackedField>,
         field: &FieldLine<'_>,
         newest: usize,
     ) -> Option<usize> {
@@ -68,7 +68,7 @@ impl Chooser {
     /// new entry is referenced and the old one can be evicted.
     fn choose_equal(
         &mut self,
-        block: &DynamicTableEncoder<'_, PackedField>,
+        block: &DynamicTableEncoder<'_, Index, PackedField>,
         field: &FieldLine<'_>,
         wish: Wish,
         entry: usize,
@@ -97,7 +97,7 @@ impl Chooser {
     }
 
     /// Chooses a reference to an entry, and after it a copy that nothing references yet.
-    fn copy(&mut self, block: &DynamicTableEncoder<'_, PackedField>, entry: usize) -> Choice
+    fn copy(&mut self, block: &DynamicTableEncoder<'_, Index, PackedField>, entry: usize) -> Choice
         ensures { result ≡ Equal entry true }
     {
         self.copies
@@ -111,7 +111,7 @@ impl Chooser {
     /// Chooses for a field that no entry equals.
     fn choose_new(
         &mut self,
-        block: &DynamicTableEncoder<'_, PackedField>,
+        block: &DynamicTableEncoder<'_, Index, PackedField>,
         field: &FieldLine<'_>,
         wish: Wish,
         sought: &SoughtField,
@@ -135,7 +135,7 @@ impl Chooser {
     /// Returns whether a new field is to be inserted.
     fn wants(
         &mut self,
-        block: &DynamicTableEncoder<'_, PackedField>,
+        block: &DynamicTableEncoder<'_, Index, PackedField>,
         field: &FieldLine<'_>,
         wish: Wish,
         sought: &SoughtField,
@@ -157,7 +157,7 @@ impl Chooser {
     /// Returns whether a field is to be inserted for its name alone, which no table has.
     fn takes_name(
         &mut self,
-        block: &DynamicTableEncoder<'_, PackedField>,
+        block: &DynamicTableEncoder<'_, Index, PackedField>,
         field: &FieldLine<'_>,
         sought: &SoughtField,
     ) -> bool
@@ -177,7 +177,7 @@ impl Chooser {
     /// Chooses a literal, with the name of an entry if no static field has it.
     fn choose_literal(
         &mut self,
-        block: &DynamicTableEncoder<'_, PackedField>,
+        block: &DynamicTableEncoder<'_, Index, PackedField>,
         field: &FieldLine<'_>,
         sought: &SoughtField,
         inserts: bool,
@@ -205,7 +205,7 @@ impl Chooses for Chooser {
 
     ghost chooses = { λ before t l w c after. by_wish State before t l w c after };
 
-    fn begin(&mut self, block: &DynamicTableEncoder<'_, PackedField>) {
+    fn begin(&mut self, block: &DynamicTableEncoder<'_, Index, PackedField>) {
         self.sections_since = self.sections_since.saturating_add(1);
         self.history.fit(block.max_size());
         self.draining.advance(block);
@@ -213,7 +213,7 @@ impl Chooses for Chooser {
 
     fn choose(
         &mut self,
-        block: &DynamicTableEncoder<'_, PackedField>,
+        block: &DynamicTableEncoder<'_, Index, PackedField>,
         field: &FieldLine<'_>,
         wish: Wish,
         sought: &SoughtField,
@@ -232,7 +232,7 @@ impl Chooses for Chooser {
 }
 
 /// Returns whether, with the field, at most three quarters of the capacity are used and one more section may be blocked.
-fn leaves_room(block: &DynamicTableEncoder<'_, PackedField>, field: &FieldLine<'_>) -> bool {
+fn leaves_room(block: &DynamicTableEncoder<'_, Index, PackedField>, field: &FieldLine<'_>) -> bool {
     block.is_below_limit()
         && block.used().saturating_add(field.mem_size()) <= block.max_size() / 4 * 3
 }
@@ -269,7 +269,7 @@ impl Draining {
     }
 
     /// Notes which entries drain when a section begins.
-    fn advance(&mut self, block: &DynamicTableEncoder<'_, PackedField>) {
+    fn advance(&mut self, block: &DynamicTableEncoder<'_, Index, PackedField>) {
         self.count(block);
         let most = self.capacity - self.capacity / 4;
         for entry in self.newest..self.inserted {
@@ -284,7 +284,7 @@ impl Draining {
     }
 
     /// Counts the entries that were inserted since, and passes those that were evicted.
-    fn count(&mut self, block: &DynamicTableEncoder<'_, PackedField>) {
+    fn count(&mut self, block: &DynamicTableEncoder<'_, Index, PackedField>) {
         let (inserted, dropped, capacity) = (
             block.total_inserted(),
             block.total_dropped(),

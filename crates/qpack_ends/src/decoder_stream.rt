@@ -10,7 +10,7 @@ ghost use Rattle.qpack_ends.specs.Hearing.{decoder_stream_error, ReceivesMore};
 use crate::encoder_stream::Place;
 use qpack_base::coding::Cursor;
 use qpack_base::stored_field::StoredField;
-use qpack_table::dynamic::{DynamicTable, Index};
+use qpack_table::dynamic::{DynamicTable, EntryIndex};
 use qpack_wire::stream::{DecoderLine, HeaderAck, InsertCountIncrement, StreamCancel, next_line};
 use std::marker::Model;
 use thiserror::Error;
@@ -106,9 +106,9 @@ impl DecoderStream {
     /// Fails if an integer is too large, if an increment is 0 or exceeds the insertions that were made, or if an
     /// acknowledged stream has no unacknowledged section. The table is then as it was before that instruction, no bytes
     /// wait, and the error has the place of the instruction. The cursor always moves to its end.
-    pub fn receive<F: StoredField>(
+    pub fn receive<I: EntryIndex, F: StoredField>(
         &mut self,
-        table: &mut DynamicTable<Index, F>,
+        table: &mut DynamicTable<I, F>,
         buf: &mut Cursor,
     ) -> Result<(), DecoderStreamError>
         ensures receives { (heard : List DecoderInstruction) (before : List ℕ) → Receives heard before self.old
@@ -122,9 +122,9 @@ impl DecoderStream {
     }
 
     /// Receives these bytes.
-    fn receive_bytes<F: StoredField>(
+    fn receive_bytes<I: EntryIndex, F: StoredField>(
         &mut self,
-        table: &mut DynamicTable<Index, F>,
+        table: &mut DynamicTable<I, F>,
         bytes: &[u8],
     ) -> Result<(), DecoderStreamError>
         ensures { (heard : List DecoderInstruction) (before : List ℕ) → Receives heard before self.old
@@ -137,9 +137,9 @@ impl DecoderStream {
     }
 
     /// Receives one byte more.
-    fn receive_byte<F: StoredField>(
+    fn receive_byte<I: EntryIndex, F: StoredField>(
         &mut self,
-        table: &mut DynamicTable<Index, F>,
+        table: &mut DynamicTable<I, F>,
         byte: u8,
     ) -> Result<(), DecoderStreamError>
         ensures { (heard : List DecoderInstruction) (before : List ℕ) → Receives heard before self.old
@@ -165,8 +165,8 @@ impl DecoderStream {
 }
 
 /// Applies the instruction at the front of the bytes. Returns whether there was a whole one.
-fn hear<F: StoredField>(
-    table: &mut DynamicTable<Index, F>,
+fn hear<I: EntryIndex, F: StoredField>(
+    table: &mut DynamicTable<I, F>,
     bytes: &[u8],
 ) -> Result<bool, HearingError>
     ensures hears { HearsNext table.old table.new bytes.now result }
@@ -184,8 +184,8 @@ fn hear<F: StoredField>(
 }
 
 /// Applies an instruction to the table. On error nothing changes.
-fn apply_strictly<F: StoredField>(
-    table: &mut DynamicTable<Index, F>,
+fn apply_strictly<I: EntryIndex, F: StoredField>(
+    table: &mut DynamicTable<I, F>,
     line: DecoderLine,
 ) -> Result<(), HearingError>
     ensures { Applies result (strict_hear table.old (decoder_instruction_of line)) table.old table.new }
@@ -203,8 +203,8 @@ fn apply_strictly<F: StoredField>(
 }
 
 /// Raises the known received count by an increment (RFC 9204, section 4.4.3). On error nothing changes.
-fn raise<F: StoredField>(
-    table: &mut DynamicTable<Index, F>,
+fn raise<I: EntryIndex, F: StoredField>(
+    table: &mut DynamicTable<I, F>,
     increment: usize,
 ) -> Result<(), HearingError>
     ensures { Applies result (strict_hear table.old (Increment increment)) table.old table.new }
@@ -220,7 +220,10 @@ fn raise<F: StoredField>(
 }
 
 /// Returns whether an increment raises the known received count above the insertions that were made.
-fn is_past_insertions<F: StoredField>(table: &DynamicTable<Index, F>, increment: usize) -> bool
+fn is_past_insertions<I: EntryIndex, F: StoredField>(
+    table: &DynamicTable<I, F>,
+    increment: usize,
+) -> bool
     ensures { result ≡ nat_lt (insert_count table.now) (table.now.known_received_count + increment) }
 {
     let insertions = table.total_inserted();
@@ -232,8 +235,8 @@ fn is_past_insertions<F: StoredField>(table: &DynamicTable<Index, F>, increment:
 
 /// Releases the oldest unacknowledged section of a stream, and raises the known received count to what that required
 /// (RFC 9204, sections 2.1.4 and 4.4.1). On error nothing changes.
-fn acknowledge<F: StoredField>(
-    table: &mut DynamicTable<Index, F>,
+fn acknowledge<I: EntryIndex, F: StoredField>(
+    table: &mut DynamicTable<I, F>,
     stream_id: u64,
 ) -> Result<(), HearingError>
     ensures { Applies result (strict_hear table.old (Acknowledgment stream_id)) table.old table.new }
@@ -249,7 +252,7 @@ fn acknowledge<F: StoredField>(
 }
 
 /// Raises the known received count to at least this.
-fn raise_to<F: StoredField>(table: &mut DynamicTable<Index, F>, count: usize)
+fn raise_to<I: EntryIndex, F: StoredField>(table: &mut DynamicTable<I, F>, count: usize)
     ensures { table.new ≡ known_at_least count table.old }
 {
     let missing = count.saturating_sub(table.known_received_count());

@@ -32,7 +32,7 @@ use qpack_base::stored_field::PackedField;
 use qpack_codec::EncoderError;
 use qpack_codec::encoder::{AsField, EncoderTable, encode_section_stateless};
 use qpack_table::dynamic;
-use qpack_table::dynamic::PackedTable;
+use qpack_table::dynamic::{Index, PackedTable};
 use qpack_wire::block::HeaderPrefix;
 use std::alloc::{Allocator, Global};
 use std::marker::Model;
@@ -194,7 +194,7 @@ impl EncodingError {
 #[derive(Debug, Drop)]
 pub struct ConnectionEncoder {
     settings: EncoderSettings,
-    table: EncoderTable<PackedField>,
+    table: EncoderTable<Index, PackedField>,
     at_risk: StreamsAtRisk,
     chooser: Chooser,
     /// The capacity to announce before the first section, in bytes.
@@ -589,7 +589,7 @@ fn encode_alone<A: Allocator, H: AsField>(
 /// permits no blocked block while the section is written, so that the section requires nothing that is not known to be
 /// received.
 fn write_section<A: Allocator, H: AsField>(
-    table: &mut EncoderTable<PackedField>,
+    table: &mut EncoderTable<Index, PackedField>,
     stream: u64,
     may_block: bool,
     section: &mut Vec<u8, A>,

@@ -20,7 +20,7 @@ use qpack_base::stored_field::PackedField;
 use qpack_codec::EncoderError;
 use qpack_codec::decoder::{ack_header, stream_canceled, write_increments};
 use qpack_codec::encoder::{AsField, EncoderTable, set_dynamic_table_size};
-use qpack_table::dynamic::PackedTable;
+use qpack_table::dynamic::{Index, PackedTable};
 use std::alloc::{Allocator, Global};
 use std::marker::Model;
 
@@ -138,7 +138,7 @@ impl Unsent {
     /// sizes that of the instructions is not grown.
     pub(crate) fn write_section<A: Allocator, H: AsField>(
         &mut self,
-        table: &mut EncoderTable<PackedField>,
+        table: &mut EncoderTable<Index, PackedField>,
         stream: u64,
         section: &mut Vec<u8, A>,
         fields: &[H],

@@ -63,7 +63,7 @@ abbrev field_at : Entry → Field
 field_at e = e.field
 
 -- the fields of what is left are what is left of the fields
-fields_drop : (k : ℕ) (es : List Entry) → drop k (live_fields es) ≡ live_fields (drop k es)
+pub fields_drop : (k : ℕ) (es : List Entry) → drop k (live_fields es) ≡ live_fields (drop k es)
 fields_drop zero es = refl
 fields_drop (suc k) [] = refl
 fields_drop (suc k) (e ∷ es) = fields_drop k es

@@ -7,7 +7,7 @@ use Rattle.qpack_spec.specs.Field.{Field}
 use Rattle.qpack_table.specs.Hashes.{position_among}
 use Rattle.qpack_table.specs.Rows.{hash_of, part_of, IsRow, HasRoom}
 use Rattle.qpack_table.specs.Indexes.{home, AreRowsOf, HasRoomFor}
-use Rattle.qpack_table.specs.declared.dynamic.index.row.Part.{Part}
+use Rattle.qpack_table.specs.declared.dynamic.comparing.Part.{Part}
 use Rattle.qpack_table.specs.declared.dynamic.index.row.Row.{Row}
 use Rattle.qpack_table.proofs.RowOrder.{same_hash}
 

@@ -11,10 +11,8 @@ use Rattle.qpack_spec.proofs.Windows.{entries_fit}
 use Rattle.qpack_table.specs.Positions.{Positions}
 use Rattle.qpack_table.specs.Tables.{entry_of, entries_of, flags_of, references_in, times, AreUsed, AreCounted}
 use Rattle.qpack_table.specs.Tables.{NoneTwice}
-use Rattle.qpack_table.specs.Tables.{IsKept, IsSized, IsIndexOfEntries, CountsReferences, live_fields}
-use Rattle.qpack_table.specs.Indexes.{IsIndexOf}
+use Rattle.qpack_table.specs.Tables.{IsKept, IsSized, CountsReferences}
 use Rattle.qpack_table.specs.Entries.{Entry}
-use Rattle.qpack_table.specs.declared.dynamic.index.Index.{Index}
 use Rattle.qpack_table.proofs.Lookups.{fields_long}
 use Rattle.qpack_table.proofs.Evictions.{sized_inserted, sized_resized, evicted_within}
 use Rattle.qpack_table.proofs.References.{times_append, references_less, references_put, references_released}
@@ -93,32 +91,23 @@ sized_as v es now size capacity same kept = record {
   small = kept.small;
 }
 
--- the index is that of other entries with the same fields
-pub indexed_as : {index : Index} (dropped : ℕ) (es now : List Entry) → entries_of now ≡ entries_of es
-    → IsIndexOfEntries index dropped es → IsIndexOfEntries index dropped now
-indexed_as {index} dropped es now same is =
-    let long : length es ≡ length now =
-    sym (length-map es entry_of) ∙ ap (λ (l : List table.Entry). length l) (sym same) ∙ length-map now entry_of in
-    subst (λ (n : ℕ). IsIndexOf dropped (live_fields now) n index) long
-    (subst (λ (l : List table.Entry). IsIndexOf dropped (fields_in l) (length es) index) (sym same) is)
-
 -- with some blocks released
-pub kept_released : {index : Index} (v : Positions) (es now : List Entry) (size capacity : ℕ) (referenced : List ℕ)
+pub kept_released : {index : ℕ → List Entry → Type 0} (v : Positions) (es now : List Entry) (size capacity : ℕ) (referenced : List ℕ)
     (unacknowledged left : List table.UnacknowledgedBlock) (gone : List ℕ) (dropped : ℕ)
-    → IsKept v es size capacity referenced unacknowledged (IsIndexOfEntries index)
+    → IsKept v es size capacity referenced unacknowledged index
     → dropped ≡ v.dropped
     → entries_of now ≡ entries_of es → flags_of now ≡ flags_of es
-    → ((rest : List ℕ) → AreUsed dropped es (gone ++ rest) → AreUsed dropped now rest)
+    → ((rest : List ℕ) → AreUsed dropped es (gone ++ rest) → AreUsed dropped now rest) → index v.dropped now
     → ((a : ℕ) → times a (references_in unacknowledged) ≡ times a gone + times a (references_in left))
     → AllByRecursion (λ b. NoneTwice b.entries) left → length left ≤ length unacknowledged
-    → IsKept v now size capacity referenced left (IsIndexOfEntries index)
+    → IsKept v now size capacity referenced left index
 kept_released {index} v es now size capacity referenced unacknowledged left gone dropped kept is live
-    flags lowered parted once fewer = record {
+    flags lowered indexed parted once fewer = record {
       sized = sized_as v es now size capacity live kept.sized;
       references = references_released v es now referenced unacknowledged left gone kept.references flags
           (subst (λ (d : ℕ). (rest : List ℕ) → AreUsed d es (gone ++ rest)
           → AreUsed d now rest) is lowered) parted once fewer;
-      indexed = indexed_as {index = index} v.dropped es now live kept.indexed;
+      indexed = indexed;
     }
 
 -- what some blocks reference is counted

@@ -16,6 +16,11 @@ pub mod Changes
 pub mod Halvings
 pub mod SlotIndexes
 pub mod RowOrder
+pub mod SortedOrder
+pub mod SortedSearches
+pub mod SortedNewest
+pub mod SortedChanges
+pub mod SortedNames
 pub mod RowSearches
 pub mod Lists
 pub mod RowSlots

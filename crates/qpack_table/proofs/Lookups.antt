@@ -1,15 +1,14 @@
 -- Lookups by index are those of the window.
 use Rattle.std.proofs.Common.{◌≡◌, ℕ, zero, suc, ◌+◌, ◌-◌, ◌<◌, ◌≤◌, List, [], ◌∷◌, length, get_or, Option, Some, None}
-use Rattle.std.proofs.Common.{refl, sym, ap, subst, ◌∙◌, arith, inl, inr, Bool, true, false}
-use Rattle.std.specs.Prelude.{◌&&◌, slice_get, min, IsSome, IfErr, IsErr, IsErrAnd, IfOk, Result, Ok, Err}
+use Rattle.std.proofs.Common.{refl, sym, ap, subst, ◌∙◌, arith, inl, inr, Bool}
+use Rattle.std.specs.Prelude.{slice_get, min, IsSome, IfErr, IsErr, IsErrAnd, IfOk, Result, Ok, Err}
 use Rattle.std.proofs.lemmas.Bool.{cases_lt, le-ltb, lt-ltb}
 use Rattle.std.proofs.lemmas.List.{length-map}
 use Rattle.std.proofs.lemmas.Option.{same_Some, slice_get-map, slice_get_read, get_or_from_slice_get, slice_get_past}
 use Rattle.std.specs.Borrow.{Bor}
 use Rattle.std.specs.Option.{option_map}
-use Rattle.std.specs.Str.{bytes_eq}
 use Rattle.qpack_spec.specs.Chosen.{passes_at, some_passes}
-use Rattle.qpack_spec.specs.Field.{Field, field_size, is_field, total_size}
+use Rattle.qpack_spec.specs.Field.{Field, field_size, total_size}
 use Rattle.qpack_spec.specs.Reading.{Fault, BelowWindow, AboveWindow, BehindBase, or_fault, relative_field}
 use Rattle.qpack_spec.specs.Reading.{post_base_field}
 use Rattle.qpack_spec.specs.Table as table
@@ -136,18 +135,6 @@ pub passes_as : (s t : table.Table) (p : Field → Bool) (a dropped : ℕ) (o : 
     → dropped < a → slice_get (fields_in s.live) (a - dropped - 1) ≡ o → passes_at t p a ≡ some_passes p o
 passes_as s t p a dropped o same is above there =
     rw (← same, ← is, lt-ltb dropped a above, there) refl
-
--- two fields, of which the one's parts are these bytes
-pub equal_as : (f g : Field) (name value : List ℕ) (equal : Bool) → name ≡ g.name → value ≡ g.value
-    → bytes_eq f.name name ≡ true → equal ≡ bytes_eq f.value value → equal ≡ is_field f g
-equal_as f g name value equal names values same is =
-    is ∙ ap (λ (v : List ℕ). bytes_eq f.value v) values
-    ∙ sym (ap (λ (b : Bool). b && bytes_eq f.value g.value)
-    (sym (ap (λ (n : List ℕ). bytes_eq f.name n) names) ∙ same))
-
-pub other_name : (f g : Field) (name : List ℕ) → name ≡ g.name → bytes_eq f.name name ≡ false → is_field f g ≡ false
-other_name f g name names other =
-    ap (λ (b : Bool). b && bytes_eq f.value g.value) (sym (ap (λ (n : List ℕ). bytes_eq f.name n) names) ∙ other)
 
 -- ---- under a base
 

@@ -20,8 +20,8 @@ use Rattle.qpack_table.specs.Tables.{entries_of, live_fields}
 use Rattle.qpack_table.specs.Rows.{field_at, index_of, part_of, part_at, IsLiveIndex, IsRow, FindsSlot}
 use Rattle.qpack_table.specs.Indexes.{home, AreRowsOf, HasSlotOf, FindsNewest, IsNewestIn}
 use Rattle.qpack_table.specs.Entries.{Entry}
-use Rattle.qpack_table.specs.declared.dynamic.index.row.Part.{Part}
-use Rattle.qpack_table.specs.declared.dynamic.index.row.Part.TheVariants.{Name, Whole}
+use Rattle.qpack_table.specs.declared.dynamic.comparing.Part.{Part}
+use Rattle.qpack_table.specs.declared.dynamic.comparing.Part.TheVariants.{Name, Whole}
 use Rattle.qpack_table.specs.declared.dynamic.index.row.Row.{Row}
 use Rattle.qpack_table.specs.declared.dynamic.index.row.Slot.{Slot}
 use Rattle.qpack_table.proofs.RowOrder.{equal_when_same, same_hash}

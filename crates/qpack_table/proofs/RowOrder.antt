@@ -6,15 +6,15 @@ use Rattle.std.specs.declared.cmp.Ordering.{Ordering}
 use Rattle.std.specs.declared.cmp.Ordering.TheVariants.{Less, Equal, Greater}
 use Rattle.std.specs.Ordering.{nat_cmp, is_eq, ordering_then, ordering_reverse}
 use Rattle.std.proofs.lemmas.Cmp.{nat_cmp_total, nat_list_cmp_total, on_total, then_total, tied_itself, ranked}
-use Rattle.qpack_spec.specs.Field.{Field}
+use Rattle.qpack_spec.specs.Field.{Field, is_field}
 use Rattle.qpack_spec.proofs.Positions.{same_field}
 use Rattle.qpack_base.specs.HeaderFields.{field_cmp}
 use Rattle.qpack_base.proofs.FieldOrder.{equal_is_field}
 use Rattle.qpack_table.specs.Rows.{Key, key_cmp, part_of, hash_of}
-use Rattle.qpack_table.specs.declared.dynamic.index.row.Part.{Part}
-use Rattle.qpack_table.specs.declared.dynamic.index.row.Part.TheVariants.{Name, Whole}
+use Rattle.qpack_table.specs.declared.dynamic.comparing.Part.{Part}
+use Rattle.qpack_table.specs.declared.dynamic.comparing.Part.TheVariants.{Name, Whole}
 
-field_cmp_total : IsTotalOrder field_cmp
+pub field_cmp_total : IsTotalOrder field_cmp
 unfolding field_cmp
 field_cmp_total = then_total (on_total (λ (f : Field). f.name) nat_list_cmp_total) (on_total (λ
     (f : Field). f.value) nat_list_cmp_total)
@@ -26,6 +26,15 @@ key_cmp_total = then_total (on_total (λ (k : Key). k.hash) nat_cmp_total) (on_t
 
 pub same_when_equal : (f g : Field) → field_cmp f g ≡ Equal → f ≡ g
 same_when_equal f g h = same_field f g (sym (equal_is_field f g) ∙ ap is_eq h)
+
+is_eq_reversed : (o : Ordering) → is_eq (ordering_reverse o) ≡ is_eq o
+is_eq_reversed Less = refl
+is_eq_reversed Equal = refl
+is_eq_reversed Greater = refl
+
+pub field_when_equal : (f g : Field) → is_eq (field_cmp g f) ≡ is_field f g
+field_when_equal f g =
+    ap is_eq (field_cmp_total.antisymm g f) ∙ is_eq_reversed (field_cmp f g) ∙ equal_is_field f g
 
 pub equal_when_same : (f g : Field) → f ≡ g → field_cmp f g ≡ Equal
 equal_when_same f g h = subst (λ (x : Field). field_cmp f x ≡ Equal) h (tied_itself field_cmp_total f)

@@ -10,7 +10,7 @@ use Rattle.qpack_table.specs.Rows.{Key, key_cmp, key_at, part_of, part_at, field
 use Rattle.qpack_table.specs.Rows.{IsGap, hash_of, index_of}
 use Rattle.qpack_table.specs.Tables.{live_fields}
 use Rattle.qpack_table.specs.Entries.{Entry}
-use Rattle.qpack_table.specs.declared.dynamic.index.row.Part.{Part}
+use Rattle.qpack_table.specs.declared.dynamic.comparing.Part.{Part}
 use Rattle.qpack_table.specs.declared.dynamic.index.row.Slot.{Slot}
 use Rattle.qpack_table.proofs.RowOrder.{less_through, greater_through, same_part, same_hash, tie_of}
 use Rattle.qpack_table.proofs.RowOrder.{not_less_and_equal, not_greater_and_equal}

@@ -14,7 +14,7 @@ use Rattle.std.proofs.lemmas.List.Quantifiers.{all_pairs_remove}
 use Rattle.qpack_spec.specs.Field.{Field}
 use Rattle.qpack_table.specs.Rows.{Key, key_cmp, key_at, part_of, part_at, hash_of, field_at, IsSlot, IsRow, IsMatch}
 use Rattle.qpack_table.specs.Rows.{IsGap, Enters, Leaves, HasIndexAt, HasNoIndex, index_of, slot_of}
-use Rattle.qpack_table.specs.declared.dynamic.index.row.Part.{Part}
+use Rattle.qpack_table.specs.declared.dynamic.comparing.Part.{Part}
 use Rattle.qpack_table.specs.declared.dynamic.index.row.Slot.{Slot}
 use Rattle.qpack_table.proofs.Lists.{contains_more, contains_either, set_either, all_pairs_insert}
 use Rattle.qpack_table.proofs.RowOrder.{same_key, tie_of, same_hash, flipped_greater, not_less_and_equal}

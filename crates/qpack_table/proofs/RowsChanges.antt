@@ -8,7 +8,7 @@ use Rattle.std.proofs.lemmas.List.{length-drop, length-append, length-set, get_o
 use Rattle.qpack_spec.specs.Field.{Field}
 use Rattle.qpack_table.specs.Rows.{field_at, index_of, part_of, part_at, IsRow, Enters, Leaves}
 use Rattle.qpack_table.specs.Indexes.{home, HasSlotOf, AreRowsOf}
-use Rattle.qpack_table.specs.declared.dynamic.index.row.Part.{Part}
+use Rattle.qpack_table.specs.declared.dynamic.comparing.Part.{Part}
 use Rattle.qpack_table.specs.declared.dynamic.index.row.Row.{Row}
 use Rattle.qpack_table.specs.declared.dynamic.index.row.Slot.{Slot}
 use Rattle.qpack_table.proofs.SlotIndexes.{index_kept}

@@ -12,7 +12,7 @@ use Rattle.qpack_spec.specs.Field.{Field}
 use Rattle.qpack_table.specs.Hashes.{position_among}
 use Rattle.qpack_table.specs.Rows.{key_cmp, key_at, hash_of, index_of, field_at, goes_to, IsRow}
 use Rattle.qpack_table.specs.Indexes.{home, HasSlotOf, AreRowsOf, IsSplitOf, split_home, rows_with_split}
-use Rattle.qpack_table.specs.declared.dynamic.index.row.Part.{Part}
+use Rattle.qpack_table.specs.declared.dynamic.comparing.Part.{Part}
 use Rattle.qpack_table.specs.declared.dynamic.index.row.Row.{Row}
 use Rattle.qpack_table.specs.declared.dynamic.index.row.Slot.{Slot}
 use Rattle.qpack_table.specs.declared.dynamic.index.row.Split.{Split}

@@ -9,8 +9,8 @@ use Rattle.qpack_table.specs.Indexes.{IsIndexOf}
 use Rattle.qpack_table.specs.Tables.{live_fields, IsIndexOfEntries}
 use Rattle.qpack_table.specs.Entries.{Entry}
 use Rattle.qpack_table.specs.declared.dynamic.index.Index.{Index}
-use Rattle.qpack_table.specs.declared.dynamic.index.row.Part.{Part}
-use Rattle.qpack_table.specs.declared.dynamic.index.row.Part.TheVariants.{Name, Whole}
+use Rattle.qpack_table.specs.declared.dynamic.comparing.Part.{Part}
+use Rattle.qpack_table.specs.declared.dynamic.comparing.Part.TheVariants.{Name, Whole}
 use Rattle.qpack_table.proofs.RowSearches.{entry_part}
 use Rattle.qpack_table.proofs.RowsChanges.{rows_pushed}
 use Rattle.qpack_table.proofs.Evictions.{joined_fields}

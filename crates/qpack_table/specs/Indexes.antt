@@ -12,8 +12,8 @@ use Rattle.qpack_table.specs.Rows.{slots_a_row}
 use Rattle.qpack_table.specs.declared.dynamic.index.Index.{Index}
 use Rattle.qpack_table.specs.declared.dynamic.index.hash.Hashes.{Hashes}
 use Rattle.qpack_table.specs.declared.dynamic.index.hash.SeededHashes.{SeededHashes}
-use Rattle.qpack_table.specs.declared.dynamic.index.row.Part.{Part}
-use Rattle.qpack_table.specs.declared.dynamic.index.row.Part.TheVariants.{Name, Whole}
+use Rattle.qpack_table.specs.declared.dynamic.comparing.Part.{Part}
+use Rattle.qpack_table.specs.declared.dynamic.comparing.Part.TheVariants.{Name, Whole}
 use Rattle.qpack_table.specs.declared.dynamic.index.row.Row.{Row}
 use Rattle.qpack_table.specs.declared.dynamic.index.row.Slot.{Slot}
 use Rattle.qpack_table.specs.declared.dynamic.index.row.Split.{Split}

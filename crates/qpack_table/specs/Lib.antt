@@ -7,8 +7,10 @@ pub mod OpenBlocks
 pub mod BlockedBlocks
 pub mod Entries
 pub mod Tables
+pub mod SameFields
 pub mod Rows
 pub mod Hashes
 pub mod Growth
 pub mod Indexes
+pub mod SortedIndexes
 pub mod Handles

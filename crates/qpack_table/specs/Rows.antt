@@ -10,8 +10,8 @@ use Rattle.qpack_base.specs.HeaderFields.{field_cmp, line_of}
 use Rattle.qpack_spec.specs.Field.{Field}
 use Rattle.qpack_table.specs.Growth.{grown}
 use Rattle.qpack_table.specs.Hashes.{field_hash, name_hash, position_among}
-use Rattle.qpack_table.specs.declared.dynamic.index.row.Part.{Part}
-use Rattle.qpack_table.specs.declared.dynamic.index.row.Part.TheVariants.{Name, Whole}
+use Rattle.qpack_table.specs.declared.dynamic.comparing.Part.{Part}
+use Rattle.qpack_table.specs.declared.dynamic.comparing.Part.TheVariants.{Name, Whole}
 use Rattle.qpack_table.specs.declared.dynamic.index.row.Row.{Row}
 use Rattle.qpack_table.specs.declared.dynamic.index.row.Slot.{Slot}
 use Rattle.qpack_table.specs.declared.dynamic.index.row.Sought.{Sought}

@@ -12,6 +12,7 @@ use thiserror::Error as ThisError;
 
 mod block;
 mod capacities;
+mod comparing;
 mod encoder;
 mod entries;
 mod entry_index;
@@ -19,14 +20,17 @@ mod growth;
 mod index;
 mod lookups;
 mod open_blocks;
+mod sorted;
 mod sought;
 mod table;
 
+pub use crate::dynamic::comparing::Steps;
 pub use crate::dynamic::encoder::{
     DynamicInsertionResult, DynamicLookupResult, DynamicTableEncoder,
 };
-pub use crate::dynamic::entry_index::{EntryIndex, NoIndex};
-pub use crate::dynamic::index::{Index, Steps};
+pub use crate::dynamic::entry_index::{EntryIndex, FindsEntries, NoIndex};
+pub use crate::dynamic::index::Index;
+pub use crate::dynamic::sorted::SortedIndex;
 pub use crate::dynamic::sought::{FoundField, SoughtField};
 pub use crate::dynamic::table::{
     DynamicTable, DynamicTableDecoder, PackedTable, ReceivedPackedTable, ReceivedTable,

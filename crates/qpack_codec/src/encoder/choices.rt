@@ -13,7 +13,7 @@ ghost use Rattle.qpack_codec.specs.declared.encoder.choices.Wish.TheVariants.{Un
 
 use qpack_base::field::{FieldLine, HeaderField};
 use qpack_base::stored_field::PackedField;
-use qpack_table::dynamic::{DynamicTableEncoder, SoughtField};
+use qpack_table::dynamic::{DynamicTableEncoder, Index, SoughtField};
 
 /// The caller's wish for a field.
 #[derive(Debug, Clone, Copy, PartialEq, Drop)]
@@ -76,13 +76,13 @@ pub trait Chooses {
     ghost chooses: { Self → Table → Line → Asked → Chosen → Self → Type 0 };
 
     /// Begins a section: this is called before its first field.
-    fn begin(&mut self, block: &DynamicTableEncoder<'_, PackedField>);
+    fn begin(&mut self, block: &DynamicTableEncoder<'_, Index, PackedField>);
 
     /// Chooses for a field that no static field equals, or that is never indexed. Of the latter only the name counts:
     /// `sought` holds no equal entry, and it is not inserted.
     fn choose(
         &mut self,
-        block: &DynamicTableEncoder<'_, PackedField>,
+        block: &DynamicTableEncoder<'_, Index, PackedField>,
         field: &FieldLine<'_>,
         wish: Wish,
         sought: &SoughtField,

@@ -28,14 +28,14 @@ use qpack_base::coding::{NoMemory, make_room};
 use qpack_base::field::FieldLine;
 use qpack_base::static_::{StaticMatch, StaticTable};
 use qpack_base::stored_field::PackedField;
-use qpack_table::dynamic::{DynamicLookupResult, DynamicTableEncoder, SoughtField};
+use qpack_table::dynamic::{DynamicLookupResult, DynamicTableEncoder, Index, SoughtField};
 use qpack_wire::block::{Indexed, IndexedWithPostBase};
 use std::alloc::Allocator;
 
 /// Adds a field line to a block in progress, by what is chosen for it. An equal static field is taken without asking. On
 /// error either nothing was inserted and no instruction is written, or an entry was and its instruction is.
 pub(super) fn append_chosen_line<A: Allocator, B: Allocator, C: Chooses>(
-    block: &mut DynamicTableEncoder<'_, PackedField>,
+    block: &mut DynamicTableEncoder<'_, Index, PackedField>,
     field: &FieldLine<'_>,
     wish: Wish,
     chooser: &mut C,
@@ -75,7 +75,7 @@ pub(super) fn append_chosen_line<A: Allocator, B: Allocator, C: Chooses>(
 /// Adds a field that is never indexed to a block in progress: a literal, with the name of the newest entry that has it if
 /// that is chosen.
 fn append_never_indexed<A: Allocator>(
-    block: &mut DynamicTableEncoder<'_, PackedField>,
+    block: &mut DynamicTableEncoder<'_, Index, PackedField>,
     field: &FieldLine<'_>,
     sought: &SoughtField,
     choice: Choice,
@@ -106,7 +106,7 @@ fn append_never_indexed<A: Allocator>(
 /// Adds a field that no static field equals to a block in progress, by what is chosen for it. On error either nothing
 /// was inserted and no instruction is written, or an entry was and its instruction is.
 fn append_chosen<A: Allocator, B: Allocator>(
-    block: &mut DynamicTableEncoder<'_, PackedField>,
+    block: &mut DynamicTableEncoder<'_, Index, PackedField>,
     field: &FieldLine<'_>,
     sought: &SoughtField,
     choice: Choice,
@@ -145,7 +145,7 @@ fn append_chosen<A: Allocator, B: Allocator>(
 
 /// Adds the line of a field that is not inserted for it.
 fn append_line<A: Allocator>(
-    block: &mut DynamicTableEncoder<'_, PackedField>,
+    block: &mut DynamicTableEncoder<'_, Index, PackedField>,
     field: &FieldLine<'_>,
     sought: &SoughtField,
     choice: Choice,
@@ -198,7 +198,7 @@ fn append_alone<A: Allocator>(
 /// Adds a reference to an entry, if it is live, equals a field and may be referenced, and else a literal without the
 /// dynamic table.
 fn append_equal<A: Allocator>(
-    block: &mut DynamicTableEncoder<'_, PackedField>,
+    block: &mut DynamicTableEncoder<'_, Index, PackedField>,
     field: &FieldLine<'_>,
     sought: &SoughtField,
     entry: usize,
@@ -238,7 +238,7 @@ fn append_equal<A: Allocator>(
 
 /// Returns whether an entry is live and equals a field. Of the newest one this is known.
 fn is_equal(
-    block: &DynamicTableEncoder<'_, PackedField>,
+    block: &DynamicTableEncoder<'_, Index, PackedField>,
     field: &FieldLine<'_>,
     sought: &SoughtField,
     entry: usize,
@@ -252,7 +252,7 @@ fn is_equal(
 /// Adds a literal with the name of the newest entry that has it, if it may be referenced, and else one without the
 /// dynamic table.
 fn append_named<A: Allocator>(
-    block: &mut DynamicTableEncoder<'_, PackedField>,
+    block: &mut DynamicTableEncoder<'_, Index, PackedField>,
     field: &FieldLine<'_>,
     sought: &SoughtField,
     lines: &mut Vec<u8, A>,
@@ -288,7 +288,7 @@ fn append_named<A: Allocator>(
 /// Inserts a field, and references the new entry, if one more block may be blocked and there is room. Else it is a literal
 /// without the dynamic table. Room for the instruction is made before the insertion.
 fn append_insertion_or_alone<A: Allocator, B: Allocator>(
-    block: &mut DynamicTableEncoder<'_, PackedField>,
+    block: &mut DynamicTableEncoder<'_, Index, PackedField>,
     field: &FieldLine<'_>,
     sought: &SoughtField,
     lines: &mut Vec<u8, A>,
@@ -326,7 +326,7 @@ fn append_insertion_or_alone<A: Allocator, B: Allocator>(
 /// Inserts a field without a reference, if there is room, and appends its instruction (RFC 9204, section 2.1.2). Room for
 /// the instruction is made before the insertion. On error nothing changes.
 fn append_unreferenced<B: Allocator>(
-    block: &mut DynamicTableEncoder<'_, PackedField>,
+    block: &mut DynamicTableEncoder<'_, Index, PackedField>,
     field: &FieldLine<'_>,
     sought: &SoughtField,
     encoder_buf: &mut Vec<u8, B>,

@@ -20,7 +20,7 @@ use qpack_base::prefix_string;
 use qpack_base::static_::{StaticMatch, StaticTable};
 use qpack_base::stored_field::StoredField;
 use qpack_table::dynamic::{
-    DynamicInsertionResult, DynamicLookupResult, DynamicTableEncoder, FoundField,
+    DynamicInsertionResult, DynamicLookupResult, DynamicTableEncoder, FindsEntries, FoundField,
 };
 use qpack_wire::block::{
     Indexed, IndexedWithPostBase, Literal, LiteralWithNameRef, LiteralWithPostBaseNameRef,
@@ -163,8 +163,8 @@ fn append_insertion<A: Allocator, B: Allocator>(
 
 /// Returns how many bytes hold the instruction of this field, if it is inserted, with a reference or without: four for
 /// each byte of the entry's size hold its numbers and its coded strings.
-pub(super) fn instruction_room<F: StoredField>(
-    block: &DynamicTableEncoder<'_, F>,
+pub(super) fn instruction_room<I: FindsEntries, F: StoredField>(
+    block: &DynamicTableEncoder<'_, I, F>,
     field: &FieldLine<'_>,
 ) -> usize
     ensures enough { length (written_insertion (line_of field.now).field

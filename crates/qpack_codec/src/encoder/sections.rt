@@ -24,7 +24,9 @@ use crate::stateless::field_lines::append_section;
 use qpack_base::coding::{NoMemory, make_room};
 use qpack_base::field::HeaderField;
 use qpack_base::stored_field::{PackedField, StoredField};
-use qpack_table::dynamic::{DynamicTable, DynamicTableEncoder, Index};
+use qpack_table::dynamic::{
+    DynamicTable, DynamicTableEncoder, EntryIndex, FindsEntries, Index, SortedIndex,
+};
 use qpack_wire::block::HeaderPrefix;
 use qpack_wire::stream::DynamicTableSizeUpdate;
 use std::alloc::{AllocError, Allocator, Global};
@@ -69,12 +71,12 @@ pub trait WritesSections {
 
 /// The dynamic table of an encoder, by which its field sections are written.
 #[derive(Debug, Drop)]
-pub struct EncoderTable<F: StoredField = HeaderField> {
+pub struct EncoderTable<I: FindsEntries = SortedIndex, F: StoredField = HeaderField> {
     /// The table.
-    pub table: DynamicTable<Index, F>,
+    pub table: DynamicTable<I, F>,
 }
 
-impl<F: StoredField> EncoderTable<F> {
+impl<I: FindsEntries, F: StoredField> EncoderTable<I, F> {
     /// Gives the block in progress up: what it references is referenced no more.
     pub fn give_up(&mut self)
         ensures { self.new.table ≡ without_references self.old.table }
@@ -83,7 +85,7 @@ impl<F: StoredField> EncoderTable<F> {
     }
 }
 
-impl EncoderTable<PackedField> {
+impl EncoderTable<Index, PackedField> {
     /// Encodes a field section for a stream as `write_section` does, but with a choice for each field. Whatever is
     /// chosen, the section means its fields. At capacity 0 nothing is chosen, and the chooser is not called.
     pub fn write_chosen_section<A: Allocator, B: Allocator, H: AsField, C: Chooses>(
@@ -179,8 +181,8 @@ fn append_alone<A: Allocator, H: AsField>(
 }
 
 /// Ends a block in progress, and returns this required insert count; or gives the block up if that is an error.
-fn end_block<F: StoredField>(
-    handle: DynamicTableEncoder<'_, F>,
+fn end_block<I: FindsEntries, F: StoredField>(
+    handle: DynamicTableEncoder<'_, I, F>,
     appended: Result<usize, NoMemory>,
 ) -> Result<usize, EncoderError>
     ensures ok { IfOk result (λ required. (appended ≡ Ok required)
@@ -261,8 +263,8 @@ const GREATEST_NUMBER: usize = 11;
 /// Fails with `Insertion(MaximumTableSizeTooLarge)` if the capacity is above the maximum or is 2^30 or more, with
 /// `Insertion(MaxTableSizeReached)` if it would evict an entry that is not evictable, and with `Memory` if memory runs
 /// out. On error nothing changes and nothing is written. With eleven bytes of free room it takes no memory.
-pub fn set_dynamic_table_size<A: Allocator, F: StoredField>(
-    table: &mut DynamicTable<Index, F>,
+pub fn set_dynamic_table_size<A: Allocator, I: EntryIndex, F: StoredField>(
+    table: &mut DynamicTable<I, F>,
     encoder_buf: &mut Vec<u8, A>,
     size: usize,
 ) -> Result<(), EncoderError>
@@ -385,7 +387,7 @@ fn move_to_front(bytes: &mut [u8], count: usize)
 
 /// Appends the block of the fields as `append_block` does, by what is chosen for each.
 fn append_chosen_block<A: Allocator, B: Allocator, H: AsField, C: Chooses>(
-    handle: &mut DynamicTableEncoder<'_, PackedField>,
+    handle: &mut DynamicTableEncoder<'_, Index, PackedField>,
     block: &mut Vec<u8, A>,
     encoder_buf: &mut Vec<u8, B>,
     fields: &[H],
@@ -419,7 +421,7 @@ fn append_chosen_block<A: Allocator, B: Allocator, H: AsField, C: Chooses>(
 /// Adds the fields to a block in progress by what is chosen for each, one after the other. On error some of them were
 /// added: what they inserted stays, and its instructions are written.
 fn append_chosen_fields<A: Allocator, B: Allocator, H: AsField, C: Chooses>(
-    handle: &mut DynamicTableEncoder<'_, PackedField>,
+    handle: &mut DynamicTableEncoder<'_, Index, PackedField>,
     fields: &[H],
     chooser: &mut C,
     lines: &mut Vec<u8, A>,

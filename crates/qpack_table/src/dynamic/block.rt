@@ -14,13 +14,13 @@ ghost use Rattle.qpack_table.specs.Handles.{Commits, OpensOrBlocks};
 
 use crate::dynamic::Error;
 use crate::dynamic::entries::Entries;
-use crate::dynamic::index::Index;
+use crate::dynamic::entry_index::EntryIndex;
 use crate::dynamic::open_blocks::{BlockedBlocks, OpenBlocks};
 use crate::dynamic::table::DynamicTable;
 use qpack_base::stored_field::StoredField;
 use std::alloc::AllocError;
 
-impl<F: StoredField> DynamicTable<Index, F> {
+impl<I: EntryIndex, F: StoredField> DynamicTable<I, F> {
     /// Adds a live entry to the references of the block in progress. On error, which is `Memory` only, nothing changes.
     pub(super) fn reference(&mut self, absolute: usize) -> Result<(), AllocError>
         requires live { self.old.dropped < absolute }

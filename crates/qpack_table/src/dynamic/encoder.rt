@@ -16,7 +16,8 @@ ghost use Rattle.qpack_table.specs.Handles.{Finds, Inserts, Commits, IsFoundIn, 
 ghost use Rattle.qpack_table.specs.Handles.{AreHashesIn, InsertsIf, referenced_insertion, unreferenced_insertion};
 
 use crate::dynamic::Error;
-use crate::dynamic::index::Index;
+use crate::dynamic::entry_index::FindsEntries;
+use crate::dynamic::sorted::SortedIndex;
 use crate::dynamic::sought::{FoundField, SoughtField};
 use crate::dynamic::table::DynamicTable;
 use qpack_base::field::{FieldLine, HeaderField};
@@ -67,9 +68,9 @@ pub enum DynamicInsertionResult {
     NotInserted(DynamicLookupResult),
 }
 
-impl<F: StoredField> DynamicTable<Index, F> {
+impl<I: FindsEntries, F: StoredField> DynamicTable<I, F> {
     /// Begins a block of a stream, which references nothing yet. Its base is the insert count.
-    pub fn encoder(&mut self, stream_id: u64) -> DynamicTableEncoder<'_, F>
+    pub fn encoder(&mut self, stream_id: u64) -> DynamicTableEncoder<'_, I, F>
         ensures same_table { result.table.ghost_name ≡ self.entry.ghost_name }
         ensures table { result.table.now ≡ without_references self.old }
         ensures stream { result.stream_id ≡ stream_id }
@@ -86,13 +87,13 @@ impl<F: StoredField> DynamicTable<Index, F> {
 }
 
 /// A block in progress. It must be spent, by `commit` or `release`; its references are kept in the table.
-pub struct DynamicTableEncoder<'a, F: StoredField = HeaderField> {
-    table: &'a mut DynamicTable<Index, F>,
+pub struct DynamicTableEncoder<'a, I: FindsEntries = SortedIndex, F: StoredField = HeaderField> {
+    table: &'a mut DynamicTable<I, F>,
     stream_id: u64,
     base: usize,
 }
 
-impl<F: StoredField> DynamicTableEncoder<'_, F> {
+impl<I: FindsEntries, F: StoredField> DynamicTableEncoder<'_, I, F> {
     /// Returns the capacity of the table in bytes. The live fields fit it.
     pub fn max_size(&self) -> usize
         ensures exact { result ≡ self.now.table.now.capacity }

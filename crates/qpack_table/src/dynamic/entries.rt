@@ -120,30 +120,23 @@ impl<F: StoredField> Entry<F> {
     }
 }
 
-/// Drops the oldest entries, and returns the sum of their sizes.
-pub(super) fn drop_oldest<I: EntryIndex, F: StoredField>(
+/// Pops the oldest entries, and returns the sum of their sizes.
+pub(super) fn pop_oldest<F: StoredField>(
     entries: &mut Entries<F>,
-    index: &mut I,
     vas: &mut VirtualAddressSpace,
     evicted: usize,
 ) -> usize
     requires there { evicted ≤ length entries.old.items }
     requires counted { vas.old.total ≡ vas.old.dropped + length entries.old.items }
-    requires index { I.is_index_of index.old vas.old.dropped entries.old.items }
     requires small { total_size (fields_in (entries_of entries.old.items)) < 2 ^ 63 }
     ensures left { entries.new.items ≡ drop evicted entries.old.items }
     ensures capacity { deque_capacity entries.new ≡ deque_capacity entries.old }
-    ensures index { I.is_index_of index.new vas.new.dropped entries.new.items }
-    ensures room { (key : I.Key) → I.has_room key index.old → I.has_room key index.new }
-    ensures own { (key : I.Key) → I.is_own key index.old → I.is_own key index.new }
     ensures dropped { vas.new ≡ record vas.old { dropped = vas.old.dropped + evicted } }
     ensures freed { result + total_size (drop evicted (fields_in (entries_of entries.old.items))) ≡
         total_size (fields_in (entries_of entries.old.items)) }
 {
     let mut freed = 0;
     for _ in 0..evicted {
-        let dropped = vas.total_inserted() - entries.len();
-        index.leave(entries, dropped);
         let Some(entry) = entries.pop_front() else {
             break;
         };
@@ -212,7 +205,7 @@ pub(super) fn replace_oldest<I: EntryIndex, F: StoredField>(
     let key = index.own_key(key, &entry.as_line());
     make_room(entries, ENTRIES)?;
     index.reserve(entries, vas.total_dropped(), key)?;
-    let freed = drop_oldest(entries, index, vas, evicted);
+    let freed = index.drop_oldest(entries, vas, evicted);
     *mem_size = *mem_size - freed + size;
     vas.add();
     entries.push_back_reserved(entry);

@@ -1,18 +1,27 @@
 //! What a table keeps beside its entries to find one by its field: an index, or nothing if it is never used.
 
-ghost use Rattle.std.specs.Prelude.{◌≡◌, ℕ, ◌+◌, ◌^◌, ◌<◌, ◌≤◌, ⊤, List, [], ◌∷◌, ◌++◌, OnOk, length, drop};
-ghost use Rattle.qpack_base.specs.HeaderFields.{field_of, line_of};
-ghost use Rattle.qpack_spec.specs.Field.{Field};
+ghost use Rattle.std.specs.Prelude.{◌≡◌, ℕ, ◌+◌, ◌^◌, ◌<◌, ◌≤◌, ⊤, List, [], ◌∷◌, ◌++◌, OnOk, IfSome, length, drop};
+ghost use Rattle.qpack_base.specs.HeaderFields.{line_of};
+ghost use Rattle.std.specs.VecDeque.{deque_capacity};
+ghost use Rattle.qpack_spec.specs.Field.{Field, is_field, has_name, total_size};
+ghost use Rattle.qpack_spec.specs.Table.{fields_in};
+ghost use Rattle.qpack_table.specs.Hashes.{name_hash};
+ghost use Rattle.qpack_table.specs.Indexes.{AreSeededHashesOf, IsNewestIn};
+ghost use Rattle.qpack_table.specs.Rows.{Counts};
+ghost use Rattle.qpack_table.specs.Tables.{entries_of};
 ghost use Rattle.qpack_table.specs.Entries.{Entry as EntryView};
 
-use crate::dynamic::entries::Entries;
-use crate::dynamic::index::Index;
+use crate::dynamic::comparing::Steps;
+use crate::dynamic::entries::{Entries, pop_oldest};
+use crate::dynamic::index::{Index, SeededHashes};
+use crate::dynamic::sorted::SortedIndex;
+use crate::vas::VirtualAddressSpace;
 use qpack_base::field::FieldLine;
 use qpack_base::stored_field::StoredField;
 use std::alloc::AllocError;
 
 /// What is kept beside the entries of a [`DynamicTable`](crate::dynamic::DynamicTable), as a map is over its hasher:
-/// [`Index`], by which an encoder finds them, or [`NoIndex`].
+/// [`SortedIndex`] or [`Index`], by which an encoder finds them, or [`NoIndex`].
 pub trait EntryIndex: Drop {
     /// What is known of a field when its entry is added.
     type Key: Copy;
@@ -26,7 +35,7 @@ pub trait EntryIndex: Drop {
     // The key is one that it finds entries by.
     ghost is_own: { Self.Key → Self → Type 0 };
 
-    // It has no rows, and no memory for any.
+    // It has no entries, and no memory for any.
     ghost has_no_rows: { Self → Type 0 };
 
     // There is room for one more entry, with this key.
@@ -73,13 +82,70 @@ pub trait EntryIndex: Drop {
         ensures index { is_index_of self.new dropped entries.now.items }
         ensures own { (other : Self.Key) → is_own other self.old → is_own other self.new };
 
-    /// Removes the oldest entry, which is about to be popped. It takes no memory, and the room that was made stays.
-    fn leave<F: StoredField>(&mut self, entries: &Entries<F>, dropped: usize)
-        requires some { 0 < length entries.now.items }
-        requires index { is_index_of self.old dropped entries.now.items }
-        ensures index { is_index_of self.new (dropped + 1) (drop 1 entries.now.items) }
+    /// Drops the oldest entries, of the list too, and returns the sum of their sizes. It takes no memory, and the room that
+    /// was made stays.
+    fn drop_oldest<F: StoredField>(
+        &mut self,
+        entries: &mut Entries<F>,
+        vas: &mut VirtualAddressSpace,
+        evicted: usize,
+    ) -> usize
+        requires there { evicted ≤ length entries.old.items }
+        requires counted { vas.old.total ≡ vas.old.dropped + length entries.old.items }
+        requires index { is_index_of self.old vas.old.dropped entries.old.items }
+        requires small { total_size (fields_in (entries_of entries.old.items)) < 2 ^ 63 }
+        ensures left { entries.new.items ≡ drop evicted entries.old.items }
+        ensures capacity { deque_capacity entries.new ≡ deque_capacity entries.old }
+        ensures index { is_index_of self.new vas.new.dropped entries.new.items }
+        ensures room { (key : Self.Key) → has_room key self.old → has_room key self.new }
         ensures own { (key : Self.Key) → is_own key self.old → is_own key self.new }
-        ensures room { (key : Self.Key) → has_room key self.old → has_room key self.new };
+        ensures dropped { vas.new ≡ record vas.old { dropped = vas.old.dropped + evicted } }
+        ensures freed { result + total_size (drop evicted (fields_in (entries_of entries.old.items))) ≡
+            total_size (fields_in (entries_of entries.old.items)) };
+
+    // What blocks reference changes nothing: it is the index of other entries with the same fields.
+    ghost same_fields: { (index : Self) (dropped : ℕ) (old new : List EntryView) → entries_of new ≡ entries_of old
+        → is_index_of index dropped old → is_index_of index dropped new };
+}
+
+/// An index by which an encoder finds entries: [`SortedIndex`], or [`Index`] by hashes.
+pub trait FindsEntries: EntryIndex {
+    /// Returns the hashes of a field, if it finds entries by them.
+    fn hashes_of(&self, field: &FieldLine<'_>) -> Option<SeededHashes>
+        ensures { IfSome result (λ known. AreSeededHashesOf known (line_of field.now).field) };
+
+    /// Returns the key of a field whose hashes may be known.
+    fn key_of_known(&self, field: &FieldLine<'_>, known: Option<SeededHashes>) -> Self::Key
+        requires { IfSome known (λ known. AreSeededHashesOf known (line_of field.now).field) }
+        ensures { Self.is_key_of result (line_of field.now).field };
+
+    /// Returns the newest entry with a field whose hashes may be known.
+    fn newest_equal<F: StoredField>(
+        &self,
+        entries: &Entries<F>,
+        dropped: usize,
+        field: &FieldLine<'_>,
+        known: Option<SeededHashes>,
+        steps: &mut Steps,
+    ) -> Option<usize>
+        requires few { dropped + length entries.now.items < 2 ^ 64 }
+        requires index { Self.is_index_of self.now dropped entries.now.items }
+        requires known { IfSome known (λ known. AreSeededHashesOf known (line_of field.now).field) }
+        ensures found { IsNewestIn dropped (entries_of entries.now.items) (is_field (line_of field.now).field) result }
+        ensures steps { Counts (length entries.now.items) steps.old.count steps.new.count };
+
+    /// Returns the newest entry with a name whose hash may be known.
+    fn newest_of_name<F: StoredField>(
+        &self,
+        entries: &Entries<F>,
+        dropped: usize,
+        name: &[u8],
+        known: Option<SeededHashes>,
+    ) -> Option<usize>
+        requires few { dropped + length entries.now.items < 2 ^ 64 }
+        requires index { Self.is_index_of self.now dropped entries.now.items }
+        requires known { IfSome known (λ known. known.hashes.name ≡ name_hash known.seed name.now) }
+        ensures found { IsNewestIn dropped (entries_of entries.now.items) (has_name name.now) result };
 }
 
 /// No index: of a table that only receives, entries are asked for by their places alone.
@@ -98,6 +164,8 @@ impl EntryIndex for NoIndex {
     ghost has_no_rows = { λ _. ⊤ };
 
     ghost has_room = { λ _ _. ⊤ };
+
+    ghost same_fields = { λ _ _ _ _ _ _. tt };
 
     fn key_of(&self, _field: &FieldLine<'_>) -> () {}
 
@@ -118,5 +186,12 @@ impl EntryIndex for NoIndex {
 
     fn enter<F: StoredField>(&mut self, _entries: &Entries<F>, _dropped: usize, _key: ()) {}
 
-    fn leave<F: StoredField>(&mut self, _entries: &Entries<F>, _dropped: usize) {}
+    fn drop_oldest<F: StoredField>(
+        &mut self,
+        entries: &mut Entries<F>,
+        vas: &mut VirtualAddressSpace,
+        evicted: usize,
+    ) -> usize {
+        pop_oldest(entries, vas, evicted)
+    }
 }

@@ -1,12 +1,13 @@
 //! The index of the live entries, by which the newest entry with a field, or with a name, is found. It keeps only
 //! hashes and absolute indexes: pass each call the entries, and how many were dropped before them.
 
-ghost use Rattle.std.specs.Prelude.{◌≡◌, ◌+◌, ◌-◌, ◌/◌, ◌^◌, ◌<◌, ◌≤◌, ℕ, [], OnOk, OnErr, length, drop, min};
+ghost use Rattle.std.specs.Prelude.{◌≡◌, ◌+◌, ◌-◌, ◌/◌, ◌^◌, ◌<◌, ◌≤◌, ℕ, [], OnOk, OnErr, length, drop};
 ghost use Rattle.std.specs.Prelude.{vec_capacity};
 ghost use Rattle.qpack_base.specs.HeaderFields.{line_of};
 ghost use Rattle.qpack_spec.specs.Field.{is_field, has_name};
 ghost use Rattle.qpack_table.specs.Rows.{field_at, Counts, slots_a_row};
 ghost use Rattle.qpack_table.specs.Tables.{IsIndexOfEntries, entries_of, live_fields};
+ghost use Rattle.qpack_table.specs.SameFields.{with_same_fields};
 ghost use Rattle.qpack_table.specs.declared.dynamic.index.hash.Hashes.{Hashes};
 ghost use Rattle.qpack_table.specs.Hashes.{name_hash};
 ghost use Rattle.qpack_table.specs.Indexes.{AreHashesOf, AreSeededHashesOf, IsIndexOf, HasRoomForEntry, IsNewestIn};
@@ -17,46 +18,18 @@ mod hash;
 mod row;
 mod rows;
 
+use crate::dynamic::comparing::{Part, Steps};
 use crate::dynamic::entries::Entries;
-use crate::dynamic::entry_index::EntryIndex;
+use crate::dynamic::entry_index::{EntryIndex, FindsEntries};
 use crate::dynamic::growth::{ROWS, ROWS_OF_NAMES, SLOTS_A_ROW};
 use crate::dynamic::index::hash::hash_name;
 pub(super) use crate::dynamic::index::hash::{Hashes, SeededHashes};
-use crate::dynamic::index::row::{Part, Sought};
+use crate::dynamic::index::row::Sought;
 use crate::dynamic::index::rows::Rows;
+use crate::vas::VirtualAddressSpace;
 use qpack_base::field::FieldLine;
 use qpack_base::stored_field::StoredField;
 use std::alloc::{AllocError, Global};
-
-/// A count of the comparisons of a sought field with entries, at most 2^64 - 1.
-#[derive(Debug, Drop)]
-pub struct Steps {
-    count: u64,
-}
-
-impl Steps {
-    /// Returns a counter of no comparisons.
-    pub fn new() -> Steps
-        ensures { result.count ≡ 0 }
-    {
-        Steps { count: 0 }
-    }
-
-    /// Returns how many comparisons were made.
-    pub fn count(&self) -> u64
-        ensures { result ≡ self.now.count }
-    {
-        self.count
-    }
-
-    /// Counts one more comparison.
-    pub(super) fn raise(&mut self)
-        ensures raised { self.new.count ≡ min (self.old.count + 1) (2 ^ 64 - 1) }
-        ensures grows { self.old.count ≤ self.new.count }
-    {
-        self.count = self.count.saturating_add(1);
-    }
-}
 
 /// The newest live entry of each different field, and of each different name. A row of either has eight of them on
 /// average, or fewer.
@@ -355,6 +328,9 @@ impl EntryIndex for Index {
 
     ghost has_room = { λ known index. HasRoomForEntry known.hashes index };
 
+    ghost same_fields = { λ index dropped old new same is.
+        with_same_fields (λ live count. IsIndexOf dropped live count index) old new same is };
+
     fn key_of(&self, field: &FieldLine<'_>) -> SeededHashes {
         SeededHashes::of(self.seed(), field)
     }
@@ -383,8 +359,73 @@ impl EntryIndex for Index {
         Index::enter(self, entries, dropped, dropped + entries.len(), key.hashes);
     }
 
+    fn drop_oldest<F: StoredField>(
+        &mut self,
+        entries: &mut Entries<F>,
+        vas: &mut VirtualAddressSpace,
+        evicted: usize,
+    ) -> usize {
+        let mut freed = 0;
+        for _ in 0..evicted {
+            let dropped = vas.total_inserted() - entries.len();
+            self.leave(entries, dropped);
+            let Some(entry) = entries.pop_front() else {
+                break;
+            };
+            freed += entry.mem_size();
+            vas.drop();
+        }
+        freed
+    }
+}
+
+impl FindsEntries for Index {
     #[inline(always)]
-    fn leave<F: StoredField>(&mut self, entries: &Entries<F>, dropped: usize) {
-        Index::leave(self, entries, dropped);
+    fn hashes_of(&self, field: &FieldLine<'_>) -> Option<SeededHashes> {
+        Some(SeededHashes::of(self.seed(), field))
+    }
+
+    #[inline(always)]
+    fn key_of_known(&self, field: &FieldLine<'_>, known: Option<SeededHashes>) -> SeededHashes {
+        match known {
+            Some(known) => known.reseeded(self.seed(), field),
+            None => SeededHashes::of(self.seed(), field),
+        }
+    }
+
+    #[inline(always)]
+    fn newest_equal<F: StoredField>(
+        &self,
+        entries: &Entries<F>,
+        dropped: usize,
+        field: &FieldLine<'_>,
+        known: Option<SeededHashes>,
+        steps: &mut Steps,
+    ) -> Option<usize> {
+        match known {
+            Some(known) => {
+                let hashes = known.reseeded(self.seed(), field).hashes;
+                self.newest_hashed(entries, dropped, field, hashes, steps)
+            }
+            None => Index::newest_equal(self, entries, dropped, field, steps),
+        }
+    }
+
+    #[inline(always)]
+    fn newest_of_name<F: StoredField>(
+        &self,
+        entries: &Entries<F>,
+        dropped: usize,
+        name: &[u8],
+        known: Option<SeededHashes>,
+    ) -> Option<usize> {
+        let mut steps = Steps::new();
+        match known {
+            Some(known) => {
+                let hash = known.name_under(self.seed(), name);
+                self.newest_hashed_name(entries, dropped, name, hash, &mut steps)
+            }
+            None => Index::newest_of_name(self, entries, dropped, name, &mut steps),
+        }
     }
 }

@@ -13,18 +13,17 @@ ghost use Rattle.qpack_table.specs.declared.dynamic.Error.TheVariants.{Memory as
 ghost use Rattle.qpack_spec.specs.Handle as handle;
 ghost use Rattle.qpack_table.specs.Handles.{Finds, Inserts, InsertsIf, IsSoughtIn, lookup_of, insertion_of, kept_index};
 ghost use Rattle.qpack_table.specs.Handles.{referenced_insertion, unreferenced_insertion};
-ghost use Rattle.qpack_table.specs.Indexes.{AreSeededHashesOf};
 
 use crate::dynamic::Error;
 use crate::dynamic::encoder::{DynamicInsertionResult, DynamicLookupResult};
-use crate::dynamic::index::{Index, SeededHashes};
+use crate::dynamic::entry_index::FindsEntries;
 use crate::dynamic::sought::SoughtField;
 use crate::dynamic::table::{DynamicTable, MOST_INSERTIONS};
 use qpack_base::field::FieldLine;
 use qpack_base::static_::StaticTable;
 use qpack_base::stored_field::StoredField;
 
-impl<F: StoredField> DynamicTable<Index, F> {
+impl<I: FindsEntries, F: StoredField> DynamicTable<I, F> {
     /// Finds the newest entry that is this field, and references it, if it may be referenced.
     pub(super) fn find_field(
         &mut self,
@@ -199,10 +198,10 @@ impl<F: StoredField> DynamicTable<Index, F> {
             (with_entry self.old (sent_entry (line_of field.now).field)) (insert_count self.old + 1)) }
         ensures err { IfErr result (λ e. (e ≡ NoRoom) × (self.new ≡ self.old)) }
     {
-        let hashes = self.hashes_of(field, sought);
-        let insertion = self.insertion_of(base, field, hashes, sought, evicted);
+        let insertion = self.insertion_of(base, field, sought, evicted);
+        let key = self.key_of_sought(field, sought);
         let copy = F::copy_of(self.allocator(), field, sought.static_name)?;
-        self.insert_sent(copy, hashes, evicted)?;
+        self.insert_sent(copy, key, evicted)?;
         Ok(insertion)
     }
 
@@ -264,10 +263,10 @@ impl<F: StoredField> DynamicTable<Index, F> {
         ensures new { OnOk result (self.new ≡ with_entry self.old (sent_entry (line_of field.now).field)) }
         ensures err { IfErr result (λ e. (e ≡ NoRoom) × (self.new ≡ self.old)) }
     {
-        let hashes = self.hashes_of(field, sought);
-        let insertion = self.insertion_of(base, field, hashes, sought, evicted);
+        let insertion = self.insertion_of(base, field, sought, evicted);
+        let key = self.key_of_sought(field, sought);
         let copy = F::copy_of(self.allocator(), field, sought.static_name)?;
-        self.insert_hashed(copy, true, evicted, hashes)?;
+        self.insert_hashed(copy, true, evicted, key)?;
         Ok(insertion)
     }
 
@@ -278,11 +277,9 @@ impl<F: StoredField> DynamicTable<Index, F> {
         &self,
         base: usize,
         field: &FieldLine<'_>,
-        hashes: SeededHashes,
         sought: &SoughtField,
         evicted: usize,
     ) -> DynamicInsertionResult
-        requires hashes { AreSeededHashesOf hashes (line_of field.now).field }
         requires sought { IsSoughtIn self.now (line_of field.now).field sought.now }
         requires few { insert_count self.now < 2 ^ 62 }
         requires evicted { evicted ≤ length self.now.live }
@@ -307,7 +304,7 @@ impl<F: StoredField> DynamicTable<Index, F> {
                 absolute,
             };
         }
-        match above(self.newest_hashed_name(field.name, hashes), dropped) {
+        match above(self.newest_sought_name(field.name, sought), dropped) {
             Some(newest) => DynamicInsertionResult::InsertedWithNameRef {
                 postbase,
                 relative: total - newest,

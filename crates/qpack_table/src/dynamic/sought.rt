@@ -13,8 +13,10 @@ ghost use Rattle.qpack_table.specs.Indexes.{AreSeededHashesOf};
 ghost use Rattle.qpack_table.specs.Rows.{Counts};
 
 use crate::dynamic::Error;
+use crate::dynamic::comparing::Steps;
 use crate::dynamic::encoder::DynamicLookupResult;
-use crate::dynamic::index::{Index, SeededHashes, Steps};
+use crate::dynamic::entry_index::FindsEntries;
+use crate::dynamic::index::SeededHashes;
 use crate::dynamic::table::DynamicTable;
 use crate::vas::AbsoluteIndex;
 use qpack_base::field::{FieldLine, HeaderField};
@@ -98,7 +100,7 @@ impl FoundField {
     }
 }
 
-impl<F: StoredField> DynamicTable<Index, F> {
+impl<I: FindsEntries, F: StoredField> DynamicTable<I, F> {
     /// Seeks a field; `static_name` is the index of its name in the static table, if it has one. If there is no entry,
     /// nothing is hashed.
     #[inline(always)]
@@ -113,21 +115,21 @@ impl<F: StoredField> DynamicTable<Index, F> {
                 static_name,
             };
         }
-        let hashes = SeededHashes::of(self.index.seed(), field);
+        let hashes = self.index.hashes_of(field);
         SoughtField {
-            hashes: Some(hashes),
+            hashes,
             newest: self.newest_hashed(field, hashes),
             static_name,
         }
     }
 
-    /// Returns the hashes of a field that was sought, by which the index finds it.
+    /// Returns the key of a field that was sought, by which the index finds it.
     #[inline(always)]
-    pub(super) fn hashes_of(&self, field: &FieldLine<'_>, sought: &SoughtField) -> SeededHashes
+    pub(super) fn key_of_sought(&self, field: &FieldLine<'_>, sought: &SoughtField) -> I::Key
         requires { AreHashesIn (line_of field.now).field sought.now }
-        ensures { AreSeededHashesOf result (line_of field.now).field }
+        ensures { I.is_key_of result (line_of field.now).field }
     {
-        sought.hashes_under(self.index.seed(), field)
+        self.index.key_of_known(field, sought.hashes)
     }
 
     /// Seeks a field, and finds the newest entry that is it, which is referenced if it may be.
@@ -157,14 +159,11 @@ impl<F: StoredField> DynamicTable<Index, F> {
         requires { IfSome sought.now.hashes (λ known. known.hashes.name ≡ name_hash known.seed name.now) }
         ensures { result ≡ newest_index self.now (has_name name.now) }
     {
-        match sought.hashes {
-            Some(hashes) => self.newest_hashed_name(name, hashes),
-            None => self.newest_of_name(name),
-        }
+        self.newest_known_name(name, sought.hashes)
     }
 }
 
-impl<F: StoredField> DynamicTable<Index, F> {
+impl<I: FindsEntries, F: StoredField> DynamicTable<I, F> {
     /// Returns the absolute index of the newest live entry with the field. It is compared with at most as many entries
     /// as the number of live ones has binary digits, and each comparison is counted.
     pub fn newest_equal(&self, field: &HeaderField, steps: &mut Steps) -> Option<AbsoluteIndex>
@@ -180,8 +179,7 @@ impl<F: StoredField> DynamicTable<Index, F> {
         ensures found { result ≡ newest_index self.now (is_field (line_of field.now).field) }
         ensures steps { Counts (length self.now.live) steps.old.count steps.new.count }
     {
-        self.index
-            .newest_equal(&self.entries, self.vas.total_dropped(), field, steps)
+        self.index.newest_equal(&self.entries, self.vas.total_dropped(), field, None, steps)
     }
 
     /// Returns the absolute index of the newest live entry with the field, uncounted.
@@ -191,57 +189,39 @@ impl<F: StoredField> DynamicTable<Index, F> {
         self.newest_line(field, &mut Steps::new())
     }
 
-    /// Returns the absolute index of the newest live entry with the field, which has these hashes.
+    /// Returns the absolute index of the newest live entry with the field, whose hashes may be known.
     #[inline(always)]
     pub(super) fn newest_hashed(
         &self,
         field: &FieldLine<'_>,
-        hashes: SeededHashes,
+        known: Option<SeededHashes>,
     ) -> Option<AbsoluteIndex>
-        requires { AreSeededHashesOf hashes (line_of field.now).field }
+        requires { IfSome known (λ known. AreSeededHashesOf known (line_of field.now).field) }
         ensures { result ≡ newest_index self.now (is_field (line_of field.now).field) }
     {
-        self.index.newest_hashed(
+        self.index.newest_equal(
             &self.entries,
             self.vas.total_dropped(),
             field,
-            hashes.reseeded(self.index.seed(), field).hashes,
+            known,
             &mut Steps::new(),
         )
     }
 
-    /// Returns the absolute index of the newest live entry with the name, whose comparisons are bounded and counted as
-    /// those of [`DynamicTable::newest_equal`].
-    pub fn newest_named(&self, name: &[u8], steps: &mut Steps) -> Option<AbsoluteIndex>
-        ensures found { result ≡ newest_index self.now (has_name name.now) }
-        ensures steps { Counts (length self.now.live) steps.old.count steps.new.count }
-    {
-        self.index
-            .newest_of_name(&self.entries, self.vas.total_dropped(), name, steps)
-    }
-
-    /// Returns the absolute index of the newest live entry with the name, uncounted.
+    /// Returns the absolute index of the newest live entry with the name.
     pub(super) fn newest_of_name(&self, name: &[u8]) -> Option<AbsoluteIndex>
         ensures { result ≡ newest_index self.now (has_name name.now) }
     {
-        self.newest_named(name, &mut Steps::new())
+        self.newest_known_name(name, None)
     }
 
-    /// Returns the absolute index of the newest live entry with the name, which has these hashes.
-    pub(super) fn newest_hashed_name(
-        &self,
-        name: &[u8],
-        hashes: SeededHashes,
-    ) -> Option<AbsoluteIndex>
-        requires { hashes.hashes.name ≡ name_hash hashes.seed name.now }
+    /// Returns the absolute index of the newest live entry with the name, whose hash may be known.
+    #[inline(always)]
+    fn newest_known_name(&self, name: &[u8], known: Option<SeededHashes>) -> Option<AbsoluteIndex>
+        requires { IfSome known (λ known. known.hashes.name ≡ name_hash known.seed name.now) }
         ensures { result ≡ newest_index self.now (has_name name.now) }
     {
-        self.index.newest_hashed_name(
-            &self.entries,
-            self.vas.total_dropped(),
-            name,
-            hashes.name_under(self.index.seed(), name),
-            &mut Steps::new(),
-        )
+        self.index
+            .newest_of_name(&self.entries, self.vas.total_dropped(), name, known)
     }
 }

@@ -14,7 +14,6 @@ ghost use Rattle.qpack_spec.specs.Reading.{relative_field, post_base_field};
 ghost use Rattle.qpack_spec.specs.Window.{absolute_entry, eviction_count, relative_entry, greatest_capacity};
 ghost use Rattle.qpack_spec.specs.Window.{maximum_capacity};
 ghost use Rattle.std.specs.Option.{option_map};
-ghost use Rattle.qpack_table.specs.Indexes.{AreSeededHashesOf};
 ghost use Rattle.qpack_table.specs.Positions.{positions_of};
 ghost use Rattle.qpack_table.specs.Tables.{IsEvictableAt, LooksUp, IsInserted, entries_of, Changes, ChangesWithMemory};
 ghost use Rattle.qpack_table.specs.Tables.{refusal_of};
@@ -25,10 +24,12 @@ ghost use Rattle.qpack_table.specs.declared.dynamic.Error.TheVariants.{MaximumTa
 use crate::dynamic::Error;
 use crate::dynamic::block::make_room;
 use crate::dynamic::capacities::{Capacities, GREATEST_CAPACITY};
-use crate::dynamic::entries::{Entries, Entry, drop_oldest, give_back_room, replace_oldest};
+use crate::dynamic::comparing::{Part, Steps, compare_entry};
+use crate::dynamic::entries::{Entries, Entry, give_back_room, replace_oldest};
 use crate::dynamic::entry_index::{EntryIndex, NoIndex};
-use crate::dynamic::index::{Index, SeededHashes};
+use crate::dynamic::index::Index;
 use crate::dynamic::open_blocks::{BlockedBlocks, OpenBlocks};
+use crate::dynamic::sorted::SortedIndex;
 use crate::vas::VirtualAddressSpace;
 use qpack_base::field::{FieldLine, HeaderField};
 use qpack_base::stored_field::{PackedField, StoredField};
@@ -44,7 +45,7 @@ pub(super) const MOST_INSERTIONS: usize = 1 << 62;
 /// The dynamic table of one end, with what it keeps beside its entries to find them: an index, unless it only receives
 /// ([`ReceivedTable`]). `F` is how an entry stores its field.
 #[derive(Debug, Drop)]
-pub struct DynamicTable<I: EntryIndex = Index, F: StoredField = HeaderField> {
+pub struct DynamicTable<I: EntryIndex = SortedIndex, F: StoredField = HeaderField> {
     /// The live entries, the oldest first.
     pub(super) entries: Entries<F>,
     pub(super) vas: VirtualAddressSpace,
@@ -99,7 +100,7 @@ impl DynamicTable {
     pub fn new(alloc: Global) -> DynamicTable
         ensures { result ≡ empty_table 0 None 0 }
     {
-        DynamicTable::with_seed(alloc, 0)
+        DynamicTable::with_index(alloc, SortedIndex::new(alloc))
     }
 }
 
@@ -111,7 +112,9 @@ impl<F: StoredField> DynamicTable<Index, F> {
     {
         DynamicTable::with_index(alloc, Index::new(alloc, seed))
     }
+}
 
+impl<I: EntryIndex, F: StoredField> DynamicTable<I, F> {
     /// Sets how many blocks may be blocked at once, at most 65,534 (RFC 9204, section 2.1.2).
     pub fn set_max_blocked(&mut self, max: usize) -> Result<(), Error>
         ensures ok { OnOk result ((max < 65535) × (self.new ≡ record self.old { limit = max })) }
@@ -124,16 +127,16 @@ impl<F: StoredField> DynamicTable<Index, F> {
         Ok(())
     }
 
-    /// Inserts a field that an encoder sends, which has these hashes, and references it in the block in progress. On
+    /// Inserts a field that an encoder sends, which has this key, and references it in the block in progress. On
     /// error, which is for memory only, nothing changes.
     #[inline(always)]
     pub(super) fn insert_sent(
         &mut self,
         field: F,
-        hashes: SeededHashes,
+        key: I::Key,
         evicted: usize,
     ) -> Result<(), AllocError>
-        requires hashes { AreSeededHashesOf hashes (F.field field) }
+        requires key { I.is_key_of key (F.field field) }
         requires few { insert_count self.old < 2 ^ 62 }
         requires fits { field_size (F.field field) ≤ self.old.capacity }
         requires evicted { evicted ≡ eviction_count_for self.old (F.field field) }
@@ -155,7 +158,7 @@ impl<F: StoredField> DynamicTable<Index, F> {
             &mut self.mem_size,
             evicted,
             entry,
-            hashes,
+            key,
         )?;
         self.referenced.push_reserved(self.vas.total_inserted());
         Ok(())
@@ -236,8 +239,7 @@ impl<I: EntryIndex, F: StoredField> DynamicTable<I, F> {
         }
         match self.entries.get(absolute - dropped - 1) {
             Some(entry) => {
-                let entry = entry.as_line();
-                field.name == entry.name && field.value == entry.value
+                compare_entry(Part::Whole(0), field, entry, &mut Steps::new()).is_eq()
             }
             None => false,
         }
@@ -469,7 +471,9 @@ impl<I: EntryIndex, F: StoredField> DynamicTable<I, F> {
         ensures { Changes result (with_capacity self.old size) self.old self.new }
     {
         let evicted = self.evicted_for_capacity(size)?;
-        let freed = drop_oldest(&mut self.entries, &mut self.index, &mut self.vas, evicted);
+        let freed = self
+            .index
+            .drop_oldest(&mut self.entries, &mut self.vas, evicted);
         give_back_room(&mut self.entries, &mut self.index);
         self.mem_size -= freed;
         self.capacities.set(size);
@@ -503,7 +507,7 @@ impl<I: EntryIndex, F: StoredField> DynamicTable<I, F> {
 
 /// A table under the base of a block, whose lines reference its entries.
 #[derive(Debug, Drop)]
-pub struct DynamicTableDecoder<'a, I: EntryIndex = Index, F: StoredField = HeaderField> {
+pub struct DynamicTableDecoder<'a, I: EntryIndex = SortedIndex, F: StoredField = HeaderField> {
     table: &'a DynamicTable<I, F>,
     base: usize,
 }

@@ -3,7 +3,7 @@
 use qpack_base::field::HeaderField;
 use qpack_table::dynamic::{
     DynamicInsertionResult, DynamicLookupResult, DynamicTable, DynamicTableEncoder, EntryIndex,
-    Error,
+    Error, Index,
 };
 use qpack_testing::{field, same};
 use std::alloc::Global;
@@ -16,8 +16,19 @@ pub fn table(alloc: Global, capacity: usize, limit: usize) -> Result<DynamicTabl
     Ok(table)
 }
 
+/// An empty table of this capacity with the index of the ends, by hashes.
+pub fn hashed_table(alloc: Global, capacity: usize) -> Result<DynamicTable<Index>, Error> {
+    let mut table = DynamicTable::with_seed(alloc, 0);
+    set_bounds(&mut table, capacity, 0)?;
+    Ok(table)
+}
+
 /// Sets the capacity and the limit of a table.
-fn set_bounds(table: &mut DynamicTable, capacity: usize, limit: usize) -> Result<(), Error> {
+fn set_bounds<I: EntryIndex>(
+    table: &mut DynamicTable<I>,
+    capacity: usize,
+    limit: usize,
+) -> Result<(), Error> {
     table.set_max_size(capacity)?;
     table.set_max_blocked(limit)
 }

@@ -1,8 +1,9 @@
-//! The newest equal live entry, and how many entries are looked at for it.
+//! The newest equal live entry, and how many entries are looked at for it, by either index.
 
-use crate::table::calls::{answer_to_put, put, table};
-use qpack_base::field::HeaderField;
-use qpack_table::dynamic::{DynamicTable, Error, Steps};
+use crate::table::calls::{answer_to_put, hashed_table, put, table};
+use qpack_base::field::{FieldLine, HeaderField};
+use qpack_base::static_::StaticTable;
+use qpack_table::dynamic::{DynamicTable, EntryIndex, Error, FindsEntries, Steps};
 use qpack_testing::{Numbers, field, same};
 use std::alloc::Global;
 use std::test::Fail;
@@ -11,9 +12,9 @@ use std::test::Fail;
 const CASES: usize = 250;
 
 /// Puts a field. One that is larger than the capacity is left out.
-fn put_or_leave(
+fn put_or_leave<I: EntryIndex>(
     alloc: Global,
-    table: &mut DynamicTable,
+    table: &mut DynamicTable<I>,
     name: &[u8],
     value: &[u8],
 ) -> Result<(), Fail> {
@@ -24,7 +25,7 @@ fn put_or_leave(
 }
 
 /// The newest live entry with a field, by a scan from the newest on.
-fn scanned(table: &DynamicTable, sought: &HeaderField) -> Option<usize> {
+fn scanned<I: EntryIndex>(table: &DynamicTable<I>, sought: &HeaderField) -> Option<usize> {
     let total = table.total_inserted();
     for relative in 0..total {
         match table.get_relative(relative) {
@@ -37,7 +38,7 @@ fn scanned(table: &DynamicTable, sought: &HeaderField) -> Option<usize> {
 }
 
 /// The newest live entry with a name, by a scan from the newest on.
-fn scanned_name(table: &DynamicTable, name: &[u8]) -> Option<usize> {
+fn scanned_name<I: EntryIndex>(table: &DynamicTable<I>, name: &[u8]) -> Option<usize> {
     let total = table.total_inserted();
     for relative in 0..total {
         match table.get_relative(relative) {
@@ -50,7 +51,7 @@ fn scanned_name(table: &DynamicTable, name: &[u8]) -> Option<usize> {
 }
 
 /// How many entries are live.
-fn live_count(table: &DynamicTable) -> usize {
+fn live_count<I: EntryIndex>(table: &DynamicTable<I>) -> usize {
     for relative in 0..table.total_inserted() {
         if table.get_relative(relative).is_err() {
             return relative;
@@ -59,15 +60,20 @@ fn live_count(table: &DynamicTable) -> usize {
     table.total_inserted()
 }
 
-/// The newest entry with a field is that of a scan, and no more entries were looked at than their number has digits.
-fn finds(alloc: Global, table: &DynamicTable, name: &[u8], value: &[u8]) -> Result<(), Fail> {
+/// The newest entry with a field, and the newest with its name, are those of a scan.
+fn finds<I: FindsEntries>(
+    alloc: Global,
+    table: &mut DynamicTable<I>,
+    name: &[u8],
+    value: &[u8],
+) -> Result<(), Fail> {
     let sought = field(alloc, name, value)?;
     finds_field(table, &sought)?;
-    finds_name(table, name)
+    same(newest_name(table, name), scanned_name(table, name))
 }
 
 /// The newest entry with this field is that of a scan, and no more entries were compared than their number has digits.
-fn finds_field(table: &DynamicTable, sought: &HeaderField) -> Result<(), Fail> {
+fn finds_field<I: FindsEntries>(table: &DynamicTable<I>, sought: &HeaderField) -> Result<(), Fail> {
     let mut steps = Steps::new();
     let found = table.newest_equal(sought, &mut steps);
     same(found, scanned(table, sought))?;
@@ -75,13 +81,14 @@ fn finds_field(table: &DynamicTable, sought: &HeaderField) -> Result<(), Fail> {
     same(steps.count() <= u64::from(digits), true)
 }
 
-/// The newest entry with this name is that of a scan, and no more entries were compared than their number has digits.
-fn finds_name(table: &DynamicTable, name: &[u8]) -> Result<(), Fail> {
-    let mut steps = Steps::new();
-    let found = table.newest_named(name, &mut steps);
-    same(found, scanned_name(table, name))?;
-    let digits = usize::BITS - live_count(table).leading_zeros();
-    same(steps.count() <= u64::from(digits), true)
+/// The newest entry with this name, as a block finds it.
+fn newest_name<I: FindsEntries>(table: &mut DynamicTable<I>, name: &[u8]) -> Option<usize> {
+    let block = table.encoder(0);
+    let field = FieldLine::new(name, b"");
+    let sought = block.seek(&field, StaticTable::find_name(field.name));
+    let newest = block.newest_name(&field, &sought);
+    block.release();
+    newest
 }
 
 /// A byte below a bound.
@@ -91,12 +98,15 @@ fn below(numbers: &mut Numbers, bound: u8) -> u8 {
 
 #[test]
 fn one_of_a_hundred_is_found_in_eight_steps(rt: HostRuntime) -> Result<(), Fail> {
-    let mut table = table(rt.alloc(), 4096, 0)?;
-    is_found_of_a_hundred(rt.alloc(), &mut table)
+    is_found_of_a_hundred(rt.alloc(), &mut table(rt.alloc(), 4096, 0)?)?;
+    is_found_of_a_hundred(rt.alloc(), &mut hashed_table(rt.alloc(), 4096)?)
 }
 
 /// The 57th of a hundred entries is found in up to eight steps.
-fn is_found_of_a_hundred(alloc: Global, table: &mut DynamicTable) -> Result<(), Fail> {
+fn is_found_of_a_hundred<I: FindsEntries>(
+    alloc: Global,
+    table: &mut DynamicTable<I>,
+) -> Result<(), Fail> {
     for value in 1..=100_u8 {
         put(alloc, table, b"n", &[value])?;
     }
@@ -107,31 +117,27 @@ fn is_found_of_a_hundred(alloc: Global, table: &mut DynamicTable) -> Result<(), 
 }
 
 #[test]
-fn a_field_whose_hash_is_another_s_is_not_looked_at(rt: HostRuntime) -> Result<(), Fail> {
-    let mut table = table(rt.alloc(), 4096, 0)?;
-    none_is_looked_at(rt.alloc(), &mut table)
-}
-
-/// A name that no entry has is compared with none, if no hash is the same.
-fn none_is_looked_at(alloc: Global, table: &mut DynamicTable) -> Result<(), Fail> {
+fn a_field_without_a_hash_of_the_table_is_compared_with_none(rt: HostRuntime) -> Result<(), Fail> {
+    let mut table = hashed_table(rt.alloc(), 4096)?;
     for value in 1..=100_u8 {
-        put(alloc, table, b"n", &[value])?;
+        put(rt.alloc(), &mut table, b"n", &[value])?;
     }
     let mut steps = Steps::new();
-    let found = table.newest_named(b"m", &mut steps);
-    same((found, steps.count()), (None, 0))?;
-    let found = table.newest_named(b"n", &mut steps);
-    same((found, steps.count()), (Some(100), 1))
+    let found = table.newest_equal(&field(rt.alloc(), b"m", &[57])?, &mut steps);
+    same((found, steps.count()), (None, 0))
 }
 
 #[test]
 fn the_newest_of_equal_entries_is_found(rt: HostRuntime) -> Result<(), Fail> {
-    let mut table = table(rt.alloc(), 4096, 0)?;
-    finds_the_third(rt.alloc(), &mut table)
+    finds_the_third(rt.alloc(), &mut table(rt.alloc(), 4096, 0)?)?;
+    finds_the_third(rt.alloc(), &mut hashed_table(rt.alloc(), 4096)?)
 }
 
 /// Of three equal entries the third is found, and of another value none.
-fn finds_the_third(alloc: Global, table: &mut DynamicTable) -> Result<(), Fail> {
+fn finds_the_third<I: FindsEntries>(
+    alloc: Global,
+    table: &mut DynamicTable<I>,
+) -> Result<(), Fail> {
     for _ in 0..3 {
         put(alloc, table, b"foo", b"bar")?;
     }
@@ -152,15 +158,15 @@ fn an_empty_table_has_no_equal_entry(rt: HostRuntime) -> Result<(), Fail> {
 
 #[test]
 fn small_tables_find_what_a_scan_finds(rt: HostRuntime) -> Result<(), Fail> {
-    let mut table = DynamicTable::new(rt.alloc());
     let mut numbers = Numbers::new(0x1234_5678_9ABC_DEF1);
-    finds_at_capacities(rt.alloc(), &mut table, &mut numbers)
+    finds_at_capacities(rt.alloc(), &mut table(rt.alloc(), 0, 0)?, &mut numbers)?;
+    finds_at_capacities(rt.alloc(), &mut hashed_table(rt.alloc(), 0)?, &mut numbers)
 }
 
 /// Puts fields and changes the capacity, and finds a field after each.
-fn finds_at_capacities(
+fn finds_at_capacities<I: FindsEntries>(
     alloc: Global,
-    table: &mut DynamicTable,
+    table: &mut DynamicTable<I>,
     numbers: &mut Numbers,
 ) -> Result<(), Fail> {
     for _ in 0..3000 {
@@ -175,9 +181,9 @@ fn finds_at_capacities(
 }
 
 /// Puts a field whose name and value are a byte each, below these bounds.
-fn put_any(
+fn put_any<I: EntryIndex>(
     alloc: Global,
-    table: &mut DynamicTable,
+    table: &mut DynamicTable<I>,
     numbers: &mut Numbers,
     names: u8,
     values: u8,
@@ -187,9 +193,9 @@ fn put_any(
 }
 
 /// Finds such a field.
-fn finds_any(
+fn finds_any<I: FindsEntries>(
     alloc: Global,
-    table: &DynamicTable,
+    table: &mut DynamicTable<I>,
     numbers: &mut Numbers,
     names: u8,
     values: u8,
@@ -200,15 +206,19 @@ fn finds_any(
 
 #[test]
 fn a_large_table_finds_what_a_scan_finds(rt: HostRuntime) -> Result<(), Fail> {
-    let mut table = table(rt.alloc(), 4096, 0)?;
     let mut numbers = Numbers::new(0x0FED_CBA9_8765_4321);
-    finds_among_many(rt.alloc(), &mut table, &mut numbers)
+    finds_among_many(rt.alloc(), &mut table(rt.alloc(), 4096, 0)?, &mut numbers)?;
+    finds_among_many(
+        rt.alloc(),
+        &mut hashed_table(rt.alloc(), 4096)?,
+        &mut numbers,
+    )
 }
 
 /// Puts many fields, and finds one after each.
-fn finds_among_many(
+fn finds_among_many<I: FindsEntries>(
     alloc: Global,
-    table: &mut DynamicTable,
+    table: &mut DynamicTable<I>,
     numbers: &mut Numbers,
 ) -> Result<(), Fail> {
     for _ in 0..1000 {
@@ -229,15 +239,18 @@ fn alike(number: usize) -> [u8; 16] {
 
 #[test]
 fn a_row_of_equal_hashes_finds_what_a_scan_finds(rt: HostRuntime) -> Result<(), Fail> {
-    let mut table = table(rt.alloc(), 320_000, 0)?;
     let mut numbers = Numbers::new(0x0123_4567_89AB_CDEF);
-    finds_among_alike(rt.alloc(), &mut table, &mut numbers)
+    finds_among_alike(
+        rt.alloc(),
+        &mut hashed_table(rt.alloc(), 320_000)?,
+        &mut numbers,
+    )
 }
 
 /// Puts thousands of fields of equal hashes, evicts nearly all of them, and begins again.
-fn finds_among_alike(
+fn finds_among_alike<I: FindsEntries>(
     alloc: Global,
-    table: &mut DynamicTable,
+    table: &mut DynamicTable<I>,
     numbers: &mut Numbers,
 ) -> Result<(), Fail> {
     finds_behind_alike(alloc, table, numbers)?;
@@ -250,9 +263,9 @@ fn finds_among_alike(
 }
 
 /// Puts fields of equal hashes, some of them equal, and finds one after some of them.
-fn finds_behind_alike(
+fn finds_behind_alike<I: FindsEntries>(
     alloc: Global,
-    table: &mut DynamicTable,
+    table: &mut DynamicTable<I>,
     numbers: &mut Numbers,
 ) -> Result<(), Fail> {
     for _ in 0..CASES {
@@ -263,7 +276,11 @@ fn finds_behind_alike(
 }
 
 /// Puts some fields of equal hashes.
-fn put_alike(alloc: Global, table: &mut DynamicTable, numbers: &mut Numbers) -> Result<(), Fail> {
+fn put_alike<I: EntryIndex>(
+    alloc: Global,
+    table: &mut DynamicTable<I>,
+    numbers: &mut Numbers,
+) -> Result<(), Fail> {
     for _ in 0..30 {
         put_or_leave(alloc, table, &alike(numbers.below(40_000)), &[])?;
     }

@@ -1,23 +1,20 @@
 //! A row of the index: slots that rise by the hash of a part of their entries' fields, then by that part. A search
 //! halves them.
 
-ghost use Rattle.std.specs.Prelude.{◌≡◌, ◌+◌, ◌-◌, ◌^◌, ◌<◌, ◌≤◌, [], ◌∷◌, ◌++◌, min, length, IfSome};
+ghost use Rattle.std.specs.Prelude.{◌≡◌, ◌+◌, ◌-◌, ◌^◌, ◌<◌, ◌≤◌, [], ◌∷◌, ◌++◌, length, IfSome};
 ghost use Rattle.std.specs.Prelude.{IfNone, IfOk, OnOk, OnErr, not, nat_le, vec_capacity};
 ghost use Rattle.std.specs.List.{All, filter};
-ghost use Rattle.std.specs.Cmp.Lexicographic.{slice_cmp};
-ghost use Rattle.std.specs.Ordering.{nat_cmp};
-ghost use Rattle.qpack_base.specs.HeaderFields.{field_of, field_cmp};
-ghost use Rattle.qpack_table.specs.Rows.{part_of, part_at, key_cmp, key_at, key_of, field_of_sought, IsHashed, IsSlot};
+ghost use Rattle.qpack_base.specs.HeaderFields.{field_of};
+ghost use Rattle.qpack_table.specs.Rows.{part_at, key_cmp, key_at, key_of, field_of_sought, IsHashed, IsSlot};
 ghost use Rattle.qpack_table.specs.Rows.{HasRoom, IsRow, IsPlace, FindsSlot, Enters, Leaves, HasIndexAt, HasNoIndex};
 ghost use Rattle.qpack_table.specs.Rows.{Counts, GrowsSlots, HasFewSpareSlots, goes_to, grown_slots, index_of, slot_of};
 ghost use Rattle.qpack_table.specs.Rows.{slots_a_row};
 ghost use Rattle.qpack_table.specs.Tables.{live_fields};
 
-use crate::dynamic::entries::{Entries, Entry};
+use crate::dynamic::comparing::{Part, Steps, compare_entry};
+use crate::dynamic::entries::Entries;
 use crate::dynamic::growth::{SLOTS, SLOTS_A_ROW, growth};
-use crate::dynamic::index::Steps;
 use crate::dynamic::index::hash::position_of;
-use qpack_base::bytes::same;
 use qpack_base::field::FieldLine;
 use qpack_base::stored_field::StoredField;
 use std::alloc::{AllocError, Global};
@@ -28,13 +25,6 @@ const MOST_SCANNED: usize = 16;
 
 /// One more than the greatest number that 32 bits hold.
 const WRAP: usize = 1 << 32;
-
-/// Which part of its field an entry is found by, with the seed of the part's hash.
-#[derive(Debug, Clone, Copy)]
-pub(super) enum Part {
-    Name(u64),
-    Whole(u64),
-}
 
 /// A part of a field that is sought, with its hash.
 #[derive(Debug, Clone, Copy)]
@@ -62,39 +52,6 @@ impl Slot {
     }
 }
 
-/// Compares an entry with what a search seeks. Every search compares by this function alone, and nothing else raises the
-/// count.
-fn compare_entry<F: StoredField>(
-    sought: &Sought<'_>,
-    entry: &Entry<F>,
-    steps: &mut Steps,
-) -> Ordering
-    ensures order { result ≡ field_cmp (part_of sought.now.part entry.now.field)
-        (field_of_sought sought.now) }
-    ensures raised { steps.new.count ≡ min (steps.old.count + 1) (2 ^ 64 - 1) }
-    ensures grows { steps.old.count ≤ steps.new.count }
-{
-    steps.raise();
-    let line = entry.as_line();
-    match compare_bytes(line.name, sought.line.name) {
-        Ordering::Equal => match sought.part {
-            Part::Name(_) => Ordering::Equal,
-            Part::Whole(_) => compare_bytes(line.value, sought.line.value),
-        },
-        apart => apart,
-    }
-}
-
-/// Compares two byte strings. If hashes are the same they are mostly equal, which is found out eight bytes at a time.
-fn compare_bytes(a: &[u8], b: &[u8]) -> Ordering
-    ensures { result ≡ slice_cmp nat_cmp a.now b.now }
-{
-    if same(a, b) {
-        return Ordering::Equal;
-    }
-    a.cmp(b)
-}
-
 /// Compares a slot with what is sought. It looks at the entry only if the hashes are the same.
 fn compare<F: StoredField>(
     sought: &Sought<'_>,
@@ -110,7 +67,12 @@ fn compare<F: StoredField>(
     ensures grows { steps.old.count ≤ steps.new.count }
 {
     match slot.hash.cmp(&sought.hash) {
-        Ordering::Equal => compare_entry(sought, &entries[slot.position(dropped)], steps),
+        Ordering::Equal => compare_entry(
+            sought.part,
+            &sought.line,
+            &entries[slot.position(dropped)],
+            steps,
+        ),
         apart => apart,
     }
 }

@@ -11,9 +11,9 @@ ghost use Rattle.qpack_table.specs.Tables.{live_fields};
 ghost use Rattle.qpack_table.specs.Indexes.{AreRowsOf, AreRows, KeepsEntries, HasRoomFor, FindsNewest, IsSplitOf};
 ghost use Rattle.qpack_table.specs.Indexes.{NeedsRow, GrowsByQuarter, rows_with_split};
 
-use crate::dynamic::entries::{Entries, Entry};
+use crate::dynamic::comparing::Steps;
+use crate::dynamic::entries::Entries;
 use crate::dynamic::growth::growth;
-use crate::dynamic::index::Steps;
 use crate::dynamic::index::hash::{position_of, split_among};
 use crate::dynamic::index::row::{Row, Sought, Split};
 use qpack_base::stored_field::StoredField;

@@ -35,7 +35,7 @@ enter-requires-clause-pushed g c =
       c.drop_oldest-freed.new.entries.items,
       c.args.entry,
       c.push_back_reserved.ensures.items,
-      subst (λ (d : ℕ). g.I.EntryIndex.is_index_of c.drop_oldest-freed.new.index d
+      subst (λ (d : ℕ). g.I.EntryIndex.is_index_of c.drop_oldest-freed.new.self d
           c.drop_oldest-freed.new.entries.items) (sym same) c.drop_oldest-freed.ensures.index,
       subst (λ (f : Field). g.I.EntryIndex.is_key_of c.own_key-key.result f) (ap (λ (l : FieldLine). l.field)
           c.as_line.ensures) c.own_key-key.ensures.key,

@@ -2,7 +2,7 @@ use Rattle.std.proofs.Common.{sym, ap, ◌∙◌, arith}
 use Rattle.qpack_base.specs.HeaderFields.{line_of}
 use Rattle.qpack_spec.specs.Field.{Field}
 use Rattle.qpack_table.specs.Hashes.{field_hash, name_hash}
-use Rattle.qpack_table.specs.declared.dynamic.index.row.Part.TheVariants.{Name, Whole}
+use Rattle.qpack_table.specs.declared.dynamic.comparing.Part.TheVariants.{Name, Whole}
 use Rattle.qpack_table.proofs.WholeIndexes.{line_read}
 use Rattle.qpack_table.proofs.dynamic.index.Index.enter.Goals as goal
 

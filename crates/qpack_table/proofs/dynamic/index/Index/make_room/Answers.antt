@@ -1,6 +1,6 @@
 use Rattle.std.proofs.Common.{arith}
 use Rattle.qpack_base.proofs.TextItems.{after_ok}
-use Rattle.qpack_table.specs.declared.dynamic.index.row.Part.TheVariants.{Name, Whole}
+use Rattle.qpack_table.specs.declared.dynamic.comparing.Part.TheVariants.{Name, Whole}
 use Rattle.qpack_table.proofs.dynamic.index.Index.make_room.Goals as goal
 
 pub returns-clause-index : goal.returns-clause-index

@@ -2,7 +2,7 @@ use Rattle.std.proofs.Common.{◌≡◌, length, rules, arith}
 use Rattle.std.specs.Prelude.{None}
 use Rattle.qpack_base.specs.HeaderFields.{line_of}
 use Rattle.qpack_table.specs.Tables.{live_fields}
-use Rattle.qpack_table.specs.declared.dynamic.index.row.Part.TheVariants.{Whole}
+use Rattle.qpack_table.specs.declared.dynamic.comparing.Part.TheVariants.{Whole}
 use Rattle.qpack_table.proofs.Lookups.{fields_long}
 use Rattle.qpack_table.proofs.NewestEntries.{newest_field, newest_of_none}
 use Rattle.qpack_table.proofs.dynamic.index.Index.newest_equal.Goals as goal

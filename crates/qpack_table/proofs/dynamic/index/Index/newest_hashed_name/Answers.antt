@@ -3,7 +3,7 @@ use Rattle.qpack_spec.specs.Field.{FieldLine}
 use Rattle.qpack_table.specs.Indexes.{FindsNewest}
 use Rattle.qpack_table.specs.Rows.{part_of}
 use Rattle.qpack_table.specs.Tables.{live_fields}
-use Rattle.qpack_table.specs.declared.dynamic.index.row.Part.TheVariants.{Name}
+use Rattle.qpack_table.specs.declared.dynamic.comparing.Part.TheVariants.{Name}
 use Rattle.qpack_table.proofs.NewestEntries.{newest_name}
 use Rattle.qpack_table.proofs.dynamic.index.Index.newest_hashed_name.Goals as goal
 

@@ -1,7 +1,7 @@
 use Rattle.std.proofs.Common.{◌≡◌, [], length, rules, arith}
 use Rattle.std.specs.Prelude.{None}
 use Rattle.qpack_table.specs.Tables.{live_fields}
-use Rattle.qpack_table.specs.declared.dynamic.index.row.Part.TheVariants.{Name}
+use Rattle.qpack_table.specs.declared.dynamic.comparing.Part.TheVariants.{Name}
 use Rattle.qpack_table.proofs.Lookups.{fields_long}
 use Rattle.qpack_table.proofs.NewestEntries.{newest_name, newest_of_none}
 use Rattle.qpack_table.proofs.dynamic.index.Index.newest_of_name.Goals as goal

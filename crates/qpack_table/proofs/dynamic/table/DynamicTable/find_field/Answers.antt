@@ -1,0 +1,12 @@
+use Rattle.qpack_table.proofs.Newest.{newest_above, newest_inserted}
+use Rattle.qpack_table.proofs.Insertions.{found_by}
+use Rattle.qpack_table.proofs.dynamic.table.DynamicTable.find_field.Goals as goal
+
+pub find_entry-requires-clause-live : goal.find_entry-requires-clause-live
+find_entry-requires-clause-live g c = newest_above c.args.self.now _ _ c.newest_field-newest.ensures
+
+pub find_entry-requires-clause-inserted : goal.find_entry-requires-clause-inserted
+find_entry-requires-clause-inserted g c = newest_inserted c.args.self.now _ _ c.newest_field-newest.ensures
+
+pub returns : goal.returns
+returns g c = found_by _ c.args.self.now _ c.args.base _ _ c.newest_field-newest.ensures c.find_entry.ensures
