@@ -7,7 +7,9 @@ The recording of tests/captured with Chromium is counted again from Chromium's o
 qpk inspect and qpk show --table print. Small recordings are counted by hand. tests/browsers/report.py opens pages. This
 ends with a line 'report: N tests .. passed', and with status 1 if a test failed.
 """
+import base64
 import collections
+import itertools
 import json
 import os
 import re
@@ -15,6 +17,7 @@ import shutil
 import subprocess
 import sys
 import tempfile
+import zlib
 from pathlib import Path
 
 from running import FORMED, PLAIN, TOP, assert_linear, can_decrypt, cost_of, run_tests, shows_no_fault_of_a_script
@@ -22,7 +25,10 @@ from running import FORMED, PLAIN, TOP, assert_linear, can_decrypt, cost_of, run
 sys.dont_write_bytecode = True
 sys.path.insert(0, str(TOP / "dist"))
 from qpk_lines import pieces_of_lines  # noqa: E402 # pylint: disable=wrong-import-position
+from report.columns import Columns, Texts  # noqa: E402 # pylint: disable=wrong-import-position
 from report.connection import Finder, Reading  # noqa: E402 # pylint: disable=wrong-import-position
+from report.lines import shown_form  # noqa: E402 # pylint: disable=wrong-import-position
+from report.page import left_out  # noqa: E402 # pylint: disable=wrong-import-position
 from report.recording import Recording  # noqa: E402 # pylint: disable=wrong-import-position
 
 CAPTURED = TOP / "tests" / "captured"
@@ -82,9 +88,38 @@ def page_of(*words, **options):
 
 
 def data_of(html):
-    """Returns the data of a page."""
-    (data,) = re.findall(r'<script type="application/json" id="data">(.*?)</script>', html, re.S)
-    return json.loads(data)
+    """Returns the data of a page. Each connection has its events as objects, beside its rows."""
+    (packed,) = re.findall(r'<script type="application/octet-stream" id="data">([A-Za-z0-9+/=]*)</script>', html)
+    data = json.loads(zlib.decompress(base64.b64decode(packed)))
+    for connection in data["connections"]:
+        connection["events"] = list(events_of(connection["trace"], data))
+    return data
+
+
+def events_of(trace, data):
+    """Yields the events of a connection: what each row has, with its line and its time, and the parts of its bytes."""
+    records, rows, line = trace["records"], iter(enumerate(trace["events"])), 0
+    for place, (step, size) in enumerate(zip(records["lines"], records["sizes"])):
+        line += step
+        for number, row in itertools.islice(rows, size):
+            found = {"line": line, "row": row, "rest": trace["rest"].get(str(number)), "hex": re.sub("[()]", "", row[1])}
+            found["time"] = records["times"] and records["times"][place]
+            found["refused"] = trace["refused"].get(str(number))
+            if row[0] == "s":
+                found["hex"] = row[1][1 : row[1].index(")")]
+                found["groups"] = [long or short for long, short in re.findall(r"\(([0-9a-f]*)\)|([0-9a-f]{2})", row[1])]
+                found["shapes"] = [it >> 1 if it & 1 else None for it in row[5]]
+                found["lines"] = [form_of(it, data["shapes"], row[4]) for it in row[5]]
+            yield found
+
+
+def form_of(code, shapes, base):
+    """Returns the form of a line as qpk show prints it."""
+    if code & 1:
+        return shapes["forms"][code >> 1]
+    distance = code // 2
+    form = f"post-base {-1 - distance}" if distance < 0 else f"dynamic {distance}"
+    return f"{form} (entry {base - distance})"
 
 
 def check(found, **expected):
@@ -214,8 +249,6 @@ def test_instructions_before_lists():
     text = "e 3fe11f 6294e7838c767f\nb 0 0000d1\nb 4 0000\ne 00 62\nb 8 0000d1\nb 12 0000d1\ne 94e7838c767f\nb 16 0000\n"
     (found,) = ask_json("stats", "-", text=text)
     check(found, bytes_of_lists=[13, 2, 4, 3, 9], encoder_stream_bytes=18)
-    bars = page_of("-", text=text)[1]["connections"][0]["directions"][0]["bars"]
-    assert bars == [[2, 2, 3, 10], [3, 3, 2, 0], [5, 5, 3, 1], [6, 6, 3, 0], [8, 8, 2, 7]], bars
 
 
 def cost_of_report(*words, text):
@@ -238,24 +271,25 @@ def test_large_recordings():
     assert more <= 6 * seconds and memory <= 150_000, (seconds, more, memory)
     check(json.loads(output), sections=sections, fields=4 * sections, insertions=1, section_bytes=6 * sections)
     _, memory, output = cost_of_report("report", text=beginning + large)
-    assert memory <= 150_000, memory
+    assert memory <= 150_000 and len(output) < 3 << 20, (memory, len(output))
     connection = data_of(output)["connections"][0]
     shown, (direction,) = connection["events"], connection["directions"]
-    assert sum(1 + len(it.get("lines", [])) for it in shown) in range(29_990, 30_001)
-    assert connection["left_out"][0].startswith(f"This page shows the first {len(shown)} of {sections + 2} events, ")
+    assert len(shown) == sections + 2 and connection["left_out"] == []
     assert direction["rows"][0] == ["sections", f"{sections}; fields in them {4 * sections}"]
-    assert len(direction["bars"]) == 240 and direction["bars"][-1][0] > len(shown)
-    assert max(direction["entries"][0]["sections"]) < len(shown)
+    assert shown[-1]["lines"] == ["post-base 0 (entry 1)", "static 17", "static 23", "static 1"], shown[-1]
 
 
 def test_what_a_page_has_no_room_for():
-    """Many bytes of fields, insertions and faults: the page has the first ones, and says so."""
-    long = "e 3fe11f 4161 7f8307" + "61" * 1026 + "\n"  # an entry whose value has 1,026 bytes
-    many = long + "b 0 0200" + "80" * 20_000 + "\n"
-    connection = page_of("-", text=many)[1]["connections"][0]
-    assert len(connection["events"]) == 2 and "first 2 of 3 events" in connection["left_out"][0]
+    """Many rows, and many faults: the page has the first ones, and says so."""
+    columns = Columns(Texts(), set())
+    columns.texts.room_of_rows = 5
+    for event in Reading(said_of(4), []).events():
+        columns.take(event)
+    columns.finish()
+    assert [json.loads(it)[0] for it in columns.rows] == ["b"] * 4 + ["s"]
+    assert list(left_out(columns, 0))[0].startswith("This page shows the first 5 of 8 events, ")
     faults = page_of("-", text="b 0 ff\n" * 1200, status=2)[1]["connections"][0]
-    assert len(faults["faults"]) == 1000 and faults["number_of_faults"] == 1200
+    assert len(faults["faults"]) == 1000 and faults["verdict"] == {"certain": 1200, "explained": 0}
     assert faults["left_out"] == ["This page lists the first 1000 of 1200 faults. qpk check prints each fault."]
     assert faults["faults"][999]["event"] == 999
     assert page_of("-", text=BLOCKED)[1]["connections"][0]["left_out"] == []
@@ -296,7 +330,8 @@ def test_both_directions():
     connection = page_of("-", text=text)[1]["connections"][0]
     assert connection["directions"][0]["settings"] == "the decoder allows 4096 bytes and 1 blocked streams"
     assert connection["directions"][1]["settings"] == ""
-    assert [it["direction"] for it in connection["events"]] == [0] * 8 + [1]
+    assert [it["row"][3] for it in connection["events"] if it["row"][0] == "t"] == [0, 0]
+    assert connection["trace"]["records"]["ends"] == "<><>><<" and connection["trace"]["records"]["times"] is None
 
 
 def test_each_kind_of_line():
@@ -332,11 +367,41 @@ def test_the_bytes_of_the_page():
     _, data = page_of("-", text=EACH_KIND)
     *instructions, section = data["connections"][0]["events"]
     assert [it["hex"] for it in instructions] == ["3f2d", "6294e7838c767f", "00", "6294e7838c767f"]
-    assert section["hex"] == "0400"
-    assert [it["hex"] for it in section["lines"]] == ["d1", "80", "5f0e0161", "400161", "21610162", "31610162"]
-    hows = ["static", "dynamic", "static-name", "dynamic-name", "literal", "literal"]
-    assert [it["how"] for it in section["lines"]] == hows
-    assert section["lines"][4]["form"] == "literal" and section["lines"][5]["form"] == "literal never indexed"
+    assert section["groups"] == ["0400", "d1", "80", "5f0e0161", "400161", "21610162", "31610162"]
+    hows = ["static", None, "static-name", "dynamic-name", "literal", "literal"]
+    assert [it if it is None else data["shapes"]["hows"][it] for it in section["shapes"]] == hows
+    assert section["lines"] == [
+        "static 17", "dynamic 0 (entry 3)", "literal with the name of static 29", "literal with the name of dynamic 0 (entry 3)",
+        "literal", "literal never indexed"]
+
+
+def test_the_words_of_the_page():
+    """The forms and the times of the page are those of qpk show, and each text is there once."""
+    _, data = page_of(RECORDING)
+    (connection,) = data["connections"]
+    words = [QPK, "show", "--json", "-"]
+    shown = subprocess.run(words, input=RECORDING.read_bytes(), stdout=subprocess.PIPE, check=True).stdout.splitlines()
+    assert len(shown) == len(connection["events"])
+    for said, event in zip(map(json.loads, shown), connection["events"]):
+        check(event, line=said["line"], time=said["time"])
+        assert event.get("lines", []) == [shown_form(it["form"]) for it in said.get("lines", [])], said["line"]
+    assert len(set(data["fields"])) == len(data["fields"])
+
+
+def test_the_verdict_of_a_capture():
+    """The page has what check prints of each connection: what the file lacks, and which findings are marked."""
+    if not can_decrypt():
+        return
+    capture = CAPTURED / "chromium-moved.pcapng"
+    status, html, _ = start("report", capture)
+    assert status == 2
+    (connection,) = data_of(html)["connections"]
+    printed = subprocess.run([TOP / "dist" / "qpk-capture", "check", capture], env={**os.environ, "QPK": QPK},
+                             capture_output=True, encoding="utf-8", check=False).stdout.splitlines()
+    check(connection["verdict"], certain=0, explained=len(printed) - 2, seen=printed[1], lacks=True)
+    assert all(it["perhaps"] for it in connection["faults"])
+    _, whole = page_of(CAPTURED / "chromium.pcapng")
+    check(whole["connections"][0]["verdict"], certain=0, explained=0, lacks=False)
 
 
 def test_each_form_of_a_line():
@@ -419,7 +484,7 @@ def test_no_traceback():
             path.write_text("b 4 0000" + "d1" * lines + "\n", encoding="utf-8")
         script = TOP / "dist" / "qpk-report"
         for command, reason in (
-            (f"ulimit -v 150000; exec {script} stats {wide}", "refused: memory"),
+            (f"ulimit -v 110000; exec {script} stats {wide}", "refused: memory"),
             (f"exec {script} stats {wider}", "a section is too large: over 200000 lines, or 64 MB as JSON; read it by qpk show"),
             (f"{script} stats {RECORDING} >/dev/full", "No space left on device: name another file, or make room there"),
             (f"{script} stats {RECORDING} >&-", "refused: output: standard output is closed"),
@@ -451,9 +516,9 @@ def test_a_fault_is_marked():
     of_section, of_stream = connection["faults"]
     check(of_section, line=2, rfc9204="4.1.1", code=0x200)
     check(of_stream, line=3, rfc9204="2.2.3", code=0x201)
-    assert connection["events"][of_section["event"]]["title"].startswith("section 0:")
+    assert connection["events"][of_section["event"]]["row"][:3] == ["s", "(0000)d1", 0]
     assert connection["events"][of_section["event"]]["rest"] == "ff"
-    assert connection["events"][of_stream["event"]]["title"].startswith("encoder 10:")
+    assert connection["events"][of_stream["event"]]["row"][2].startswith("encoder 10: ")
     assert connection["events"][of_stream["event"]]["hex"] == "8500"
     assert not page_of("-", text=EACH_KIND)[1]["connections"][0]["faults"]
 
@@ -469,7 +534,7 @@ def test_no_field_ends_the_page():
     assert html.count("<script") == html.count("</script>") == 2 and "<b>" not in html and "<!--" not in html
     assert "<title>QPACK of &lt;b&gt;&amp;?.txt</title>" in html
     event = data["connections"][0]["events"][0]
-    assert event["lines"][0]["field"] == r"a: </script><script>alert(1)</script>&lt;\\\xff\x00<!--"
+    assert data["fields"] == [r"a: </script><script>alert(1)</script>&lt;\\\xff\x00<!--"]
     assert event["time"] == "</script>"
 
 

@@ -8,7 +8,8 @@ from typing import Any, Dict, Iterator, List, Optional, Tuple
 
 from . import ReportError
 from .connection import Event
-from .recording import SCRIPTS, Object
+from .lines import Object
+from .recording import SCRIPTS
 
 USUAL_BLOCKED = 100
 MOST_SECTION = (1 << 64) - 1  # a decoder's limit that no section reaches
@@ -58,7 +59,7 @@ def try_capacities(
 
 def fields_with_marks(event: Event, library: Any) -> List[Any]:
     """Returns the fields of a list as the library takes them. Those that are never indexed stay so."""
-    return [library.Field(*it.field, bool(it.form.get("never_indexed"))) for it in event.lines]
+    return [library.Field(*field, bool(form.said.get("never_indexed"))) for _, form, field in event.parts]
 
 
 def encode_again(lists: List[List[Any]], capacity: int, blocked: int, library: Any) -> Tuple[int, int]:

@@ -3,56 +3,14 @@
 from bisect import bisect_right
 from collections import deque
 from dataclasses import dataclass, field
-from typing import Any, Deque, Dict, Iterable, Iterator, List, NamedTuple, Optional, Tuple
+from typing import Deque, Dict, Iterable, Iterator, List, NamedTuple, Optional, Sequence, Tuple
 
-from .recording import Object, Piece, Recording
+from .lines import Field, Line, Object, Part, field_of, parts_of
+from .recording import Piece, Recording
 
 ENTRY_OVERHEAD = 32  # bytes that an entry counts beside its name and value (RFC 9204, section 3.2.1)
 PLACES = ("encoder", "decoder", "section", "record")  # where a finding may be
 OTHER = {"client": "server", "server": "client", "": ""}
-
-
-class Field(NamedTuple):
-    """A field, or a field line."""
-
-    name: bytes
-    value: bytes
-
-    @property
-    def length(self) -> int:
-        """The bytes of its name and its value."""
-        return len(self.name) + len(self.value)
-
-
-def field_of(it: Object) -> Field:
-    """Returns the field of an object that qpk printed."""
-    return Field(bytes_of_text(it["name"]), bytes_of_text(it["value"]))
-
-
-def bytes_of_text(text: Any) -> bytes:
-    """Returns the bytes of a string of qpk's JSON, or of the object that it prints if they are not UTF-8."""
-    data: bytes = text.encode() if isinstance(text, str) else bytes.fromhex(text["hex"])
-    return data
-
-
-class Line(NamedTuple):
-    """A line of a section."""
-
-    offset: int
-    data: bytes
-    how: str  # static, dynamic, static-name, dynamic-name or literal
-    form: Object
-    entry: Optional[int]  # that it references, for its name at least
-    field: Field
-
-
-def line_of(it: Object, data: bytes) -> Line:
-    """Returns a line that qpk printed, and its bytes."""
-    form = it["form"]
-    names = form.get("name_from", form)
-    source = "dynamic" if "entry" in names else names["type"]
-    how = f"{source}-name" if names is not form and source != "literal" else source
-    return Line(it["offset"], data, how, form, names.get("entry"), field_of(it))
 
 
 @dataclass
@@ -64,7 +22,7 @@ class Event:
     of: str  # the end whose encoder it is about
     data: bytes = b""  # of the instruction or the section
     arrival: Optional["Event"] = None  # of a section that was blocked: when it came
-    lines: List[Line] = field(default_factory=list)
+    parts: Sequence[Part] = ()  # the lines of a section
     is_list: bool = False  # a section that was decoded whole
     stream: Optional[str] = None  # which stream of instructions it is of: encoder, decoder, or none
 
@@ -72,6 +30,13 @@ class Event:
     def line(self) -> int:
         """The line of the recording."""
         return int(self.said["line"])
+
+    @property
+    def lines(self) -> List[Line]:
+        """The lines of a section, with their bytes."""
+        ends = [it[0] for it in self.parts[1:]]
+        ends.append(self.said["offset"] if "refused" in self.said and self.parts else len(self.data))
+        return [Line(begin, self.data[begin:end], form, it) for (begin, form, it), end in zip(self.parts, ends)]
 
     @property
     def end(self) -> str:
@@ -142,9 +107,9 @@ class Direction:
 
     def apply(self, event: Event) -> None:
         """Applies an event: an instruction changes the table, and a section references entries."""
-        for place, it in enumerate(event.lines):
-            if it.entry is not None:
-                self.entries[it.entry - 1].lines.append((event, place))
+        for place, (_, form, _) in enumerate(event.parts):
+            if form.entry is not None:
+                self.entries[form.entry - 1].lines.append((event, place))
         said, table = event.said, self.tables[-1]
         if event.stream != "encoder" or "refused" in said:
             return
@@ -267,7 +232,7 @@ class Reading:
             event.data = self.piece.data
         if "blocked_until" in said and "refused" not in said:
             self.blocked.setdefault(key, deque()).append(event)
-        event.lines = list(lines_of(said, event.data))
+        event.parts = parts_of(said.get("lines", ()))
 
 
 def owner_of(said: Object) -> str:
@@ -276,54 +241,48 @@ def owner_of(said: Object) -> str:
     return end if "encoder" in said or "section" in said else OTHER[end]
 
 
-def lines_of(said: Object, data: bytes) -> Iterator[Line]:
-    """Yields the lines of a section with their bytes."""
-    lines = said.get("lines", [])
-    begins = [it["offset"] for it in lines]
-    end = said["offset"] if "refused" in said and lines else len(data)
-    for it, (begin, end) in zip(lines, spans(begins, end)):
-        yield line_of(it, data[begin:end])
+# ---- How much is in a table
 
 
-def spans(begins: List[int], end: int) -> Iterator[Tuple[int, int]]:
-    """Yields where each part begins and ends."""
-    return zip(begins, [*begins[1:], end])
+@dataclass
+class Window:
+    """A dynamic table by its sizes alone."""
+
+    capacity: int = 0
+    size: int = 0
+    sizes: Deque[int] = field(default_factory=deque)  # of its entries, the oldest first
+    evicted: int = 0  # how many entries were
+
+    def apply(self, said: Object) -> int:
+        """Applies an instruction, and returns the size of the entry that it inserts, or 0."""
+        added = 0
+        if said["instruction"] == "set capacity":
+            self.capacity = said["capacity"]
+        elif "entry" in said:
+            added = field_of(said).length + ENTRY_OVERHEAD
+            self.sizes.append(added)
+            self.size += added
+        while self.size > self.capacity:
+            self.size -= self.sizes.popleft()
+            self.evicted += 1
+        return added
 
 
 # ---- What is kept of a connection
 
 
 @dataclass
-class Room:
-    """How much of a connection is kept: events with their lines, and bytes of them and of their fields."""
-
-    rows: int
-    data: int
-
-    def take(self, event: Event) -> bool:
-        """Takes the room of an event, and returns whether there was as much."""
-        self.rows -= 1 + len(event.lines)
-        self.data -= len(event.data) + sum(it.field.length for it in event.lines)
-        return self.rows >= 0 and self.data >= 0
-
-
-@dataclass
 class Connection:
-    """A recorded connection: all its events, or the first ones for which there is room."""
+    """A recorded connection: all its events."""
 
     recording: Recording
-    room: Optional[Room] = None
     events: List[Event] = field(default_factory=list)
-    number_of_events: int = 0
     directions: List[Direction] = field(default_factory=list)
 
     def take(self, event: Event) -> None:
-        """Keeps an event, and applies it to the tables."""
-        is_next = self.number_of_events == len(self.events)
-        self.number_of_events += 1
-        if is_next and (self.room is None or self.room.take(event)):
-            event.said.pop("lines", None)  # which it has with their bytes
-            self.events.append(event)
+        """Keeps an event."""
+        event.said.pop("lines", None)  # which it has with their bytes
+        self.events.append(event)
 
     def finish(self, ends: List[str]) -> None:
         """Makes the directions, once all events were taken."""

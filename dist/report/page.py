@@ -1,24 +1,28 @@
-"""qpk report: a connection as a page of HTML that needs nothing else."""
+"""qpk report: connections as a page of HTML that needs nothing else."""
 
 import base64
 import hashlib
 import html
 import json
+import zlib
 from pathlib import Path
-from itertools import islice
-from typing import Any, Dict, Iterator, List, Tuple
+from typing import Any, Dict, Iterable, Iterator, List
 
-from .connection import Connection, Direction, Entry, Event, Finder, Line, Room
-from .recording import Object
-from .stats import Counting, Numbers, parts_of, rows
-from .texts import shown_field, shown_form, title_of
+from .columns import Columns, Texts
+from .connection import Finder, Reading
+from .lines import Object
+from .recording import Recording
+from .stats import Count, Counting, Numbers, rows
+from .verdict import MOST_FAULTS, Verdict
 
-# What a browser shows in a second: the page has the first events that are not more than these, and says so.
-MOST_ROWS = 30_000  # events and field lines
-MOST_BYTES = 4 << 20  # of events and of the fields of their lines
-MOST_FAULTS = 1_000
-MOST_BARS = 240
 FOLDER = Path(__file__).resolve().parent
+STYLES = ("qpack.css", "report.css")
+SCRIPTS = (
+    "element.js", "connection.js", "words.js", "list.js", "waterfall.js", "requests.js", "timeline.js", "details.js",
+    "verdict.js", "overview.js", "report.js",
+)
+LEVEL = 4  # of the compression: a third of the time of the usual one
+WIDTH = 3 << 18  # bytes that are written at once in base64: three make four characters
 LEGEND = {
     "static": "in the static table",
     "dynamic": "in the dynamic table",
@@ -26,69 +30,107 @@ LEGEND = {
     "dynamic-name": "name in the dynamic table, value spelled out",
     "literal": "spelled out",
 }
-PAGE = """<!doctype html>
+HEAD = """<!doctype html>
 <html lang="en">
 <meta charset="utf-8">
+<meta name="viewport" content="width=device-width, initial-scale=1">
+<meta name="color-scheme" content="light dark">
 <meta http-equiv="content-security-policy" content="default-src 'none'; style-src 'unsafe-inline'; script-src {hashes}">
 <title>QPACK of {name}</title>
 <style>
 {style}</style>
 <noscript><p>This page needs JavaScript. qpk show prints the same in words.</p></noscript>
 <div id="page"></div>
-<script type="application/json" id="data">{data}</script>
+<script type="application/octet-stream" id="data">"""
+TAIL = """</script>
 <script>{script}</script>
 </html>
 """
 
 
-def room_of_page() -> Room:
-    """Returns the room that a page has for the events of all its connections."""
-    return Room(MOST_ROWS, MOST_BYTES)
+class Data:
+    """The data of a page: a text of JSON, compressed as it is made, in base64. No part of HTML can be in that."""
+
+    def __init__(self) -> None:
+        self.deflate = zlib.compressobj(LEVEL)
+        self.packed = bytearray()
+        self.number = 0  # of connections
+
+    def add(self, text: str) -> None:
+        """Adds a text."""
+        self.packed += self.deflate.compress(text.encode("ascii"))
+
+    def add_connection(self, head: Object, columns: Columns) -> None:
+        """Adds a connection."""
+        self.add("," if self.number else '{"connections":[')
+        self.number += 1
+        self.add(as_json(head)[:-1] + ',"trace":')
+        for part in columns.parts():
+            self.add(part)
+        self.add("}")
+
+    def finish(self, texts: Texts) -> Iterator[str]:
+        """Ends the data with the texts, and yields all of it."""
+        self.add("]," if self.number else '{"connections":[],')
+        self.add(as_json({"legend": LEGEND, **texts.data()})[1:])
+        self.packed += self.deflate.flush()
+        for place in range(0, len(self.packed), WIDTH):
+            yield base64.b64encode(self.packed[place : place + WIDTH]).decode()
 
 
-def write_page(connections: List[Object]) -> str:
-    """Returns the page of the data of connections."""
-    script = "\n" + read_all("element.js", "report.js")
-    data = {"legend": LEGEND, "connections": connections}
-    return PAGE.format(
-        name=html.escape(", ".join(it["name"] for it in connections)),
-        style=read_all("qpack.css", "report.css"),
-        hashes=f"'sha256-{base64.b64encode(hashlib.sha256(script.encode()).digest()).decode()}'",
-        data=as_text(data),
-        script=script,
-    )
+def as_json(data: Any) -> str:
+    """Returns data as JSON of ASCII."""
+    return json.dumps(data, separators=(",", ":"))
 
 
-def read_all(*names: str) -> str:
+class PageMaker:
+    """Makes a page of recordings, one after another."""
+
+    def __init__(self) -> None:
+        self.texts, self.data = Texts(), Data()
+        self.names: List[str] = []
+        self.is_refused = False  # something in one of them
+
+    def add(self, recording: Recording) -> None:
+        """Adds a recorded connection."""
+        verdict, count = Verdict(), Count()
+        verdict.take(recording.check())
+        columns = Columns(self.texts, {it["line"] for it in verdict.faults})
+        reading = Reading(recording.show(), recording.pieces())
+        for event in reading.events():
+            count.take(event)
+            columns.take(event)
+        columns.finish()
+        finder = Finder(columns.events)
+        head = {
+            "name": recording.name,
+            "verdict": verdict.data(),
+            "faults": [fault_data(it, finder) for it in verdict.faults],
+            "left_out": list(left_out(columns, verdict.number)),
+            "directions": [direction_data(*it) for it in count.numbers(reading)],
+        }
+        self.data.add_connection(head, columns)
+        self.names.append(recording.name)
+        self.is_refused = self.is_refused or reading.is_refused
+
+    def parts(self) -> Iterator[str]:
+        """Yields the page, once all were added."""
+        script = "\n" + read_all(SCRIPTS)
+        hashed = base64.b64encode(hashlib.sha256(script.encode()).digest()).decode()
+        name = html.escape(", ".join(self.names))
+        yield HEAD.format(name=name, style=read_all(STYLES), hashes=f"'sha256-{hashed}'")
+        yield from self.data.finish(self.texts)
+        yield TAIL.format(script=script)
+
+
+def read_all(names: Iterable[str]) -> str:
     """Returns the text of files of this folder, one after another."""
     return "".join((FOLDER / it).read_text("utf-8") for it in names)
 
 
-def as_text(data: Dict[str, Any]) -> str:
-    """Returns data as JSON that no part of HTML ends: it has neither < nor &, and ASCII alone."""
-    text = json.dumps(data, separators=(",", ":"), ensure_ascii=True)
-    return text.replace("<", "\\u003c").replace(">", "\\u003e").replace("&", "\\u0026")
-
-
-def connection_data(connection: Connection, numbers: Iterator[Tuple[str, Counting, Numbers]]) -> Object:
-    """Returns what the page shows of a connection, with its numbers. Events are referred to by their own."""
-    places = {it.end: place for place, it in enumerate(connection.directions)}
-    findings, finder = connection.recording.check(), Finder(connection.events)
-    faults = [fault_data(it, finder) for it in islice(findings, MOST_FAULTS)]
-    number_of_faults = len(faults) + sum(1 for _ in findings)
-    return {
-        "name": connection.recording.name,
-        "left_out": list(left_out(connection, number_of_faults)),
-        "directions": [direction_data(it, *rest) for it, (_, *rest) in zip(connection.directions, numbers)],
-        "events": [event_data(it, places[it.of]) for it in connection.events],
-        "faults": faults,
-        "number_of_faults": number_of_faults,
-    }
-
-
-def left_out(connection: Connection, faults: int) -> Iterator[str]:
+def left_out(columns: Columns, faults: int) -> Iterator[str]:
     """Yields what the page does not show, as there is too much of it."""
-    shown, events = len(connection.events), connection.number_of_events
+    shown, events = len(columns.rows), columns.number_of_events
     if shown < events:
         yield (
             f"This page shows the first {shown} of {events} events, and the tables up to there, as a page has room for no "
@@ -104,76 +146,10 @@ def fault_data(finding: Object, finder: Finder) -> Object:
     return {**finding, "event": about.number if about else None}
 
 
-def direction_data(direction: Direction, counting: Counting, numbers: Numbers) -> Dict[str, Any]:
-    """Returns the numbers, the entries and the tables of a direction."""
-    return {
-        "end": direction.end,
-        "settings": title_of_settings(counting.settings) if counting.settings else "",
-        "rows": list(rows(numbers)),
-        "bars": list(bars(counting)),
-        "entries": [entry_data(it) for it in direction.entries],
-        "tables": [list(it) for it in direction.tables],
-    }
-
-
-def bars(counting: Counting) -> Iterator[List[float]]:
-    """Yields a bar for each list, or for several: event and line of the first, and the mean bytes of both its parts."""
-    for part in parts_of(list(counting.bytes_of_lists()), MOST_BARS):
-        means = [sum(it) / len(part) for it in zip(*((it.section, it.instructions) for it in part))]
-        yield [part[0].event, part[0].line, *means]
-
-
-def title_of_settings(settings: Dict[str, Any]) -> str:
-    """Returns the limits of an encoder as text."""
-    return f"the decoder allows {settings['max_capacity']} bytes and {settings['max_blocked']} blocked streams"
-
-
-def entry_data(entry: Entry) -> Dict[str, Any]:
-    """Returns an entry, and the events of its life."""
-    return {
-        "field": shown_field(entry.field),
-        "size": entry.size,
-        "inserted": entry.inserted.number,
-        "evicted": entry.evicted.number if entry.evicted else None,
-        "last": entry.last_referenced,
-        "sections": list(dict.fromkeys(event.number for event, _ in entry.lines)),
-        "instructions": [it.number for it in entry.instructions],
-    }
-
-
-def event_data(event: Event, direction: int) -> Dict[str, Any]:
-    """Returns an event with its bytes and its meaning."""
-    said = event.said
-    names = said.get("of", said.get("name_from", {}))
-    found = {
-        "line": event.line,
-        "time": said.get("time"),
-        "from": event.end,
-        "direction": direction,
-        "title": title_of(event),
-        "hex": event.data.hex() if event.stream else prefix_of(event).hex(),
-        "section": said.get("section"),
-        "lines": [line_data(it) for it in event.lines] if event.lines else None,
-        "entry": said.get("entry") if event.stream else None,
-        "references": names.get("entry"),
-        "arrival": event.arrival.number if event.arrival else None,
-        "refused": said.get("refused"),
-        "rest": rest_of(event).hex() or None,
-    }
-    return {name: value for name, value in found.items() if value is not None}
-
-
-def prefix_of(event: Event) -> bytes:
-    """Returns the bytes before the lines of a section; of one that is refused there, or blocked, all."""
-    return event.data[: event.lines[0].offset] if event.lines else event.data
-
-
-def rest_of(event: Event) -> bytes:
-    """Returns the bytes of a section that were not read after its lines."""
-    return event.data[event.lines[-1].offset + len(event.lines[-1].data) :] if event.lines else b""
-
-
-def line_data(line: Line) -> Dict[str, Any]:
-    """Returns a line of a section."""
-    found = {"hex": line.data.hex(), "how": line.how, "form": shown_form(line.form), "field": shown_field(line.field)}
-    return found if line.entry is None else {**found, "entry": line.entry}
+def direction_data(end: str, counting: Counting, numbers: Numbers) -> Dict[str, Any]:
+    """Returns the numbers of a direction."""
+    settings = counting.settings
+    limits = ""
+    if settings:
+        limits = f"the decoder allows {settings['max_capacity']} bytes and {settings['max_blocked']} blocked streams"
+    return {"end": end, "settings": limits, "rows": list(rows(numbers))}

@@ -2,13 +2,15 @@
 
 import tempfile
 from array import array
-from collections import defaultdict, deque
+from collections import defaultdict
 from dataclasses import asdict, dataclass, field
-from typing import Any, BinaryIO, Deque, Dict, Iterator, List, NamedTuple, Optional, Tuple
+from functools import lru_cache
+from typing import Any, BinaryIO, Dict, Iterator, List, NamedTuple, Optional, Tuple
 
 from . import ReportError
-from .connection import ENTRY_OVERHEAD, Event, Field, Reading, field_of, referenced_by
-from .recording import Object, pieces_of_records, qpk_on
+from .connection import Event, Reading, Window, referenced_by
+from .lines import MOST_KEPT, Field, Object
+from .recording import pieces_of_records, qpk_on
 
 BLOCKS = "▁▂▃▄▅▆▇█"
 BLOCKS_OF_ASCII = "_.,-=+*#"
@@ -83,12 +85,9 @@ class Counting:
     lists_not_counted: int = 0
     counted_bytes: int = 0  # of the sections of the others
     qif: BinaryIO = field(default_factory=tempfile.TemporaryFile)  # the others in QIF
-    table: Deque[int] = field(default_factory=deque)  # the size of each entry of the table
-    table_size: int = 0
-    capacity: int = 0
+    window: Window = field(default_factory=Window)
     referenced: bytearray = field(default_factory=bytearray)  # 1 for each entry that is
     duplicates: int = 0
-    evictions: int = 0
     blocked_sections: int = 0
     arrivals: int = 0  # of the blocked sections that were read later
     blocked_lines: int = 0
@@ -101,9 +100,10 @@ class Counting:
     def take(self, event: Event) -> None:
         """Counts an event."""
         said = event.said
-        for line in event.lines:
-            if line.entry is not None:
-                self.referenced[line.entry - 1] = 1
+        referenced = self.referenced
+        for _, form, _ in event.parts:
+            if form.entry is not None:
+                referenced[form.entry - 1] = 1
         if "max_capacity" in said:
             self.settings = self.settings or said
         elif event.stream == "encoder":
@@ -117,19 +117,12 @@ class Counting:
         if "instruction" not in said or "refused" in said:
             return
         self.last = said["encoder"]
-        if said["instruction"] == "set capacity":
-            self.capacity = said["capacity"]
-        elif "entry" in said:
+        if self.window.apply(said):
             self.duplicates += said["instruction"] == "duplicate"
             entry = referenced_by(said)
             if entry is not None:
                 self.referenced[entry - 1] = 1
             self.referenced.append(0)
-            self.table.append(field_of(said).length + ENTRY_OVERHEAD)
-            self.table_size += self.table[-1]
-        while self.table_size > self.capacity:
-            self.table_size -= self.table.popleft()
-            self.evictions += 1
 
     def end_instruction(self, offset: int) -> None:
         """Counts the bytes of the last instruction, which end at an offset."""
@@ -169,15 +162,17 @@ class Counting:
 
     def take_fields(self, event: Event) -> None:
         """Counts the fields of a list, and writes them in QIF, if that can have them."""
-        self.fields += len(event.lines)
-        self.list_bytes += sum(it.field.length for it in event.lines)
-        for it in event.lines:
-            self.hits[it.how] += 1
-        if all(is_in_qif(it.field) for it in event.lines):
-            self.counted_bytes += len(event.data)
-            self.qif.write(b"".join(b"%b\t%b\n" % it.field for it in event.lines) + b"\n")
-        else:
+        self.fields += len(event.parts)
+        hits = self.hits
+        for _, form, _ in event.parts:
+            hits[form.how] += 1
+        sizes, lines_of_qif = zip(*[written(it) for _, _, it in event.parts]) if event.parts else ((), ())
+        self.list_bytes += sum(sizes)
+        if None in lines_of_qif:
             self.lists_not_counted += 1
+        else:
+            self.counted_bytes += len(event.data)
+            self.qif.write(b"".join([*lines_of_qif, b"\n"]))  # type: ignore[list-item]
 
     def bytes_of_lists(self) -> Iterator[ListBytes]:
         """Yields what each list took, in the order in which they were decoded."""
@@ -204,7 +199,7 @@ class Counting:
             insertions=len(self.referenced),
             never_referenced=self.referenced.count(0),
             duplicates=self.duplicates,
-            evictions=self.evictions,
+            evictions=self.window.evicted,
             blocked_sections=self.blocked_sections,
             blocked_lines=self.blocked_lines,
             blocked_seconds=round(self.blocked_seconds or 0.0, 9) if is_timed else None,
@@ -231,6 +226,12 @@ class Count:
 
 
 # ---- The same lists without a dynamic table
+
+
+@lru_cache(MOST_KEPT)
+def written(it: Field) -> Tuple[int, Optional[bytes]]:
+    """Returns the bytes of the name and value of a field, and its line of QIF, if that can have it."""
+    return it.length, b"%b\t%b\n" % it if is_in_qif(it) else None
 
 
 def is_in_qif(it: Field) -> bool:

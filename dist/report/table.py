@@ -4,7 +4,7 @@ from typing import Any, Dict, Iterator, List, Tuple
 
 from . import ReportError
 from .connection import Connection, Direction, Entry, Event
-from .texts import place_of, shown_field, shown_form, title_of
+from .texts import place_of, shown_field, title_of
 
 
 def text_for_json(data: bytes) -> Any:
@@ -79,7 +79,7 @@ def event_object(event: Event) -> Dict[str, Any]:
 def life_as_object(direction: Direction, entry: Entry) -> Dict[str, Any]:
     """Returns the life of an entry as an object for JSON."""
     lines = [
-        {**event_object(event), "offset": event.lines[place].offset, "form": event.lines[place].form}
+        {**event_object(event), "offset": event.parts[place][0], "form": event.parts[place][1].said}
         for event, place in entry.lines
     ]
     inserted = {**event_object(entry.inserted), "bytes": entry.inserted.data.hex()}
@@ -99,9 +99,8 @@ def life_as_text(direction: Direction, entry: Entry) -> Iterator[str]:
     yield f"{owner}entry {entry.number}, {entry.size} bytes, {shown_field(entry.field)}"
     yield f"  inserted: {place_of(entry.inserted)}: {title_of(entry.inserted)}; bytes {entry.inserted.data.hex()}"
     for event, place in entry.lines:
-        line = event.lines[place]
-        where = f"{place_of(event)}: section {event.said['section']}, byte {line.offset}"
-        yield f"  referenced: {where}: {shown_form(line.form)}"
+        offset, form, _ = event.parts[place]
+        yield f"  referenced: {place_of(event)}: section {event.said['section']}, byte {offset}: {form.text}"
     for event in entry.instructions:
         verb = "duplicated" if event.said["instruction"] == "duplicate" else "its name referenced"
         yield f"  {verb}: {place_of(event)}: {title_of(event)}"

@@ -1,7 +1,7 @@
 """Texts as qpk show prints them."""
 
-from .connection import Event, Field
-from .recording import Object
+from .connection import Event
+from .lines import Field, Object, shown_form
 
 PRINTABLE = range(0x20, 0x7F)
 
@@ -22,16 +22,6 @@ def shown(data: bytes, is_name: bool = False) -> str:
 def shown_field(field: Field) -> str:
     """Returns a field as text."""
     return f"{shown(field.name, is_name=True)}: {shown(field.value)}"
-
-
-def shown_form(form: Object) -> str:
-    """Returns how a line or an instruction has its field, or its name."""
-    if form["type"] == "literal":
-        text = "literal never indexed" if form.get("never_indexed") else "literal"
-        names = form.get("name_from", form)
-        return text if names["type"] == "literal" else f"{text} with the name of {shown_form(names)}"
-    entry = f" (entry {form['entry']})" if "entry" in form else ""
-    return f"{form['type']} {form['index']}{entry}"
 
 
 def place_of(event: Event) -> str:

@@ -4,14 +4,13 @@ import argparse
 import json
 import locale
 import sys
-from pathlib import Path
 from typing import Any, Callable, Dict, List, NoReturn, Optional, Protocol
 
 from qpk_main import complain, run
 
 from .again import Lists, load_library, try_capacities
 from .connection import Connection, Event, Reading
-from .page import connection_data, room_of_page, write_page
+from .page import PageMaker
 from .recording import Recording, Source, read_recordings
 from .stats import Count, as_object, print_numbers
 from .table import choose, find_entries, life_as_object, life_as_text, tables_as_objects, tables_as_text
@@ -40,8 +39,8 @@ USAGE = {
 HELP = {
     "report": f"""\
 
-Writes a recorded connection as a page of HTML, in one file that needs no network: each instruction and section with its
-bytes and their meaning, both tables at any moment, what is wrong, and what stats counts.
+Writes a recorded connection as a page of HTML, in one file that needs no network: what is wrong, the requests, their
+sections and each instruction with their bytes and meaning, both tables at any moment, and what stats counts.
   qpk report capture.pcapng --keys keys.log -o connection.html
 
 {FILE}
@@ -179,19 +178,15 @@ def read(recording: Recording, *observers: Observer) -> Reading:
 
 def run_report(words: argparse.Namespace, recordings: List[Recording]) -> bool:
     """Writes the page, and returns whether something is refused."""
-    room, is_refused, data = room_of_page(), False, []
-    for recording in recordings:
-        connection, count = Connection(recording, room), Count()
-        reading = read(recording, count, connection)
-        connection.finish(reading.ends())
-        data.append(connection_data(connection, count.numbers(reading)))
-        is_refused = is_refused or reading.is_refused
-    page = write_page(data)
+    page = PageMaker()
+    while recordings:
+        page.add(recordings.pop(0))
     if words.output in (None, "-"):
-        sys.stdout.buffer.write(page.encode())
+        sys.stdout.buffer.writelines(it.encode() for it in page.parts())
     else:
-        Path(words.output).write_bytes(page.encode())
-    return is_refused
+        with open(words.output, "wb") as file:
+            file.writelines(it.encode() for it in page.parts())
+    return page.is_refused
 
 
 def run_stats(words: argparse.Namespace, recordings: List[Recording]) -> bool:
@@ -288,7 +283,8 @@ def answer(words: argparse.Namespace) -> int:
     source = Source(
         words.file, words.keys, words.pdml, words.connection, words.max_capacity, words.max_blocked, words.qif, words.by
     )
-    return REFUSED_PART if COMMANDS[words.command](words, read_recordings(source)) else 0
+    recordings = read_recordings(source, is_judged=words.command == "report")
+    return REFUSED_PART if COMMANDS[words.command](words, recordings) else 0
 
 
 def main() -> int:

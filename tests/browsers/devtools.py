@@ -3,6 +3,7 @@ import base64
 import fcntl
 import json
 import os
+import re
 import select
 import subprocess
 import time
@@ -11,6 +12,7 @@ from nghttp3 import Failure
 
 SECONDS = 60
 PROGRAM = 'chromium'
+KEYS = {'Tab': 9, 'Enter': 13, 'Escape': 27, 'PageDown': 34, 'End': 35, 'Home': 36, 'ArrowUp': 38, 'ArrowDown': 40}
 
 
 class Browser:
@@ -72,14 +74,18 @@ class Browser:
     def open(self, url):
         """Opens a page."""
         target = self.call('Target.createTarget', url=url)['targetId']
-        return Page(self, self.call('Target.attachToTarget', targetId=target, flatten=True)['sessionId'])
+        return Page(self, self.call('Target.attachToTarget', targetId=target, flatten=True)['sessionId'], target)
 
 
 class Page:
     """A page in a browser."""
 
-    def __init__(self, browser, session):
-        self.browser, self.session = browser, session
+    def __init__(self, browser, session, target):
+        self.browser, self.session, self.target = browser, session, target
+
+    def close(self):
+        """Closes it."""
+        self.browser.call('Target.closeTarget', targetId=self.target)
 
     def ask(self, expression):
         """Returns the value of an expression in the page."""
@@ -96,6 +102,38 @@ class Page:
             if time.time() > until:
                 raise Failure(f'{expression} is not true after {SECONDS} seconds')
             time.sleep(0.05)
+
+    def go(self, url):
+        """Opens another page in its place."""
+        self.browser.call('Page.navigate', self.session, url=url)
+
+    def look(self, width, height, scheme='light'):
+        """Gives the page a size, and light or dark colours."""
+        self.browser.call('Emulation.setDeviceMetricsOverride', self.session, width=width, height=height,
+                          deviceScaleFactor=1, mobile=width < 600)
+        self.browser.call('Emulation.setEmulatedMedia', self.session,
+                          features=[{'name': 'prefers-color-scheme', 'value': scheme}])
+
+    def press(self, key, text=''):
+        """Presses a key, which may type a text."""
+        words = {'key': key, 'windowsVirtualKeyCode': KEYS.get(key, 0), **({'text': text} if text else {})}
+        self.browser.call('Input.dispatchKeyEvent', self.session, type='keyDown', **words)
+        self.browser.call('Input.dispatchKeyEvent', self.session, type='keyUp', key=key)
+
+    def type(self, text):
+        """Types a text."""
+        self.browser.call('Input.insertText', self.session, text=text)
+
+    def processor(self):
+        """Returns the seconds of the processor that its thread took, once it was asked before the page was opened."""
+        self.browser.call('Performance.enable', self.session, timeDomain='threadTicks')
+        found = self.browser.call('Performance.getMetrics', self.session)['metrics']
+        return next(it['value'] for it in found if it['name'] == 'TaskDuration')
+
+    def printed(self):
+        """Returns how many pages it prints."""
+        data = base64.b64decode(self.browser.call('Page.printToPDF', self.session)['data'])
+        return len(re.findall(rb'/Type\s*/Page\b', data))
 
     def picture(self):
         """Returns a picture of what the window shows, as PNG."""

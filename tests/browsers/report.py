@@ -6,10 +6,14 @@ moments with what qpk table prints. A fault in the recording must be marked, and
 stay a text. A wrong field and a wrong entry that are planted in a page must be found. Needs chromium. It opens no
 connection.
 
-    --picture FILE    writes a picture of the report, and tests nothing
+    NAME..              makes these checks alone
+    --pictures FOLDER   writes pictures of the report, and tests nothing
+    --sizes [NUMBER..]  writes the sizes and the times of pages of that many requests into docs/PERFORMANCE.md
 
 The last line is 'N passed, M failed'.
 """
+import base64
+import itertools
 import json
 import os
 import re
@@ -17,10 +21,14 @@ import shutil
 import subprocess
 import sys
 import tempfile
+import zlib
 from ctypes.util import find_library
 from pathlib import Path
 
 import devtools
+import everybody
+import keyboard
+import sizes
 from nghttp3 import Failure
 
 TOP = Path(__file__).resolve().parents[2]
@@ -28,26 +36,26 @@ CAPTURED = TOP / 'tests' / 'captured'
 RECORDING = CAPTURED / 'chromium.txt'
 # Lines of the recording after which the tables are compared: at its ends, in a direction each, and around evictions.
 MOMENTS = [2, 4, 5, 7, 12, 21, 40, 46, 47, 52, 55]
-# Faults of a page: a line of a section, and an entry of a table.
-PLANTED = [
-    ('"field":":method: GET"', '"field":":method: PUT"'),
-    ('"field":":authority: localhost', '"field":":authority: elsewhere'),
-]
-# What tshark prints of two connections, each with a section: those of static 17 and static 20.
+# Faults of the data of a page: a line of a section, and an entry of a table.
+PLANTED = [(b':method: GET', b':method: PUT'), (b':authority: localhost', b':authority: elsewhere')]
+# What tshark prints of three connections, each with a section: static 17, static 20, and one that is cut.
 PACKET = '''<packet><field name="frame.time_relative" show="1"/><field name="ip.src" show="10.0.0.1"/>
 <field name="ip.dst" show="10.0.0.2"/><field name="udp.srcport" show="5000"/><field name="udp.dstport" show="443"/>
 <field name="quic.connection.number" show="{}"/><field name="quic.stream.stream_id" show="0"/>
-<field name="quic.stream_data" value="01030000{}"/></packet>'''
-PDML = f"<pdml>{PACKET.format(0, 'd1')}{PACKET.format(5, 'd4')}</pdml>"
-# What the page has: the lists by the end that sent them and the stream, and the tables.
-LISTS = '''Array.from(document.querySelectorAll('.event'), event => ({
-    end: event.parentElement.classList[1], title: event.querySelector('.meaning').textContent,
-    fields: Array.from(event.querySelectorAll('.row .field:not(.inserted)'), field => field.textContent)}))
-  .filter(({title}) => title.startsWith('section '))'''
-TABLES = '''Array.from(document.querySelectorAll('aside .table'), table => ({
+<field name="quic.stream_data" value="01{}"/></packet>'''
+PDML = f"<pdml>{PACKET.format(0, '030000d1')}{PACKET.format(5, '030000d4')}{PACKET.format(7, '040000d1ff')}</pdml>"
+# What the page has: each event by its title and its fields, and the tables.
+EVENTS = '''report.connection.events.map((row, event) => {
+    const made = report.details.event(event);
+    return {end: report.connection.end(event), line: report.connection.line(event), kind: row[0],
+        title: made.querySelector('.meaning').firstChild.textContent, text: made.querySelector('.meaning').textContent,
+        forms: Array.from(made.querySelectorAll('.form'), form => form.textContent),
+        fields: Array.from(made.querySelectorAll('.pair .field:not(.inserted)'), field => field.textContent)};
+})'''
+TABLES = '''Array.from(document.querySelectorAll('.tables .table'), table => ({
     text: table.textContent,
-    rows: Array.from(table.querySelectorAll('tr:not(.evicted)'),
-        row => Array.from(row.cells, cell => cell.textContent)).slice(1),
+    rows: Array.from(table.querySelectorAll('tbody tr:not(.evicted)'),
+        row => Array.from(row.cells, cell => cell.textContent)),
     draining: Array.from(table.querySelectorAll('tr.draining'), row => Number(row.cells[0].textContent)),
     inserted: Array.from(table.querySelectorAll('tr.inserted'), row => Number(row.cells[0].textContent))}))'''
 
@@ -71,21 +79,33 @@ class Pages:
     def __init__(self, browser, room):
         self.browser, self.room, self.number = browser, room, 0
 
-    def open(self, html, place=''):
+    def open(self, html, place='', width=1280, scheme='light'):
         """Opens a report, at a place of it, and waits until it is whole."""
         self.number += 1
         path = Path(self.room) / f'{self.number}.html'
         path.write_text(html, encoding='utf-8')
-        page = self.browser.open(path.as_uri() + place)
+        page = self.browser.open('about:blank')
+        page.look(width, 860, scheme)
+        page.processor()
+        page.go(path.as_uri() + place)
         page.wait_for("document.body && document.body.dataset.ready === 'yes'")
         return page
+
+    @staticmethod
+    def report():
+        """Returns the report of the recording."""
+        return run('report', RECORDING)
+
+    def faulty_report(self):
+        """Returns the report of the recording with faults."""
+        return run('report', faulty_recording(self), statuses=(2,))
 
 
 def compare_lists(page):
     """Checks that the page has the lists of Chromium's log, and returns how many."""
     lists = {'client': {}, 'server': {}}
-    for it in page.ask(LISTS):
-        if ': required insert count' in it['title']:
+    for it in page.ask(EVENTS):
+        if it['kind'] == 's':
             stream = it['title'].split()[1].rstrip(':')
             lists[it['end']][stream] = sorted(field.replace('\\\\', '\\') for field in it['fields'])
     logged = json.loads((CAPTURED / 'chromium.json').read_text('utf-8'))
@@ -93,6 +113,23 @@ def compare_lists(page):
     if lists != expected:
         raise Failure('the page has other lists than the log of Chromium')
     return sum(map(len, lists.values()))
+
+
+def compare_words(page, path, statuses=(0,)):
+    """Checks that the page has each event in the words of qpk show, and returns how many."""
+    ran = subprocess.run([TOP / 'qpk', 'show', path], capture_output=True, encoding='utf-8', check=False)
+    if ran.returncode not in statuses:
+        raise Failure(f'qpk show ended with {ran.returncode}')
+    shown = re.sub(r'^(@?[\d.]+ )?([<>] )?', '', ran.stdout, flags=re.M)
+    place = 0
+    events = page.ask(EVENTS)
+    for it in events:
+        for text in (it['title'], *it['forms']):
+            found = shown.find(text, place)
+            if found < 0:
+                raise Failure(f'qpk show does not print {text} after byte {place}')
+            place = found + len(text)
+    return len(events)
 
 
 def expected_tables(line):
@@ -111,14 +148,12 @@ def expected_tables(line):
 def move_to(page, line):
     """Moves the slider to the last event of a line."""
     found = page.ask(f'''(() => {{
-        const article = Array.from(document.querySelectorAll('article.line'))
-            .find(article => article.querySelector('h3').textContent.split(', ').includes('line {line}'));
-        const slider = document.getElementById('moment');
-        slider.value = article.lastElementChild.id.slice(1);
+        const slider = document.getElementById('moment'), {{connection}} = report;
+        slider.value = connection.events.findLastIndex((row, event) => connection.line(event) === {line});
         slider.dispatchEvent(new Event('input'));
-        return document.querySelector('.moment').textContent;
+        return [document.querySelector('.moment').textContent, slider.getAttribute('aria-valuetext')];
     }})()''')
-    if not found.startswith(f'after line {line},'):
+    if not all(it.startswith(f'after line {line},') for it in found):
         raise Failure(f'the slider is {found}, and not at line {line}')
 
 
@@ -138,14 +173,15 @@ def compare_tables(page):
 def check_chromium(pages, html):
     """Checks the report of the recorded connection."""
     page = pages.open(html)
-    if page.ask("document.querySelector('.faults').textContent") != 'Nothing is wrong on this connection.':
+    if not page.ask("document.querySelector('.summary.right').textContent").endswith('Nothing is wrong on this connection.'):
         raise Failure('the page has a fault')
     return f'{compare_lists(page)} lists as the log of Chromium, {compare_tables(page)} tables as qpk table'
 
 
 def check_recording(pages):
     """Checks the report of the recording."""
-    return check_chromium(pages, run('report', RECORDING))
+    html = run('report', RECORDING)
+    return f'{check_chromium(pages, html)}, {compare_words(pages.open(html), RECORDING)} events in the words of qpk show'
 
 
 def check_capture(pages):
@@ -156,68 +192,72 @@ def check_capture(pages):
 
 
 def check_links(pages):
-    """An index leads to the insertion of its entry, and shows the table after it."""
+    """An index leads to the insertion of its entry, and shows the table after it. An address opens what it names."""
     page = pages.open(run('report', RECORDING))
-    seen = page.ask('''(() => {
-        const links = Array.from(document.querySelectorAll('.form a'));
-        return links.map(link => {
-            const to = document.querySelector(link.getAttribute('href')), entry = link.textContent.split(' ')[1];
-            const field = link.closest('.meaning').querySelector('.field');
-            return to.querySelector('.meaning').textContent.includes(`as entry ${entry} `) &&
-                to.querySelector('.inserted').textContent === field.textContent;
-        });
-    })()''')
+    seen = page.ask('''report.connection.events.flatMap((row, event) => row[0] !== 's' ? [] :
+        Array.from(report.details.event(event).querySelectorAll('.form a'), link => {
+            const to = Number(link.hash.match(/^#0.event.(\\d+)$/)[1]), made = report.details.event(to);
+            return made.querySelector('.meaning').textContent.includes(`as ${link.textContent} `) &&
+                made.querySelector('.inserted').textContent === link.closest('.meaning').querySelector('.field').textContent;
+        }))''')
     if len(seen) != 253 or not all(seen):
         raise Failure(f'{seen.count(True)} of {len(seen)} links lead to their entries, and not 253 of 253')
-    page.ask("Array.from(document.querySelectorAll('.form a')).find(it => it.textContent === 'entry 80').click()")
-    if 'as entry 80' not in page.ask("document.querySelector('.moment').textContent"):
-        raise Failure('a link to an insertion does not show the table after it')
-    page = pages.open(run('report', RECORDING), '#e5')
-    if 'insert as entry 3' not in page.ask("document.querySelector('.moment').textContent"):
-        raise Failure('the address of an insertion does not show the table after it')
-    return f'{len(seen)} links'
+    for address, moment, chosen in (('#0/event/5', 'insert as entry 3', 'encoder 25'), ('#0/stream/8', 'section 8', '/echo?turn=0')):
+        page = pages.open(run('report', RECORDING), address)
+        said = page.ask("[document.querySelector('.moment'), document.querySelector('.chosen-part')].map(it => it.textContent)")
+        if moment not in said[0] or chosen not in said[1] or page.ask('location.hash') != address:
+            raise Failure(f'the address {address} shows {said[0]}')
+    page.ask("document.querySelector('.form a').click()")
+    page.wait_for("location.hash.startsWith('#0/event/') && document.querySelector('.moment').textContent.includes('as entry ')")
+    return f'{len(seen)} links, and two addresses'
 
 
-def check_fault(pages):
-    """A section that can't be decoded is marked, its acknowledgment, and an instruction that is cut. All are counted at
-    the top, with links."""
+def faulty_recording(pages):
+    """Returns a recording with a section that can't be decoded, so its acknowledgment is wrong, and with a cut end."""
     lines = RECORDING.read_text('utf-8').splitlines()
     at = next(i for i, line in enumerate(lines) if ' < b 4 ' in line)
     lines[at] = lines[at].replace(' < b 4 05', ' < b 4 ff')
     path = Path(pages.room) / 'faulty.txt'
     path.write_text('\n'.join([*lines, '@1 > e ff']) + '\n', encoding='utf-8')
-    page = pages.open(run('report', path, statuses=(2,)))
-    top, marked = page.ask("document.querySelector('.faults').textContent"), page.ask('''Array.from(
-        document.querySelectorAll('.event.faulty'), it => it.id + it.querySelector('.meaning').textContent)''')
-    texts = page.ask("Array.from(document.querySelectorAll('.event.faulty .wrong'), it => it.textContent)")
-    targets = page.ask("Array.from(document.querySelectorAll('.faults a'), it => it.getAttribute('href').slice(1))")
-    if not top.startswith('3 faults') or 'QPACK_DECOMPRESSION_FAILED' not in top:
+    return path
+
+
+def check_fault(pages):
+    """Faults are counted at the top, with links, marked at their events, and in the rows of their requests."""
+    page = pages.open(run('report', faulty_recording(pages), statuses=(2,)))
+    top = page.ask("document.querySelector('.summary.wrong').textContent + document.querySelector('.faults').textContent")
+    if '3 findings' not in top or 'QPACK_DECOMPRESSION_FAILED' not in top:
         raise Failure(f'the page begins with {top}')
-    expected = [targets[0] + 'section 4', targets[1] + 'decoder 1', targets[2] + 'encoder 1352']
-    if [it.split(':')[0] for it in marked] != expected:
-        raise Failure(f'the page marks {marked} and links to {targets}')
-    if re.findall(r'RFC 9204, section ([\d.]+)', ' '.join(texts)) != ['4.5.1.1', '4.4.1', '4.2']:
-        raise Failure(f'the page says at the faults {texts}')
+    targets = page.ask("Array.from(document.querySelectorAll('.faults a'), it => Number(it.hash.split('/')[2]))")
+    marked = page.ask(f'''{targets}.map(event => {{
+        const made = report.details.event(event);
+        return [made.className, made.querySelector('.meaning').textContent, made.querySelector('.wrong').textContent];
+    }})''')
+    titles = [title.split(':')[0] for _, title, _ in marked]
+    if titles != ['section 4', 'decoder 1', 'encoder 1352'] or any('faulty' not in name for name, *_ in marked):
+        raise Failure(f'the page marks {marked}')
+    if re.findall(r'RFC 9204, section ([\d.]+)', ' '.join(text for *_, text in marked)) != ['4.5.1.1', '4.4.1', '4.2']:
+        raise Failure(f'the page says at the faults {marked}')
+    if page.ask("report.requests.shown.filter(it => it.faults.length).map(it => it.stream).join()") != '4,8':
+        raise Failure('the rows of other requests have findings')
     return 'three are marked'
 
 
 def check_connections(pages):
-    """Of the connections of a capture one is chosen."""
-    path = Path(pages.room) / 'two.pdml'
+    """Of three connections of which the third is refused, the page begins with that one, and says so."""
+    path = Path(pages.room) / 'three.pdml'
     path.write_text(PDML, encoding='utf-8')
-    page = pages.open(run('report', '--pdml', path))
+    page = pages.open(run('report', '--pdml', path, statuses=(2,)))
+    if 'Findings on 1 of 3 connections' not in page.ask("document.querySelector('.summary').textContent"):
+        raise Failure('the page begins with another verdict')
+    names = page.ask("Array.from(document.querySelectorAll('.connection .name'), it => it.textContent.split(',')[0])")
     found = []
-    for place in (0, 1):
-        page.ask(f'''(() => {{
-            const choice = document.querySelector('h1 select');
-            choice.selectedIndex = {place};
-            choice.dispatchEvent(new Event('change'));
-        }})()''')
-        page.wait_for("document.body.dataset.ready === 'yes'")
-        found.append(page.ask("Array.from(document.querySelectorAll('.meaning .field'), it => it.textContent)"))
-    if found != [[':method: GET'], [':method: POST']]:
-        raise Failure(f'the page has {found}')
-    return 'two'
+    for place in range(3):
+        page.ask(f"document.querySelectorAll('.connection')[{place}].click()")
+        found.append(page.ask("report.connection.requests.map(it => it.method)"))
+    if (names, found) != (['connection 7', 'connection 0', 'connection 5'], [['GET'], ['GET'], ['POST']]):
+        raise Failure(f'the page has {names} and {found}')
+    return 'three, the worst first'
 
 
 def check_script(pages):
@@ -227,7 +267,7 @@ def check_script(pages):
     path = Path(pages.room) / 'script.txt'
     path.write_text(f'@</script><b> > {line}', encoding='utf-8')
     page = pages.open(run('report', path))
-    shown = page.ask("document.querySelector('.field.literal:not(.legend *)').textContent")
+    shown = page.ask("document.querySelector('.meaning .field.literal').textContent")
     expected = 'x: ' + value.decode('latin-1').replace('\\', '\\\\').replace('\xff', '\\xff').replace('\0', '\\x00')
     if shown != expected:
         raise Failure(f'the field is {shown}')
@@ -246,14 +286,20 @@ def value_of(value):
     return (bytes([len(value)]) if len(value) < 127 else bytes([127, len(value) - 127])) + value
 
 
+def with_data(html, change):
+    """Returns a page with other data."""
+    begin = html.index('id="data">') + len('id="data">')
+    end = html.index('</script>', begin)
+    data = change(zlib.decompress(base64.b64decode(html[begin:end])))
+    return html[:begin] + base64.b64encode(zlib.compress(data)).decode() + html[end:]
+
+
 def check_planted(pages):
     """A wrong field of a list and a wrong entry, planted in the page, are found."""
     html = run('report', RECORDING)
     for old, new in PLANTED:
-        if old not in html:
-            raise Failure(f'the page has no {old}')
         try:
-            check_chromium(pages, html.replace(old, new, 1))
+            check_chromium(pages, with_data(html, lambda data, old=old, new=new: data.replace(old, new, 1)))
         except Failure:
             continue
         raise Failure(f'it was not found: {new}')
@@ -268,19 +314,19 @@ CHECKS = {
     'connections': check_connections,
     'a script in a field': check_script,
     'planted faults': check_planted,
+    'the keyboard': keyboard.check,
+    'everybody': everybody.check,
+    'any size': sizes.check,
 }
 
 
-def take_picture(browser, room, path):
-    """Writes a picture of the report, at a section in the middle of the recording."""
-    page = Pages(browser, room).open(run('report', RECORDING))
-    page.ask('''(() => {
-        const event = Array.from(document.querySelectorAll('.event'))
-            .find(it => it.querySelector('.meaning').textContent.startsWith('section 36:'));
-        event.click();
-        event.parentElement.previousElementSibling.scrollIntoView();
-    })()''')
-    Path(path).write_bytes(page.picture())
+def take_pictures(browser, room, folder):
+    """Writes pictures of the report, at a request in the middle: 1280 and 400 pixels wide, light and dark."""
+    for width, scheme in itertools.product((1280, 400), ('light', 'dark')):
+        page = Pages(browser, room).open(run('report', RECORDING), '#0/stream/24', width, scheme)
+        page.ask('document.activeElement.blur()')
+        name = f"report{'' if width == 1280 else '-narrow'}{'' if scheme == 'light' else '-dark'}.png"
+        (Path(folder) / name).write_bytes(page.picture())
 
 
 def main():
@@ -292,10 +338,14 @@ def main():
     with tempfile.TemporaryDirectory() as room:
         browser = devtools.Browser(room)
         try:
-            if sys.argv[1:2] == ['--picture']:
-                take_picture(browser, room, sys.argv[2])
+            if sys.argv[1:2] == ['--pictures']:
+                take_pictures(browser, room, sys.argv[2])
                 return 0
-            for name, check in CHECKS.items():
+            if sys.argv[1:2] == ['--sizes']:
+                sizes.write(Pages(browser, room), [int(it) for it in sys.argv[2:]] or sizes.ALL)
+                return 0
+            wanted = sys.argv[1:] or CHECKS
+            for name, check in ((it, CHECKS[it]) for it in wanted):
                 try:
                     print(f'tests/browsers/report.py: {name}: {check(Pages(browser, room))}', flush=True)
                     passed += 1

@@ -2,6 +2,11 @@
 'use strict';
 
 const SHOWN_SECTIONS = 12;
+const POLLED = '/live/events'; // what this page asks for by itself
+const own = new Set(); // the streams on which it did
+
+// Whether a field is one that only what this page asks for by itself has.
+function isOwnField([name, value]) { return name === 'x-next' || name === ':path' && value.startsWith(POLLED); }
 
 // One direction: what its sections took, and a reader of them with a table of its own. The table that is shown is the
 // library's.
@@ -31,6 +36,9 @@ class Direction {
     const bytes = bytesOf(hex), lines = this.reader.lines(bytes);
     const isWrong = lines.length !== fields.length ||
       lines.some(({name, value}, i) => name !== fields[i][0] || value !== fields[i][1]);
+    this.wrong += isWrong;
+    if (fields.some(isOwnField)) own.add(id);
+    if (own.has(id)) return;
     const textBytes = fields.reduce((sum, [name, value]) => sum + name.length + value.length + 4, 0);
     for (const {how} of lines) this.kinds[how] = (this.kinds[how] || 0) + 1;
     this.sections.unshift({id, bytes: bytes.length, textBytes, lines, isWrong});
@@ -38,7 +46,6 @@ class Direction {
     this.count++;
     this.sectionBytes += bytes.length;
     this.textBytes += textBytes;
-    this.wrong += isWrong;
   }
 
   // The decoder stream of this direction (RFC 9204, section 4.4). Its pieces here are whole instructions.
@@ -87,7 +94,11 @@ function take(event) {
 
 function row(tag, cells) {
   const made = element('tr');
-  cells.forEach((cell, i) => made.append(element(tag, i < 2 ? 'number' : '', cell)));
+  cells.forEach((cell, i) => {
+    const part = element(tag, i < 2 ? 'number' : '', String(cell));
+    if (tag === 'th') part.scope = 'col';
+    made.append(part);
+  });
   return made;
 }
 
@@ -97,7 +108,7 @@ function showTable({insertions, entries}, reader) {
   shown.append(row('th', ['index', 'used', 'name', 'value']));
   entries.forEach(([name, value], i) => {
     const index = insertions - 1 - i;
-    shown.append(row('td', [index, reader.uses(index), name, value]));
+    if (!isOwnField([name, value])) shown.append(row('td', [index, reader.uses(index), name, value]));
   });
   return shown;
 }
@@ -140,7 +151,8 @@ function show(id, title, direction, table) {
     element('div', direction.wrong || isOther ? 'wrong' : '',
       `${direction.wrong} sections read otherwise by this page` + (isOther ? ', and entries of the table' : '')),
     element('div', '', `table: ${table.size} of ${table.capacity} bytes, at most ${reader.maximum}`),
-    bar, showTable(table, reader), element('h2', '', 'The last sections'), ...direction.sections.map(showSection));
+    bar, showTable(table, reader), element('h2', '', 'The last sections'),
+    element('div', 'sections', ...direction.sections.map(showSection)));
 }
 
 async function update() {
@@ -175,6 +187,9 @@ for (const button of document.querySelectorAll('[data-requests]'))
 document.getElementById('cookie').onclick = () => {
   document.cookie = 'page=' + 'abcdefgh'.repeat(1 + Math.floor(Math.random() * 20)) + '; path=/';
 };
-document.getElementById('pause').onclick = () => { isPaused = !isPaused; };
+document.getElementById('pause').onclick = ({target}) => {
+  isPaused = !isPaused;
+  target.setAttribute('aria-pressed', isPaused);
+};
 if (location.hash === '#demo') setTimeout(() => document.querySelector('[data-requests="20"]').click(), 1000);
 update();

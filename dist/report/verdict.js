@@ -1,0 +1,73 @@
+// The verdict of all connections, worst first, and what was found on one.
+
+const STATES = {wrong: {sign: '✕', rank: 0}, perhaps: {sign: '?', rank: 1}, right: {sign: '✓', rank: 2}};
+const MOST_NAMED = 6; // connections, and findings, that are listed before the others are asked for
+
+function stateOf({verdict: {certain, explained}}) { return certain ? 'wrong' : explained ? 'perhaps' : 'right'; }
+
+function verdictText({verdict: {certain, explained}}) {
+  if (!certain && !explained) return 'Nothing is wrong';
+  const parts = [certain ? counted(certain, 'finding') : '', explained ? `${counted(explained, 'finding')} that what is missing may explain` : ''];
+  return parts.filter(it => it).join(', ');
+}
+
+function sign(state) {
+  const made = element('span', 'sign ' + state, STATES[state].sign);
+  made.setAttribute('aria-hidden', 'true');
+  return made;
+}
+
+// The connections in the order of their verdicts.
+function worstFirst(connections) {
+  return connections.map((connection, number) => ({connection, number, state: stateOf(connection)}))
+    .sort((one, other) => STATES[one.state].rank - STATES[other.state].rank || one.number - other.number);
+}
+
+// The line at the top: what is wrong on all connections together.
+function summary(ranked) {
+  const {state, connection} = ranked[0], all = ranked.length;
+  if (all === 1) return element('p', 'summary ' + state, sign(state), verdictText(connection) + ' on this connection.');
+  const worse = ranked.filter(it => it.state !== 'right').length;
+  const text = worse ? `Findings on ${worse} of ${all} connections.` : `Nothing is wrong on ${all} connections.`;
+  return element('p', 'summary ' + state, sign(state), text);
+}
+
+// A button for each connection, worst first.
+function connectionList(ranked, onChoose) {
+  const item = ({connection, number, state}) => {
+    const button = element('button', 'connection', sign(state), element('span', 'name', connection.name), ' ',
+      element('span', 'said', verdictText(connection)));
+    button.type = 'button';
+    button.dataset.number = number;
+    button.onclick = () => onChoose(number);
+    return element('li', '', button);
+  };
+  const made = element('ul', 'connections', ...ranked.slice(0, MOST_NAMED).map(item)), rest = ranked.slice(MOST_NAMED);
+  if (rest.length) {
+    const more = element('button', 'more', `Show ${counted(rest.length, 'more connection')}`);
+    more.type = 'button';
+    more.onclick = () => { more.parentElement.remove(); made.append(...rest.map(item)); };
+    made.append(element('li', '', more));
+  }
+  return made;
+}
+
+// What was found on a connection, and what the file lacks.
+function findings({connection, details}) {
+  const {verdict, faults, left_out: leftOut} = connection, made = element('div', 'faults');
+  if (verdict.seen) made.append(element('p', verdict.lacks ? 'seen lacks' : 'seen', verdict.seen));
+  made.append(...leftOut.map(text => element('p', 'left-out', text)));
+  const item = fault => {
+    const place = `line ${fault.line}${fault.time ? ', ' + fault.time : ''}${fault.from ? ', ' + fault.from : ''}`;
+    return element('li', fault.perhaps ? 'perhaps' : 'wrong',
+      fault.event === null ? place : details.link(fault.event, place), ': ', textOfFault(fault));
+  };
+  if (faults.length) made.append(element('ol', '', ...faults.slice(0, MOST_NAMED).map(item)));
+  if (faults.length > MOST_NAMED) {
+    const more = element('button', 'more', `Show ${counted(faults.length - MOST_NAMED, 'more finding')}`);
+    more.type = 'button';
+    more.onclick = () => { more.previousElementSibling.append(...faults.slice(MOST_NAMED).map(item)); more.remove(); };
+    made.append(more);
+  }
+  return made;
+}
