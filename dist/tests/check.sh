@@ -1,7 +1,7 @@
 #!/usr/bin/env bash
 # Plants faults in a copy of dist/ and of its sources, and has dist/check find each: it names the file, and its status is
 # not 0. Each fault has its sum in SUMS. The copy has stand-ins for the objects that were proved: what the kit's clang
-# makes of the assembly before the fault, or for the library what it makes of a small function. Without the kit nothing is
+# makes of the assembly before the fault, or where others are made of a module what it makes of small functions. Without the kit nothing is
 # shown, and a line says so. The last line is 'N passed, M failed'.
 # shellcheck disable=SC2046,SC2086 # the names of files are words
 set -uo pipefail
@@ -33,7 +33,7 @@ write_sums() {
 
 # Prints the files that SUMS has sums of.
 list_made() {
-    { list_texts && list_ports && list_heaps && list_copies; } | cut -d ' ' -f 1
+    { list_texts && list_ports && list_wasm && list_heaps && list_copies; } | cut -d ' ' -f 1
 }
 
 # Makes the copy one in which nothing differs: the copies, the assembly of heap.c, the objects and SUMS.
@@ -54,6 +54,9 @@ make_equal() {
             fi
         done < <(list_texts)
         while read -r file of target; do port "$file" "$of" "$target" || exit; done < <(list_ports)
+        while read -r file of; do
+            write_wasm "$file" "$top/$(name_module "$of")" >"$top/dist/$file" || exit
+        done < <(list_wasm)
     ) && write_sums
 }
 
@@ -70,6 +73,21 @@ assemble() {
     esac
 }
 
+# Prints small functions in C: one, and what a module for WebAssembly is linked by, the program's main or the library's own
+# exports. The word is the crate.
+write_functions() {
+    printf '%s\n' 'void *realloc(void *, unsigned long);' 'char *f(char *p, long n) {' 'if (n == 77) n = 1234;' \
+        'p = realloc(p, n);' 'return p ? p + n : 0;' '}'
+    if [ "$1" = qpk_program ]; then
+        echo 'int main(void) { return f(0, 1) == 0; }'
+    else
+        "$kit/toolchain/bin/clang" -E -P -DH3_QPACK_NO_INLINE -isystem "$top/dist/wasm64" "$top/include/h3_qpack.h" |
+            tr '\n' ' ' | sed -E 's/h3q_(encode_copy|are_fields)/H3Q_\1/g
+                s/(h3q_[a-z_]+\([^()]*\)) *;/\1 { __builtin_trap(); }/g
+                s/H3Q_(encode_copy|are_fields)/h3q_\1/g'
+    fi
+}
+
 # Makes the stand-in of the module of a file, with the file and the object that are made of it.
 stand_in() {
     local module object
@@ -77,9 +95,7 @@ stand_in() {
     object=${module%.ll}
     mkdir -p "${module%/*}" &&
         printf '%s\n' -O2 -fPIC --no-default-config -fno-asynchronous-unwind-tables -x ir >"$module.words" &&
-        printf '%s\n' 'void *realloc(void *, unsigned long);' 'char *f(char *p, long n) {' 'if (n == 77) n = 1234;' \
-            'p = realloc(p, n);' 'return p ? p + n : 0;' '}' |
-        "$kit/toolchain/bin/clang" "--target=$3" -xc - -O2 -fPIC -fno-asynchronous-unwind-tables -S -emit-llvm -o "$module" &&
+        write_functions "$2" | "$kit/toolchain/bin/clang" "--target=$3" -xc - -O2 -fPIC -fno-asynchronous-unwind-tables -S -emit-llvm -o "$module" &&
         compile_module "$3" "$module" -fno-addrsig -fno-verbose-asm -S | write_text "$3" >"$top/dist/$1" &&
         compile_module "$3" "$module" -c >"$room/object.o" || return
     case $object in
@@ -172,10 +188,17 @@ refuse_ports() {
         plant dist/aarch64-android-elf.s '0,/x0/s/x0/x1/' && expect 1 $ports && put_back
 }
 
+# Another byte in each file for WebAssembly, at its end.
+refuse_wasm() {
+    local file
+    for file in $wasm; do plant "dist/$file" '$s/.$/\x01/' || return; done
+    expect 1 $wasm && put_back
+}
+
 # Without the kit, and with another, no file that the kit made is compared.
 skip_made() {
     local made
-    made=$(list_made | grep '\.s$')
+    made=$(list_made | grep -E '\.(s|o|wasm)$')
     sed -i 's/^kit .*/kit another/' "$top/dist/SUMS" && expect 2 $made && cp "$room/SUMS" "$top/dist/SUMS" &&
         (PATH=/usr/bin:/bin && ! command -v rt >/dev/null && expect 2 $made)
 }
@@ -189,6 +212,7 @@ kit_here=$(rt version)
 texts=$(list_texts | cut -d ' ' -f 1)
 heaps=$(list_made | grep '^heap-')
 ports=$(list_ports | cut -d ' ' -f 1)
+wasm=$(list_wasm | cut -d ' ' -f 1)
 copies='LICENSE h3_qpack.c h3_qpack.h roundtrip.c'
 try "copy dist/ and its sources" copy_tree && try "make the copy equal" make_equal && try "nothing differs" expect 0 ||
     { tell_count; exit 1; }
@@ -196,11 +220,13 @@ cp "$top/dist/SUMS" "$room/SUMS"
 # A fault that is not found stays, and the tests after it would fail for it: the first one ends the script.
 try "another constant in each file of assembly" refuse_constants $texts &&
     try "another call in each file for another target" refuse_ports &&
+    try "another byte in each file for WebAssembly" refuse_wasm &&
     try "a blank in each other file" refuse_blanks $heaps $copies &&
     try "another body in heap.c" refuse dist/heap.c 's/malloc(len ? len : align)/malloc(len)/' $heaps &&
+    try "another heap for WebAssembly" refuse dist/heap_wasm64.c 's/HEAD + 16/HEAD + 32/' wasm64.wasm qpk-wasm64.wasm &&
     try "os.c that is not there, and heap.c without a sum" refuse_lost os.c heap.c &&
     try "objects that are not there, or older" skip_objects &&
     try "no kit, and another kit" skip_made &&
     try "a comment in a source of both crates" refuse crates/qpack_base/src/bytes.rt '$a // planted' \
-        h3_qpack_c qpk_program $texts $ports
+        h3_qpack_c qpk_program $texts $ports $wasm
 tell_count

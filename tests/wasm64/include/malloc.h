@@ -1,0 +1,2 @@
+#include <stddef.h>
+size_t malloc_usable_size(void *p);
