@@ -272,7 +272,7 @@ def test_help_on_all():
             lines = output.splitlines()
             assert (status, said) == (0, b"") and [it for it in lines if it in expected] == expected, (words, output)
             added = [it.split()[0] for it in lines if it not in expected]
-            assert added == [b"report", b"stats", b"table"], output
+            assert added == [b"report", b"stats", b"table", b"tune", b"strip"], output
 
 
 def test_colours_take_nothing_away():
