@@ -24,7 +24,7 @@ def shown_time(nanoseconds: int) -> str:
 
 
 class Kept(NamedTuple):
-    """A packet that is kept until there are keys."""
+    """A packet, when it came, and where it begins in its datagram. Some are kept until there are keys."""
 
     time: int
     datagram: Datagram
@@ -49,6 +49,7 @@ class QuicConnection:
         self.is_late = False  # whether its first packets are not in the capture
         self.streams = Streams()
         self.lines: List[str] = []
+        self.packets: List[int] = []  # in the capture, by the lines that they made whole
         self.line_numbers: Dict[str, List[Tuple[int, int]]] = {">": [], "<": []}  # of lines, and of their packets
         self.heard = {">": 0, "<": 0}  # how many lines there were with the last acknowledgments of this end
         self.early = {">": Numbers(), "<": Numbers()}  # packets that were acknowledged before they were in the file
@@ -96,15 +97,15 @@ class QuicConnection:
         """Keeps the keys that opened a packet, and no others."""
         self.candidates[which] = [keys]
 
-    def take(self, time: int, mark: str, packet: Opened) -> None:
-        """Takes a packet that was opened, and adds the lines that are whole by then."""
+    def take(self, came: Kept, mark: str, packet: Opened) -> None:
+        """Takes a packet that was opened, which came in a datagram, and adds the lines that are whole by then."""
         self.seen[mark].add(packet.number, packet.number)
         self.is_answered = self.is_answered or mark == "<"
         self.in_a_row[mark] = 0
         has_heard = False
         for frame in read_frames(packet.payload):
             if frame.kind == STREAM:
-                self.take_stream(time, mark, packet.number, frame)
+                self.take_stream(came, mark, packet.number, frame)
             elif frame.kind == ACK:
                 self.take_acknowledgment(PEER[mark], frame.number, frame.offset)
                 has_heard = True
@@ -117,11 +118,12 @@ class QuicConnection:
         if has_heard:
             self.heard[mark] = len(self.lines)
 
-    def take_stream(self, time: int, mark: str, number: int, frame: Frame) -> None:
+    def take_stream(self, came: Kept, mark: str, number: int, frame: Frame) -> None:
         """Takes a STREAM frame of the packet with a number. A frame of HTTP/3 in it that can't be read is left out."""
         try:
             for words in self.streams.take(mark, frame.number, frame.offset, frame.data):
-                self.lines.append(f"@{shown_time(time)} {mark} {words}")
+                self.lines.append(f"@{shown_time(came.time)} {mark} {words}")
+                self.packets.append(came.datagram.packet)
                 self.line_numbers[mark].append((len(self.lines), number))
                 self.has_settings[mark] |= words.startswith("s ")
         except SourceError as error:

@@ -24,6 +24,7 @@ class Datagram(NamedTuple):
     target: Address
     data: bytes
     is_short: bool  # whether bytes of it are not in the capture
+    packet: int = 0  # the number of its packet in the capture, or of its last fragment's; from 1, as in Wireshark
 
 
 def text_of(address: Address) -> str:

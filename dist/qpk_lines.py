@@ -16,8 +16,9 @@ CAPTURES = (*PLAIN_CAPTURES, GZIP, XZ, ZSTD)
 ENDS = {">": "client", "<": "server", "": ""}
 MARKS = {end: mark for mark, end in ENDS.items()}
 PEER = {">": "<", "<": ">", "": ""}
-# A time; a mark, which the kind may follow at once; the kind; of a section its stream; and words of hexadecimal.
-LINE = re.compile(r"\s*(?:@\S*\s+)?(?:([<>])\s*)?([edb])(?:(?<=b)\s+\S+)?(?!\S)(.*)")
+# What is before the bytes: a time; a mark, which the kind may follow at once; the kind; of a section its stream. And the
+# words of hexadecimal.
+LINE = re.compile(r"(\s*(?:@\S*\s+)?(?:([<>])\s*)?([edb])(?:(?<=b)\s+(\S+))?)(?!\S)(.*)")
 
 
 class Piece(NamedTuple):
@@ -27,6 +28,7 @@ class Piece(NamedTuple):
     end: str  # client, server, or nothing if the recording has one direction
     kind: str  # e, d or b
     data: bytes
+    stream: str = ""  # the word that has the number of a section's stream
 
 
 def is_capture(head: bytes) -> bool:
@@ -39,11 +41,16 @@ def pieces_of_lines(lines: Iterable[str]) -> Iterator[Piece]:
     for number, line in enumerate(lines, 1):
         found = LINE.match(line)
         if found:
-            mark, kind, digits = found.groups()
-            yield Piece(number, ENDS[mark or ""], kind, bytes_of(digits))
+            _, mark, kind, stream, digits = found.groups()
+            yield Piece(number, ENDS[mark or ""], kind, bytes_of(digits), stream or "")
+
+
+def digits_of(text: str) -> str:
+    """Returns the digits that words of hexadecimal have."""
+    return re.sub(r"\b0[xX]|[:\s]", "", text)
 
 
 def bytes_of(text: str) -> bytes:
     """Returns the bytes that words of hexadecimal have. Half a byte at the end is left out."""
-    digits = re.sub(r"\b0[xX]|[:\s]", "", text)
+    digits = digits_of(text)
     return bytes.fromhex(digits[: len(digits) // 2 * 2])

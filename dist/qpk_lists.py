@@ -70,7 +70,7 @@ def lists_of_har(value: Dict[str, Any]) -> Iterator[HeaderList]:
                 yield HeaderList(mark, 4 * number, [(name.lower(), value) for name, value in fields])
 
 
-def written(lists: List[HeaderList], is_json: bool) -> Iterator[bytes]:
+def written_lists(lists: List[HeaderList], is_json: bool) -> Iterator[bytes]:
     """Yields what show prints of header lists."""
     for it in lists:
         yield to_bytes(json.dumps(it.object(), separators=(",", ":")) + "\n" if is_json else it.line())

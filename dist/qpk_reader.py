@@ -168,7 +168,7 @@ class Reader:
             packet = keys.open(kept.datagram.data, kept.begin, header.number_at, (header.end,))
             if packet:
                 connection.choose(EARLY, keys)
-                connection.take(self.relative(kept.time), ">", packet)
+                connection.take(kept._replace(time=self.relative(kept.time)), ">", packet)
                 return
 
     def read_kept(self, connection: QuicConnection) -> None:
@@ -199,7 +199,7 @@ class Reader:
                 self.owners.join(pair, connection, mark)
                 if not connection.ids[mark]:
                     self.owners.name(connection, mark, datagram.data[begin + 1 : begin + 1 + length])
-                connection.take(self.relative(time), mark, packet)
+                connection.take(Kept(self.relative(time), datagram, begin), mark, packet)
                 while connection.new_ids:
                     self.owners.name(connection, *connection.new_ids.pop())
                 return packet.end
@@ -321,4 +321,5 @@ class Reader:
             about = {"client": text_of(it.client), "server": text_of(it.server)}
             if it.is_read():
                 seen = Seen({">": it.seen_of(">"), "<": it.seen_of("<")}, it.is_late)
-                yield Connection(number, about, it.lines, [*it.streams.gaps(), *it.faults], seen=seen)
+                gaps, numbers = [*it.streams.gaps(), *it.faults], it.streams.numbers()
+                yield Connection(number, about, it.lines, gaps, seen=seen, packets=it.packets, streams=numbers)

@@ -66,7 +66,7 @@ def read_capture(plain: Any, wanted: Wanted) -> List[Connection]:
             reader.first_time = packet.time
         datagram = datagrams.of_packet(packet.link, packet.data)
         if datagram:
-            reader.read(packet.time, datagram)
+            reader.read(packet.time, datagram._replace(packet=packet.number))
     reader.finish()
     connections = list(reader.connections_read())
     if capture.damage:

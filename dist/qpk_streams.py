@@ -234,6 +234,11 @@ class Streams:
         """Returns the offset up to which a stream was taken."""
         return self.streams[mark, number].taken if (mark, number) in self.streams else 0
 
+    def numbers(self) -> Dict[Tuple[str, str], int]:
+        """Returns the numbers of the streams of instructions, by the marks of their ends and the words of their lines."""
+        kinds = {ENCODER: "e", DECODER: "d"}
+        return {(mark, kinds[it.kind]): number for (mark, number), it in self.streams.items() if it.kind in kinds}
+
     def gaps(self) -> Iterator[str]:
         """Yields which bytes are missing, or are left out."""
         for (mark, number), stream in sorted(self.streams.items()):
@@ -254,6 +259,8 @@ class Connection:
     missing: List[str] = field(default_factory=list)
     data: Optional[bytes] = None  # of a recording, which has its lines
     seen: Optional[Seen] = None  # of the packets of a capture
+    packets: List[int] = field(default_factory=list)  # of a capture, by the lines that they made whole; from 1
+    streams: Dict[Tuple[str, str], int] = field(default_factory=dict)  # of instructions: their numbers
 
     def name(self) -> str:
         """Returns its number and its ends."""

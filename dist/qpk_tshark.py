@@ -28,6 +28,7 @@ class Piece:
     stream: int
     offset: int
     data: bytes
+    packet: int = 0  # its number in the capture
 
 
 def server_of(pieces: List[Piece]) -> Address:
@@ -42,12 +43,14 @@ def connect(number: int, pieces: List[Piece]) -> Connection:
     """Makes a connection of its pieces."""
     server = server_of(pieces)
     client = next((it.source for it in pieces if it.source != server), pieces[0].target)
-    streams, lines = Streams(), []
+    streams, lines, packets = Streams(), [], []
     for piece in pieces:
         mark = "<" if piece.source == server else ">"
         for words in streams.take(mark, piece.stream, piece.offset, piece.data):
             lines.append(f"@{piece.time} {mark} {words}")
-    return Connection(number, {"client": ":".join(client), "server": ":".join(server)}, lines, list(streams.gaps()))
+            packets.append(piece.packet)
+    about = {"client": ":".join(client), "server": ":".join(server)}
+    return Connection(number, about, lines, list(streams.gaps()), packets=packets, streams=streams.numbers())
 
 
 # ---- The packets that tshark prints
@@ -94,6 +97,7 @@ def pieces_of(packet: ElementTree.Element) -> Iterator[Tuple[int, Piece]]:
     source = (shown(packet, "ip.src", "ipv6.src"), shown(packet, "udp.srcport"))
     target = (shown(packet, "ip.dst", "ipv6.dst"), shown(packet, "udp.dstport"))
     number, stream, offset = 0, None, 0
+    in_packet = int(shown(packet, "frame.number", "num") or 0)
     for it in packet.iter("field"):
         name = it.get("name")
         if name == "quic.connection.number":
@@ -103,7 +107,7 @@ def pieces_of(packet: ElementTree.Element) -> Iterator[Tuple[int, Piece]]:
         elif name == "quic.stream.offset":
             offset = int(it.get("show", "0"))
         elif name == "quic.stream_data" and stream is not None:
-            yield number, Piece(time, source, target, stream, offset, bytes.fromhex(it.get("value", "")))
+            yield number, Piece(time, source, target, stream, offset, bytes.fromhex(it.get("value", "")), in_packet)
             stream = None
 
 

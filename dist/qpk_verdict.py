@@ -122,8 +122,8 @@ def numbers_of(ranges: List[Tuple[int, int]]) -> str:
 class Marker:
     """Marks the findings of a connection that what is missing may explain, and counts both kinds."""
 
-    def __init__(self, seen: Seen) -> None:
-        self.seen = seen
+    def __init__(self, seen: Optional[Seen]) -> None:
+        self.seen = seen  # nothing of a recording, in which nothing is missing
         self.certain = self.explained = 0
 
     def lines(self, printed: Iterable[bytes]) -> Iterator[bytes]:
@@ -133,7 +133,7 @@ class Marker:
             found = self.read_object(line) if is_object else self.read_text(line)
             if found is None:
                 yield line
-            elif not self.seen.explains(*found):
+            elif self.seen is None or not self.seen.explains(*found):
                 self.certain += 1
                 yield line
             else:

@@ -272,7 +272,25 @@ def test_help_on_all():
             lines = output.splitlines()
             assert (status, said) == (0, b"") and [it for it in lines if it in expected] == expected, (words, output)
             added = [it.split()[0] for it in lines if it not in expected]
-            assert added == [b"report", b"stats", b"table"], output
+            assert added == [b"report", b"stats", b"table", b"tune", b"strip"], output
+
+
+def test_commands_of_the_script_for_captures():
+    """strip, tune, a packet of explain, --follow and --all go to their script, or are left out where the program answers."""
+    capture = TOP / "tests" / "captured" / "chromium.pcapng"
+    for front in FRONTS:
+        status, output, said = run(front, "strip", "--seed", "a", CHROMIUM)
+        assert status == 0 and output.count(b"\n") == CHROMIUM.read_bytes().count(b"\n") and b"values became others" in said
+        for command in ("strip", "tune"):
+            expected = run(front, command, "--help")
+            assert run(front, "help", command) == expected and expected[1].startswith(f"usage: qpk {command} ".encode())
+            assert run(front, command, ROOM / "none")[:2] == (1, b""), command
+        assert run(front, "check", "--all", CHROMIUM) == run(front, "check", CHROMIUM)
+        assert run(front, "show", "--all", CHROMIUM) == run(PROGRAM, "show", "--all", "-")
+        assert b"name a recording, or a log" in run(front, "show", "--follow", "-")[2]
+        if can_decrypt():
+            status, output, _ = run(front, "explain", capture, "#15")
+            assert status == 0 and b"> decoder 0: acknowledge stream 0\n" in output, output
 
 
 def test_colours_take_nothing_away():

@@ -2,7 +2,7 @@
 _qpk() {
     local words='' source='--keys --connection --by --pdml --max-capacity --max-blocked --qif'
     if [ "$COMP_CWORD" = 1 ]; then
-        words='encode decode show check explain report stats table inspect run help --version'
+        words='encode decode show check explain report stats table tune strip inspect run help --version'
     else
         case ${COMP_WORDS[COMP_CWORD - 1]} in
         --keys) COMPREPLY=() && return ;;
@@ -15,18 +15,21 @@ _qpk() {
         encode) words='--qif' ;;
         decode) words='--hex --json --qif' ;;
         show)
-            words='--table --json --qlog --max-capacity --max-blocked --qif --keys --connection --by --stream'
+            words='--table --json --qlog --follow --max-capacity --max-blocked --qif --keys --connection --by --stream'
             words+=' --color=always --color=auto --color=never'
             ;;
         check)
-            words='--json --max-capacity --max-blocked --qif --keys --connection --by'
+            words='--json --all --max-capacity --max-blocked --qif --keys --connection --by'
             words+=' --color=always --color=auto --color=never'
             ;;
         explain)
-            words='--encoder-stream --decoder-stream --max-capacity --color=always --color=auto --color=never'
+            words='--encoder-stream --decoder-stream --max-capacity --keys --connection --by'
+            words+=' --color=always --color=auto --color=never'
             ;;
         report) words="-o $source" ;;
         stats) words="--json --try $source" ;;
+        tune) words=$source ;;
+        strip) words="--seed ${source/ --pdml/}" words=${words/ --qif/} ;;
         table) words="--at --entry --from --json $source" ;;
         esac
     fi

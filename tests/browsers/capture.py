@@ -1,4 +1,4 @@
-"""A capture of a run by dumpcap, and the lists of fields that qpk reads in it."""
+"""A capture of a run by dumpcap, and the lists of fields that qpk reads in it, in the net log and in the server's log."""
 import collections
 import json
 import os
@@ -60,17 +60,33 @@ def read_lists(printed):
 
 
 def compare(room, received, sent):
-    """Checks that qpk reads the lists that the server received and sent, and finds nothing wrong. Returns how many it
-    read. Of as many streams as are given up, a list may be sent and not received, or encoded and not sent."""
-    words = (f'{room}/capture.pcapng', '--keys', f'{room}/secrets')
-    lists = read_lists(run_qpk('show', *words, '--json'))
+    """Checks that qpk reads the lists that the server received and sent in the capture, in the browser's net log, if it has
+    one, and in the server's own log, and finds nothing wrong in any. Returns how many lists it read of each. Of as many
+    streams as are given up, a list may be sent and not received, or encoded and not sent."""
+    keys = ('--keys', f'{room}/secrets')
+    files = {'capture': (f'{room}/capture.pcapng', *keys), 'net log': (f'{room}/net.json', *keys), 'server log': (f'{room}/log',)}
+    compared, lists = {}, {}
+    for name, words in files.items():
+        if os.path.exists(words[0]):
+            lists[name] = read_lists(run_qpk('show', *words, '--json'))
+            compared[name] = compare_lists(name, lists[name], received, sent)
+            run_qpk('check', *words)
+    for name, own in lists.items():
+        for end, found in own.items():
+            other = lists['capture'][end]
+            if sum(((found - other) + (other - found)).values()) > GIVEN_UP:
+                raise Failure(f'qpk show reads other lists of the {end} in the {name} than in the capture')
+    return ', '.join(f'{count} by qpk in the {name}' for name, count in compared.items())
+
+
+def compare_lists(name, lists, received, sent):
+    """Checks the lists of a file against those of the server, and returns how many are the same."""
     compared = 0
     for end, logged in (('client', received), ('server', sent)):
         expected = collections.Counter((stream, tuple(map(tuple, fields))) for (_, stream), fields in logged.items())
         lacking, other = expected - lists[end], lists[end] - expected
         streams = {stream for stream, _ in lacking} & {stream for stream, _ in other}
         if streams or sum((lacking + other).values()) > GIVEN_UP:
-            raise Failure(f'qpk show reads {other} of the {end}, and not {lacking}'[:300])
+            raise Failure(f'qpk show reads {other} of the {end} in the {name}, and not {lacking}'[:300])
         compared += sum((expected & lists[end]).values())
-    run_qpk('check', *words)
     return compared

@@ -4,7 +4,8 @@
 A page makes 170 requests, twelve at once, of which 20 are aborted, under four settings, in Chromium and in Firefox. It
 compares the fields of requests and answers that it knows. nghttp3 decodes each section again, both ways, and finds the
 fields that the server logged. And the browser's own log has the same lists. One run with Chromium is captured, where
-dumpcap is installed: qpk show must read the same lists in the capture, and qpk check find nothing wrong. It
+dumpcap is installed: qpk show must read the same lists in the capture, in Chromium's net log with raw bytes and in the log of
+the server, and qpk check find nothing wrong in any. It
 needs chromium or firefox-esr, and on Debian libnss3-tools for Firefox, the packages of the server and libnghttp3-3. A
 browser that is not installed is left out. It uses addresses of this machine alone.
 
@@ -154,7 +155,7 @@ def check(browser, program, certificates, key, options, is_captured=False):
         if decode_again(events, 'sent', 'section sent', 'settings') != sent:
             raise Failure('nghttp3 decodes other fields of what was sent')
         compared = browser.compare(room, received, sent)
-        shown = f', {capture.compare(room, received, sent)} by qpk in the capture' if is_captured else ''
+        shown = f', {capture.compare(room, received, sent)}' if is_captured else ''
         return (f"{report['compared']} fields by the page, {len(received) + len(sent)} lists by nghttp3, "
                 f"{compared} by {browser.name}'s log{shown}")
 
