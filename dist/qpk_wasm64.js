@@ -11,7 +11,7 @@
 
 // The smallest module with a memory of 64 bits.
 const WITH_MEMORY64 = Uint8Array.of(0, 0x61, 0x73, 0x6d, 1, 0, 0, 0, 5, 3, 1, 4, 1);
-const NO_MEMORY64 = 'qpk needs WebAssembly with 64-bit memory: Chromium 133, Firefox 134 or Node 24, or a later one';
+const NO_MEMORY64 = 'qpk needs WebAssembly with 64-bit memory: use a newer browser, or Node with --experimental-wasm-memory64';
 
 // Returns what runs the program of a module, which is given as bytes. Fails in one line without 64-bit memory.
 async function loadQpk(bytes) {
