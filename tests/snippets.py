@@ -26,7 +26,7 @@ TOOLS = ["cc", "c++", "make", "pkg-config", "cargo"]
 # The most seconds that one command may take.
 SECONDS = 60
 # Commands that are run, by their first word, and the folder of the room where each is run.
-RUN = {"printf": "h3_qpack", "make": "h3_qpack", "cc": "", "cargo": "app", "go": "app-in-go", "python3": "h3_qpack"}
+RUN = {"printf": "h3_qpack", "./qpk": "h3_qpack", "make": "h3_qpack", "cc": "", "cargo": "app", "go": "app-in-go", "python3": "h3_qpack"}
 # Commands that are not run here: why, and where each is run instead.
 NOT_RUN = {
     "./test": "runs this script, and is the first stage of .ci/run",
@@ -47,6 +47,8 @@ SNIPPETS = {
 }
 # A block of code: between fences, which name its language, or indented by four after an empty line.
 BLOCK = re.compile(r"^```(\w*)\n((?:.*\n)*?)```$|(?<=\n\n)((?:    .*\n)+)", re.M)
+# The language of a block that is a picture.
+PICTURE = "text"
 COMMENT = re.compile(r"\s+(?:# |// |/\* )(.*?)(?: \*/)?$")
 # What a command needs beside TOOLS, by its first word: programs, and modules of Python.
 NEEDS = {"go": (["go"], []), "python3": ([], ["ensurepip", "flit_core"])}
@@ -170,7 +172,7 @@ def find_lacking(command):
 def read_blocks():
     """Returns the blocks of all documents."""
     texts = [(name, (TOP / name).read_text(encoding="utf-8")) for name in DOCUMENTS]
-    return [Block(name, text, found) for name, text in texts for found in BLOCK.finditer(text)]
+    return [Block(name, text, found) for name, text in texts for found in BLOCK.finditer(text) if found[1] != PICTURE]
 
 
 def is_run(command):

@@ -16,7 +16,7 @@ TOP = Path(__file__).resolve().parent.parent
 NEWEST = re.compile(r"^## (\d+)\.(\d+)\.(\d+)", re.M)
 # Places of the whole version.
 WHOLE = [
-    ("README.md", r"^\*\*Status:\*\* ([\d.]+),"),
+    ("README.md", r"^\| status \| ([\d.]+),"),
     ("README.md", r"h3qpack@v([\d.]+) "),
     ("bindings/README.md", r"h3qpack@v([\d.]+) "),
     ("bindings/python/pyproject.toml", r'^version = "([\d.]+)"'),
