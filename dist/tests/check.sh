@@ -223,7 +223,7 @@ try "another constant in each file of assembly" refuse_constants $texts &&
     try "another byte in each file for WebAssembly" refuse_wasm &&
     try "a blank in each other file" refuse_blanks $heaps $copies &&
     try "another body in heap.c" refuse dist/heap.c 's/malloc(len ? len : align)/malloc(len)/' $heaps &&
-    try "another heap for WebAssembly" refuse dist/heap_wasm64.c 's/HEAD + 16/HEAD + 32/' wasm64.wasm qpk-wasm64.wasm &&
+    try "another heap for WebAssembly" refuse dist/heap_wasm64.c 's/HEAD + 16/HEAD + 32/' wasm64.wasm &&
     try "os.c that is not there, and heap.c without a sum" refuse_lost os.c heap.c &&
     try "objects that are not there, or older" skip_objects &&
     try "no kit, and another kit" skip_made &&

@@ -1,7 +1,6 @@
-/* What the program qpk calls of a system, for its module for WebAssembly: words, an input, and what it writes, all in the
- * module's own memory. The module imports nothing. A page calls qpk_begin, stores the words and the input where that says,
- * calls qpk_run once, and reads what was written. Nothing proves this file; it is part of what you trust. It includes no
- * header. The numbers are those of Linux, which the program was compiled for. */
+/* What a test calls of a system, in its module for WebAssembly: words, an input, and what it writes, all in the module's own
+ * memory. The module imports nothing. A page calls test_begin, stores the words and the input where that says, calls
+ * test_run once, and reads what was written. It includes no header. The numbers are those of Linux. */
 typedef __SIZE_TYPE__ size_t;
 typedef __PTRDIFF_TYPE__ ssize_t;
 
@@ -26,17 +25,17 @@ ssize_t read(int descriptor, void *bytes, size_t len);
 ssize_t write(int descriptor, const void *bytes, size_t len);
 long lseek(int descriptor, long offset, int whence);
 size_t __sysv_signal(int number, size_t handler);
-unsigned char *qpk_begin(size_t wordslen, size_t inputlen);
-int qpk_run(void);
-const unsigned char *qpk_written(int descriptor);
-size_t qpk_writtenlen(int descriptor);
+unsigned char *test_begin(size_t wordslen, size_t inputlen);
+int test_run(void);
+const unsigned char *test_written(int descriptor);
+size_t test_writtenlen(int descriptor);
 
 static text words, input;
 static text written[2]; /* to the descriptors 1 and 2 */
 static int last_error;
 
 /* Returns room for words, each with a zero behind it, and for the input behind them. Returns null without memory. */
-unsigned char *qpk_begin(size_t wordslen, size_t inputlen) {
+unsigned char *test_begin(size_t wordslen, size_t inputlen) {
   if (wordslen + inputlen < inputlen) return 0;
   words.at = malloc(wordslen + inputlen);
   if (!words.at) return 0;
@@ -47,11 +46,11 @@ unsigned char *qpk_begin(size_t wordslen, size_t inputlen) {
 }
 
 /* Runs the program, and returns its status. Call it once. */
-int qpk_run(void) { return module_main(); }
+int test_run(void) { return module_main(); }
 
 /* Return what the program wrote to a descriptor, 1 or 2, and the length of that. */
-const unsigned char *qpk_written(int descriptor) { return written[descriptor == 2].at; }
-size_t qpk_writtenlen(int descriptor) { return written[descriptor == 2].len; }
+const unsigned char *test_written(int descriptor) { return written[descriptor == 2].at; }
+size_t test_writtenlen(int descriptor) { return written[descriptor == 2].len; }
 
 int rattle_errno(void) { return last_error; }
 
