@@ -8,6 +8,7 @@ Without libcrypto nothing is tested. It ends with a line 'habits: N tests .. pas
 import json
 import random
 import re
+import shutil
 import signal
 import subprocess
 import sys
@@ -27,6 +28,7 @@ import qpk_strip
 import qpk_tune
 from qpk_streams import Connection
 
+BUILT = tempfile.TemporaryDirectory()  # the library of dist/, if there is a compiler
 INSERT = "3fe11f6294e7838c767f"  # the capacity 4096, and the insertion of foo: bar
 
 
@@ -191,7 +193,7 @@ def test_tune():
     status, output, said = ask("tune", KEPT)
     if status:
         assert (status, output) == (1, b"") and said.startswith(b"qpk-capture: tune encodes by the library, which is not there"), said
-        print("not shown: qpk tune, without the library: make -C dist")
+        print("not shown: qpk tune, without a C compiler and make")
         return
     capacities = ",".join(map(str, qpk_tune.CAPACITIES))
     words = [SCRIPT.parent / "qpk-report", "stats", "--try", capacities, KEPT]
@@ -322,5 +324,13 @@ def test_words_of_follow():
         assert (status, output) == (1, b"") and b"to which it is followed" in said, said
 
 
+def main():
+    """Builds the library, and runs all tests."""
+    if shutil.which("cc") and shutil.which("make"):
+        subprocess.run(["make", "-s", "-C", str(SCRIPT.parent), f"BUILD={BUILT.name}"], check=True)
+        ENVIRONMENT["H3_QPACK_LIBRARY"] = f"{BUILT.name}/libh3_qpack.so.0"
+    return run_with_libcrypto(globals(), "habits")
+
+
 if __name__ == "__main__":
-    sys.exit(run_with_libcrypto(globals(), "habits"))
+    sys.exit(main())

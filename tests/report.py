@@ -484,7 +484,7 @@ def test_no_traceback():
             path.write_text("b 4 0000" + "d1" * lines + "\n", encoding="utf-8")
         script = TOP / "dist" / "qpk-report"
         for command, reason in (
-            (f"ulimit -v 110000; exec {script} stats {wide}", "refused: memory"),
+            (f"ulimit -v 70000; exec {script} stats {wide}", "refused: memory"),
             (f"exec {script} stats {wider}", "a section is too large: over 200000 lines, or 64 MB as JSON; read it by qpk show"),
             (f"{script} stats {RECORDING} >/dev/full", "No space left on device: name another file, or make room there"),
             (f"{script} stats {RECORDING} >&-", "refused: output: standard output is closed"),
