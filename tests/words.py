@@ -44,7 +44,7 @@ WATCHED = {
     "held against": r"(?:holds?|held) against",
 }
 # Documents that a script writes.
-GENERATED = ["docs/DEFINITIONS.md"]
+GENERATED = ["docs/API.md", "docs/DEFINITIONS.md"]
 # Fronts of the names of files whose comments still have forbidden words. They are not read until they are rewritten.
 UNREAD = ("crates/qpack_base/src/prefix_string/", "crates/qpack_base/specs/Payloads.antt")
 # Between two words of a phrase: blanks, or the end of a line.
