@@ -44,7 +44,7 @@ WATCHED = {
     "held against": r"(?:holds?|held) against",
 }
 # Documents that a script writes.
-GENERATED = ["docs/API.md", "docs/DEFINITIONS.md"]
+GENERATED = ["docs/API.md", "docs/CALLS.md", "docs/DEFINITIONS.md"]
 # Fronts of the names of files whose comments still have forbidden words. They are not read until they are rewritten.
 UNREAD = ("crates/qpack_base/src/prefix_string/", "crates/qpack_base/specs/Payloads.antt")
 # Between two words of a phrase: blanks, or the end of a line.
@@ -58,7 +58,7 @@ def list_files():
     patterns = {
         prose_of_markdown: [
             "*.md", "docs/*.md", "dist/README.md", "rust/README.md", "bindings/README.md", "examples/*/README.md",
-            "tests/definitions.md",
+            "tests/calls.md", "tests/definitions.md",
         ],
         prose_of_c: ["include/h3_qpack.h"],
         prose_of_rust: ["rust/h3_qpack/src/**/*.rs"],
