@@ -1,12 +1,12 @@
 #!/usr/bin/env python3
-"""Holds the tables of docs/H3-TESTS.md to the cases that they name.
+"""Holds the rows of docs/h3-tests.tsv, and the sums of docs/H3-TESTS.md, to the cases that they name.
 
     tests/h3_tests.py
 
 Each of h3's tests has a row: its name, and the file of crates/qpack_tests/data that has the case of this name, or why it
 is left out. A name has one row, and its case is in that file alone, after the comment that begins h3's cases there. Each
-case after such a comment has a row. The sums in the text and in the headings are those of the rows. It prints each fault.
-The exit status is 1 if there is one.
+case after such a comment has a row. The sums in the text are those of the rows. It prints each fault. The exit status is 1
+if there is one.
 """
 import re
 import sys
@@ -15,22 +15,18 @@ from pathlib import Path
 TOP = Path(__file__).resolve().parent.parent
 DOCUMENT = TOP / "docs" / "H3-TESTS.md"
 DATA = TOP / "crates" / "qpack_tests" / "data"
-# How many tests of h3 0.0.8 there are, in the files that the headings name.
-TESTS = 123
+TABLE = TOP / "docs" / "h3-tests.tsv"
+# How many tests of h3 0.0.8 there are, in the eleven files of the rows.
+TESTS, MODULES = 123, 11
 LEFT_OUT = "left out"
 SUM = re.compile(r"\*\*(\d+) tests, of which (\d+) are cases and (\d+) are left out\.\*\*")
-HEADING = re.compile(r"^## `(\S+)`: (\d+)(?: of (\d+))?$", re.M)
-ROW = re.compile(r"^\| `(\w+)` \| ([^|]+) \| ?([^|]*) ?\|$", re.M)
 BEGINS = "; The cases from here on have the names and the values of h3's own tests"
 CASE = re.compile(r"^# (.*)$", re.M)
 
 
-def read_parts():
-    """Yields the name of each part of the document, the two sums of its heading, and its rows: name, file, remark."""
-    parts = HEADING.split(DOCUMENT.read_text(encoding="utf-8"))
-    for module, cases, tests, text in zip(parts[1::4], parts[2::4], parts[3::4], parts[4::4]):
-        lines = [it for it in text.splitlines() if it.startswith("| `")]
-        yield module, int(cases), int(tests or cases), [ROW.match(it) for it in lines]
+def read_rows():
+    """Returns the rows of the table: h3's file, the name of the test, the file of the case, and a remark."""
+    return [tuple(it.split("\t")) for it in TABLE.read_text(encoding="utf-8").splitlines()[1:]]
 
 
 def read_cases():
@@ -48,11 +44,11 @@ def read_cases():
 
 def find_faults_of_rows(rows, files, of_h3):
     """Yields what is wrong with rows, and with cases that have none."""
-    names = [it[1] for it in rows]
+    names = [name for _, name, _, _ in rows]
     for name in sorted(set(names)):
         if names.count(name) > 1:
             yield f"{name} has {names.count(name)} rows"
-    for name, file, remark in (it.groups() for it in rows):
+    for _, name, file, remark in rows:
         places = files.get(name, [])
         if file == LEFT_OUT:
             if places or not remark.strip():
@@ -66,31 +62,25 @@ def find_faults_of_rows(rows, files, of_h3):
             yield f"{name} is a case of h3's in {file}, and has no row"
 
 
-def find_faults_of_sums(parts):
+def find_faults_of_sums(rows):
     """Yields each sum that is not that of the rows."""
-    totals = [0, 0]
-    for module, cases, tests, rows in parts:
-        found = (sum(it[2] != LEFT_OUT for it in rows), len(rows))
-        totals = [totals[0] + found[0], totals[1] + found[1]]
-        if found != (cases, tests):
-            yield f"{module} has {found[0]} cases of {found[1]} tests in its rows, and {cases} of {tests} in its heading"
+    cases = sum(file != LEFT_OUT for _, _, file, _ in rows)
     stated = SUM.search(DOCUMENT.read_text(encoding="utf-8"))
-    if not stated or tuple(map(int, stated.groups())) != (totals[1], totals[0], totals[1] - totals[0]):
-        yield f"the text does not say that {totals[0]} of {totals[1]} tests are cases"
-    if totals[1] != TESTS:
-        yield f"there are {totals[1]} rows, and h3 has {TESTS} tests"
+    if not stated or tuple(map(int, stated.groups())) != (len(rows), cases, len(rows) - cases):
+        yield f"the text does not say that {cases} of {len(rows)} tests are cases"
+    if (len(rows), len({module for module, _, _, _ in rows})) != (TESTS, MODULES):
+        yield f"there are {len(rows)} rows, not {TESTS} of {MODULES} files"
 
 
 def main():
-    parts = list(read_parts())
-    rows = [it for _, _, _, found in parts for it in found]
-    if None in rows or not rows:
+    rows = read_rows()
+    if not rows or {len(it) for it in rows} != {4}:
         print("h3_tests: a row has another form, or there is none")
         return 1
-    faults = [*find_faults_of_rows(rows, *read_cases()), *find_faults_of_sums(parts)]
+    faults = [*find_faults_of_rows(rows, *read_cases()), *find_faults_of_sums(rows)]
     for it in faults:
         print(it)
-    cases = sum(it[2] != LEFT_OUT for it in rows)
+    cases = sum(file != LEFT_OUT for _, _, file, _ in rows)
     print(f"h3_tests: {len(rows)} tests, {cases} are cases and {len(rows) - cases} left out; {len(faults)} faults")
     return 1 if faults else 0
 
