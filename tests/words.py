@@ -29,6 +29,14 @@ FORBIDDEN = {
     r"(?:be|is|are) had by": "returned by, available from",
     r"as it stands": "as it is",
 }
+# What is rejected.
+INPUT = r"(?:section|line|instruction|input|prefix|frame|file|message|stream|block|word|event)s?"
+# The same in the documents alone: a decoder or a program rejects input, a call fails, and memory or a connection is refused.
+FORBIDDEN_IN_DOCUMENTS = {
+    r"(?:decoder|encoder|end|reader|front|call)s? (?:also )?refuses?": "rejects input, or fails",
+    r"refus(?:es?|ed|ing) (?:(?:an?|the|this|that|each|any|such) )?(?:" + INPUT + r"|calls?)": "reject, rejected, failed",
+    r"(?:" + INPUT + r"|calls?) (?:that )?(?:is|are|was|were) refused": "is rejected, are rejected, failed",
+}
 # Words that are right in few places: behind for a position, stands for what it is short for. They are counted.
 WATCHED = {
     "behind": r"behind",
@@ -47,6 +55,8 @@ WATCHED = {
 GENERATED = ["docs/API.md", "docs/CALLS.md", "docs/DEFINITIONS.md"]
 # Fronts of the names of files whose comments still have forbidden words. They are not read until they are rewritten.
 UNREAD = ("crates/qpack_base/src/prefix_string/", "crates/qpack_base/specs/Payloads.antt")
+# Documents that still have some of the words that documents do not use.
+WITH_OLD_WORDS = ("docs/DECISIONS.md", "docs/PROVED.md")
 # Between two words of a phrase: blanks, or the end of a line.
 GAP = r"(?: +| *\n *)"
 # Code in a line, which does not go on past an empty line.
@@ -132,23 +142,31 @@ def compile_words(words):
     return {name: re.compile(rf"\b(?:{word.replace(' ', GAP)})\b", re.I) for name, word in words.items()}
 
 
+def find_forbidden(name, prose, forbidden):
+    """Yields what to say of each forbidden word of a file."""
+    for pattern, instead in forbidden:
+        for it in pattern.finditer(prose):
+            line = prose.count("\n", 0, it.start()) + 1
+            yield f"{name}:{line}: '{' '.join(it[0].split())}' is forbidden; write: {instead}"
+
+
 def main():
-    forbidden = compile_words({it: it for it in FORBIDDEN})
+    everywhere = list(zip(compile_words({it: it for it in FORBIDDEN}).values(), FORBIDDEN.values()))
+    more = compile_words({it: it for it in FORBIDDEN_IN_DOCUMENTS}).values()
+    in_documents = everywhere + list(zip(more, FORBIDDEN_IN_DOCUMENTS.values()))
     watched = compile_words(WATCHED)
     wrong, counts, words, words_of_prose = [], dict.fromkeys(WATCHED, 0), 0, 0
     for path, keep_prose in list_files():
         text = path.read_text(encoding="utf-8")
         name, prose = str(path.relative_to(TOP)), keep_prose(text)
-        if path.suffix == ".md":
+        is_document = path.suffix == ".md"
+        if is_document:
             words += len(text.split())
             words_of_prose += len([it for it in prose.split() if re.search(r"\w", it)])
         if keep_prose is not prose_of_rattle:
             for word, pattern in watched.items():
                 counts[word] += len(pattern.findall(prose))
-        for word, pattern in forbidden.items():
-            for it in pattern.finditer(prose):
-                line = prose.count("\n", 0, it.start()) + 1
-                wrong.append(f"{name}:{line}: '{' '.join(it[0].split())}' is forbidden; write: {FORBIDDEN[word]}")
+        wrong += find_forbidden(name, prose, in_documents if is_document and name not in WITH_OLD_WORDS else everywhere)
     for it in wrong:
         print(it)
     print("watched:", ", ".join(f"{word} {count}" for word, count in counts.items()))
