@@ -193,9 +193,9 @@ void h3_qpack_encoder_settings_default_versioned(uint32_t version, h3_qpack_enco
  * encoder tells the peer its table capacity before the first section (section 4.3.1).
  *
  * Returns H3_QPACK_OK or an error, with which |encoder| needs no _del:
- *   H3_QPACK_ERR_INVALID    a pointer is NULL, |max_capacity| is 2^30 or more, or a value does not fit size_t. For a
- *                           peer with a |max_capacity| of 2^30 or more pass 0, and no other number, since the peer
- *                           decodes Required Insert Counts by its own maximum (section 4.5.1.1).
+ *   H3_QPACK_ERR_INVALID    a pointer is NULL, |max_capacity| is 2^30 or more, or a value does not fit size_t. If
+ *                           the peer's maximum is 2^30 or more, pass 0. No other value is safe: both sides compute
+ *                           Required Insert Counts from the same maximum (section 4.5.1.1).
  *   H3_QPACK_ERR_VERSION    the header is of another major version than the library, or of a later minor version:
  *                           compile the program with the library's header, or install that version of the library.
  *   H3_QPACK_ERR_NO_MEMORY  call it again later.
@@ -274,8 +274,8 @@ H3_QPACK_INLINE int h3_qpack_encoder_set_peer_settings(h3_qpack_encoder *encoder
  *   above 0                 an earlier call returned it. */
 H3_QPACK_INLINE int h3_qpack_encoder_set_capacity(h3_qpack_encoder *encoder, size_t capacity);
 
-/* Returns how many streams may be blocked at the peer (section 2.1.2): of a section on each it is not known that the peer
- * has the insertions that it requires, and neither was the section acknowledged nor the stream cancelled. */
+/* Returns how many streams may be blocked at the peer (section 2.1.2). A stream counts while it has a section that
+ * requires insertions not known to have arrived, and that is neither acknowledged nor cancelled. */
 H3_QPACK_INLINE size_t h3_qpack_encoder_get_num_blocked(h3_qpack_encoder *encoder);
 
 /* Returns how many sections that reference the table are unacknowledged (section 4.4.1). While this is
@@ -310,8 +310,8 @@ H3_QPACK_INLINE h3_qpack_field h3_qpack_encoder_entry(h3_qpack_encoder *encoder,
 
 /* ---- The decoder */
 
-/* Stores the defaults in |settings|: |max_capacity| 0 and |max_blocked| 0, which need not be sent, and
- * |max_section_size| 65,536, which is to be sent. Does nothing if |settings| is NULL.
+/* Stores the defaults in |settings|: no dynamic table (|max_capacity| 0 and |max_blocked| 0, which you need not send), and
+ * a |max_section_size| of 65,536, which you must send. Does nothing if |settings| is NULL.
  *
  * Bindings call h3_qpack_decoder_settings_default_versioned, with the H3_QPACK_VERSION that their struct is of. It does
  * nothing for a version that _new refuses. */
