@@ -6,8 +6,8 @@
 It reads the documents, the comments of the C header, the doc comments of the Rust crate, the help of qpk, and the
 comments of the sources and the definitions of all crates. Code in them is left out. It prints each forbidden word with
 its file and line, the count of each watched word, and the number of words of all documents: with code and the signs of
-tables, as wc counts them, and without. In the comments of the crates no watched words are counted. The exit status is 1
-if a forbidden word was found.
+tables, as wc counts them, and without. In the comments of the crates no watched words are counted. README may have a
+number of lines and words. The exit status is 1 if a forbidden word was found, or README is longer.
 """
 import re
 import sys
@@ -51,6 +51,8 @@ WATCHED = {
     "other than": r"other(?:wise)? than",
     "held against": r"(?:holds?|held) against",
 }
+# The most lines and words, as wc counts them, of a document that is read before all others.
+MOST = {"README.md": (130, 1000)}
 # Documents that a script writes.
 GENERATED = ["docs/API.md", "docs/CALLS.md", "docs/DEFINITIONS.md"]
 # Fronts of the names of files whose comments still have forbidden words. They are not read until they are rewritten.
@@ -150,6 +152,14 @@ def find_forbidden(name, prose, forbidden):
             yield f"{name}:{line}: '{' '.join(it[0].split())}' is forbidden; write: {instead}"
 
 
+def find_length(name, text):
+    """Yields what to say of a document that is longer than it may be."""
+    lines, words = text.count("\n"), len(text.split())
+    most_lines, most_words = MOST.get(name, (lines, words))
+    if lines > most_lines or words > most_words:
+        yield f"{name}: has {lines} lines and {words} words, and may have {most_lines} and {most_words}"
+
+
 def main():
     everywhere = list(zip(compile_words({it: it for it in FORBIDDEN}).values(), FORBIDDEN.values()))
     more = compile_words({it: it for it in FORBIDDEN_IN_DOCUMENTS}).values()
@@ -166,11 +176,12 @@ def main():
         if keep_prose is not prose_of_rattle:
             for word, pattern in watched.items():
                 counts[word] += len(pattern.findall(prose))
+        wrong += find_length(name, text)
         wrong += find_forbidden(name, prose, in_documents if is_document and name not in WITH_OLD_WORDS else everywhere)
     for it in wrong:
         print(it)
     print("watched:", ", ".join(f"{word} {count}" for word, count in counts.items()))
-    print(f"words: {len(wrong)} forbidden, in documents of {words} words, {words_of_prose} without code")
+    print(f"words: {len(wrong)} faults, in documents of {words} words, {words_of_prose} without code")
     return 1 if wrong else 0
 
 
