@@ -3,7 +3,7 @@
 
     python3 tests/peers/ls_qpack.py     # needs the package pylsqpack, of Debian or of pip
 
-It prints what each gives: fields, or the error. The decoder's maximum capacity is 4,096 bytes.
+It prints what each gives: fields, or the error.
 """
 from pathlib import Path
 
@@ -14,11 +14,12 @@ FOLDER = Path(__file__).resolve().parent
 
 def read(path):
     """Returns what the decoder makes of a recording: the fields of its sections, or an error."""
-    decoder = pylsqpack.Decoder(4096, 16)
-    fields = []
+    decoder, fields = None, []
     for line in path.read_text(encoding="ascii").splitlines():
         kind, *words = line.split()
-        if kind == "e":
+        if kind == "s":
+            decoder = pylsqpack.Decoder(*map(int, words))
+        elif kind == "e":
             decoder.feed_encoder(bytes.fromhex(words[0]))
         elif kind == "b":
             fields += decoder.feed_header(int(words[0]), bytes.fromhex(words[1]))[1]
