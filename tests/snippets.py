@@ -1,5 +1,5 @@
 #!/usr/bin/env python3
-"""Runs the commands and the snippets of README.md and docs/USING.md.
+"""Runs the commands and the snippets of README.md, docs/USING.md and docs/FAQ.md.
 
     tests/snippets.py
 
@@ -21,16 +21,22 @@ from importlib.machinery import PathFinder
 from pathlib import Path
 
 TOP = Path(__file__).resolve().parent.parent
-DOCUMENTS = ["README.md", "docs/USING.md"]
+DOCUMENTS = ["README.md", "docs/USING.md", "docs/FAQ.md"]
 TOOLS = ["cc", "c++", "make", "pkg-config", "cargo"]
 # The most seconds that one command may take.
 SECONDS = 60
 # Commands that are run, by their first word, and the folder of the room where each is run.
-RUN = {"printf": "h3_qpack", "./qpk": "h3_qpack", "make": "h3_qpack", "cc": "", "cargo": "app", "go": "app-in-go", "python3": "h3_qpack"}
+RUN = {
+    "printf": "h3_qpack", "./qpk": "h3_qpack", "make": "h3_qpack", "cmp": "h3_qpack", "sha256sum": "h3_qpack", "cc": "",
+    "cargo": "app", "go": "app-in-go", "python3": "h3_qpack",
+}
 # Commands that are not run here: why, and where each is run instead.
 NOT_RUN = {
     "./test": "runs this script, and is the first stage of .ci/run",
     "c/check.sh": "./test runs it, as c",
+    "dist/fits && dist/fits --kit": "needs the kit; .ci/dist runs it",
+    "dist/generate ../made": "takes an hour; .ci/dist runs it",
+    "dist/check": "compares what dist/generate left; .ci/dist runs it",
     "rust/check.sh": "./test runs it, as rust",
     "examples/http3-server/serve": "opens a browser; .ci/browsers builds this server, and runs it with browsers",
 }
