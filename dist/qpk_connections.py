@@ -8,8 +8,8 @@ from qpk_libcrypto import AES_128
 from qpk_lines import PEER
 from qpk_quic import ACK, CLOSE_BY_APPLICATION, CRYPTO, NEW_CONNECTION_ID, RESET_STREAM, STREAM
 from qpk_quic import Frame, Numbers, read_frames
+from qpk_seen import SeenOfEnd
 from qpk_streams import SourceError, Stream, Streams
-from qpk_verdict import SeenOfEnd
 
 MOST_FAULTS = 8  # of a connection that are told
 QPACK_ERRORS = (0x200, 0x201, 0x202)  # RFC 9204, section 6

@@ -1,6 +1,8 @@
-"""Findings of qpk check: which packet each is in, a filter for Wireshark, and which follow from another.
+"""Findings of qpk check: what each is, which may be none, which packet each is in, and which follow from another.
 
-qpk-capture reads it. What a finding is, is said by the program qpk alone.
+qpk-capture reads it. What a finding is, is said by the program qpk alone. A finding is about bytes that are in the file. Some
+would be none with bytes that are not: those get the word `perhaps`. Which ones these are follows from the place and the
+section of RFC 9204.
 """
 
 import json
@@ -8,11 +10,17 @@ import re
 from typing import Any, Dict, Iterable, Iterator, List, NamedTuple, Optional, Tuple
 
 from qpk_lines import MARKS, PEER
-from qpk_streams import Connection
+from qpk_seen import Seen
+from qpk_streams import Connection, to_bytes, to_text
 
-# A finding as qpk check prints it, perhaps marked: its line, whose it is, what it is about, a stream, and what is wrong.
+FOUND, PERHAPS = 1, 4  # statuses of check
+WORD_FOUND, WORD_PERHAPS = "found", "perhaps"  # of a finding that is certain, and of one that may be none
+# A finding as qpk check prints it, perhaps marked: its line, whose it is, what it is about, a stream, what is wrong, and the
+# section of RFC 9204. What is added of a packet goes between PLACE and REST.
 PRINTED = re.compile(
-    r"((?:perhaps: )?line (\d+))(: (?:\S+ (?=[<>] ))?(?:([<>]) )?(encoder|decoder|section)\b(?: of stream (\d+))?[^:]*: (.*))"
+    rf"(?P<place>(?P<perhaps>{WORD_PERHAPS}: )?line (?P<line>\d+))"
+    r"(?P<rest>: (?:\S+ (?=[<>] ))?(?:(?P<mark>[<>]) )?(?P<subject>encoder|decoder|section|record)\b"
+    r"(?: of stream (?P<stream>\d+))?[^:]*: (?P<fault>.*) \[RFC 9204, section (?P<section>[\d.]+).*)"
 )
 NAMED_STREAM = re.compile(r"\bstream (\d+)\b")
 SUBJECTS = ("encoder", "decoder", "section", "record")
@@ -22,60 +30,10 @@ BEFORE_LINES = ("4.5.1", "4.5.1.1", "4.5.1.2")  # sections of faults before the 
 NO_COUNT = "no encoder could have written"  # the first words of faults and of a cause
 NO_ENTRY = "references an entry that is not in the table"
 COUNT_OF_0 = "the encoder writes a required insert count of 0"
-
-
-# ---- In a capture
-
-
-class Places:
-    """The packets of the lines of a connection, and the numbers of its streams of instructions."""
-
-    def __init__(self, connection: Connection) -> None:
-        self.packets, self.streams = connection.packets, connection.streams
-        self.lasts: Dict[Tuple[str, str], int] = {}  # the packets of the last lines of streams of instructions
-        for packet, line in zip(self.packets, connection.lines):
-            mark, kind = line.split(" ", 3)[1:3]
-            self.lasts[mark, kind] = packet
-
-    def packet_of(self, line: int, mark: str, subject: str, fault: str) -> int:
-        """Returns the number of the packet that made a line whole, or 0 if there is none. Of what the end of the file cuts it
-        is the last packet of its stream."""
-        if fault.startswith(CUT_AT_THE_END):
-            return self.lasts.get((mark, subject[0]), 0)
-        return self.packets[line - 1] if 0 < line <= len(self.packets) else 0
-
-    def filter_of(self, packet: int, mark: str, subject: str, stream: Optional[int], fault: str) -> str:
-        """Returns a filter for Wireshark: the packet, and the stream that a finding names, or is on."""
-        named = NAMED_STREAM.search(fault)
-        number = int(named[1]) if named else stream if stream is not None else self.streams.get((mark, subject[0]))
-        parts = [] if number is None else [f"quic.stream.stream_id == {number}"]
-        return " || ".join([*parts, f"frame.number == {packet}"])
-
-    def lines(self, printed: Iterable[bytes]) -> Iterator[bytes]:
-        """Yields lines of qpk check, of text or JSON, with the packet and the filter of each finding."""
-        for line in printed:
-            yield (self.add_to_object(line) if line.startswith(b"{") else self.add_to_text(line)) if self.packets else line
-
-    def add_to_text(self, line: bytes) -> bytes:
-        """Returns a line of text with both."""
-        found = PRINTED.match(line.decode("utf-8", "surrogateescape"))
-        packet = self.packet_of(int(found[2]), found[4] or "", found[5], found[7]) if found else 0
-        if not found or not packet:
-            return line
-        stream = int(found[6]) if found[6] else None
-        wanted = self.filter_of(packet, found[4] or "", found[5], stream, found[7].partition(" [RFC 9204")[0])
-        return f"{found[1]}, #{packet}{found[3]}; in Wireshark: {wanted}\n".encode("utf-8", "surrogateescape")
-
-    def add_to_object(self, line: bytes) -> bytes:
-        """Returns an object with both as members."""
-        finding = read_finding(json.loads(line))
-        packet = self.packet_of(finding.line, finding.mark, finding.subject, finding.fault) if finding else 0
-        if not finding or not packet:
-            return line
-        stream = finding.at if finding.subject == "section" else None
-        wanted = self.filter_of(packet, finding.mark, finding.subject, stream, finding.fault)
-        added = json.dumps({"packet": packet, "filter": wanted}, separators=(",", ":"))
-        return line.rstrip()[:-1] + b"," + added[1:].encode() + b"\n"
+# Sections of RFC 9204 of findings that are none ..
+OF_SECTIONS = ("2.1.2", "2.2.3", "4.5.1.1", "4.5.1.2")  # if an insertion is not in the file, about a section
+OF_SETTINGS = ("2.1.2", "2.2.3", "4.3.1", "4.5.1.1", "4.5.1.2")  # with other limits
+OF_DECODERS = ("4.4.1", "4.4.3")  # if a section or an insertion of the peer is not in the file
 
 
 # ---- Findings
@@ -131,8 +89,127 @@ def read_finding(it: Dict[str, Any]) -> Optional[Finding]:
     return Finding(
         *(int(it["line"]), str(it.get("time", "")), MARKS.get(it.get("from", ""), ""), subject, at),
         *(int(it.get("offset", at)), int(it.get("instruction_number", 0)), it["fault"], it["rfc9204"], code, it["cause"]),
-        *(bool(it.get("perhaps")), int(it.get("packet", 0)), it.get("filter", "")),
+        *(bool(it.get(WORD_PERHAPS)), int(it.get("packet", 0)), it.get("filter", "")),
     )
+
+
+def is_object(line: bytes) -> bool:
+    """Whether a line that qpk check printed is an object of JSON, and no text."""
+    return line.startswith(b"{")
+
+
+def read_printed(line: bytes) -> Optional[Finding]:
+    """Returns the finding that a line of qpk check is, if it is one. Of a text it has no cause, code, time or offset."""
+    if is_object(line):
+        return read_finding(json.loads(line))
+    it = PRINTED.match(to_text(line))
+    if not it:
+        return None
+    return Finding(
+        *(int(it["line"]), "", it["mark"] or "", it["subject"], int(it["stream"] or 0), 0, 0, it["fault"], it["section"]),
+        *("", "", bool(it["perhaps"])),
+    )
+
+
+# ---- Which may be none
+
+
+def explains(seen: Seen, it: Finding) -> bool:
+    """Whether a finding may be none, with what is not in the file.
+
+    A packet that is missing is known by a later acknowledgment. So after the last of these each may be.
+    """
+    if it.is_of_the_end:
+        return True
+    own, peer = seen.ends.get(it.mark), seen.ends.get(PEER[it.mark])
+    if own is None or peer is None:
+        return seen.lacks()
+    if it.subject == "section":
+        is_lacking = own.lacks() or seen.is_late or it.line > own.acknowledged_to
+        return it.section in OF_SECTIONS and is_lacking or it.section in OF_SETTINGS and not peer.has_settings
+    if it.subject == "encoder":
+        return it.section == "4.3.1" and not peer.has_settings
+    is_lacking = peer.lacks() or seen.is_late or it.line > own.heard_to
+    return it.section in OF_DECODERS and "increment of 0" not in it.fault and is_lacking
+
+
+class Marker:
+    """Marks the findings of a connection that what is missing may explain, and counts both kinds."""
+
+    def __init__(self, seen: Optional[Seen]) -> None:
+        self.seen = seen  # nothing of a recording, in which nothing is missing
+        self.certain = self.explained = 0
+
+    def lines(self, printed: Iterable[bytes]) -> Iterator[bytes]:
+        """Yields lines of qpk check, of text or JSON, with their marks."""
+        for line in printed:
+            found = read_printed(line)
+            if found is None:
+                yield line
+            elif self.seen is None or not explains(self.seen, found):
+                self.certain += 1
+                yield line
+            else:
+                self.explained += 1
+                yield marked(line)
+
+    def status(self, status: int) -> int:
+        """Returns the status for one of the program."""
+        if status != FOUND or not self.explained + self.certain:
+            return status
+        return FOUND if self.certain else PERHAPS
+
+
+def marked(line: bytes) -> bytes:
+    """Returns a line that is a finding with the mark that it may be none."""
+    word = WORD_PERHAPS.encode()
+    return b'{"%b":true,%b' % (word, line[1:]) if is_object(line) else b"%b: %b" % (word, line)
+
+
+# ---- In a capture
+
+
+class Places:
+    """The packets of the lines of a connection, and the numbers of its streams of instructions."""
+
+    def __init__(self, connection: Connection) -> None:
+        self.packets, self.streams = connection.packets, connection.streams
+        self.lasts: Dict[Tuple[str, str], int] = {}  # the packets of the last lines of streams of instructions
+        for packet, line in zip(self.packets, connection.lines):
+            mark, kind = line.split(" ", 3)[1:3]
+            self.lasts[mark, kind] = packet
+
+    def packet_of(self, it: Finding) -> int:
+        """Returns the number of the packet that made a line whole, or 0 if there is none. Of what the end of the file cuts it
+        is the last packet of its stream."""
+        if it.fault.startswith(CUT_AT_THE_END):
+            return self.lasts.get((it.mark, it.subject[0]), 0)
+        return self.packets[it.line - 1] if 0 < it.line <= len(self.packets) else 0
+
+    def filter_of(self, packet: int, it: Finding) -> str:
+        """Returns a filter for Wireshark: the packet, and the stream that a finding names, or is on."""
+        named = NAMED_STREAM.search(it.fault)
+        own = it.at if it.subject == "section" else self.streams.get((it.mark, it.subject[0]))
+        number = int(named[1]) if named else own
+        parts = [] if number is None else [f"quic.stream.stream_id == {number}"]
+        return " || ".join([*parts, f"frame.number == {packet}"])
+
+    def lines(self, printed: Iterable[bytes]) -> Iterator[bytes]:
+        """Yields lines of qpk check, of text or JSON, with the packet and the filter of each finding."""
+        for line in printed:
+            found = read_printed(line) if self.packets else None
+            packet = self.packet_of(found) if found else 0
+            yield with_packet(line, packet, self.filter_of(packet, found)) if found and packet else line
+
+
+def with_packet(line: bytes, packet: int, wanted: str) -> bytes:
+    """Returns a line that is a finding with its packet and a filter: of an object as members."""
+    if is_object(line):
+        added = json.dumps({"packet": packet, "filter": wanted}, separators=(",", ":"))
+        return line.rstrip()[:-1] + b"," + added[1:].encode() + b"\n"
+    found = PRINTED.match(to_text(line))
+    assert found
+    return to_bytes(f"{found['place']}, #{packet}{found['rest']}; in Wireshark: {wanted}\n")
 
 
 # ---- What follows from another finding

@@ -14,9 +14,9 @@ from qpk_libcrypto import AES_128
 from qpk_lines import PEER
 from qpk_owners import Owner, Owners
 from qpk_quic import FIXED_BIT, LongHeader, is_long, read_long_header
+from qpk_seen import Seen
 from qpk_strangers import ENOUGH, Found, Room, Strangers
 from qpk_streams import Connection
-from qpk_verdict import Seen
 
 MOST_CONNECTIONS = 1 << 12  # that are read; Initial packets of more are left out
 LEAST_SEGMENT, MOST_SEGMENT = 1200, 1500  # bytes of a datagram of those that were captured as one

@@ -6,7 +6,7 @@ from io import BytesIO, TextIOWrapper
 from typing import BinaryIO, Dict, Iterable, Iterator, List, Optional, Set, Tuple
 
 from qpk_main import Refusal, printable
-from qpk_verdict import Seen
+from qpk_seen import Seen
 
 HEADERS, SETTINGS, PUSH_PROMISE = 1, 4, 5  # types of frames (RFC 9114, section 7.2)
 # Types of unidirectional streams (RFC 9114, section 6.2; RFC 9204, section 4.2).

@@ -7,7 +7,7 @@ import textwrap
 from collections import Counter
 from typing import Dict, Iterable, Iterator, List, Tuple
 
-from qpk_findings import Causes, Finding
+from qpk_findings import WORD_FOUND, WORD_PERHAPS, Causes, Finding
 from qpk_lines import ENDS, Piece
 from qpk_main import printable
 
@@ -85,7 +85,7 @@ def lines_of_bytes(it: Finding, around: Bytes) -> Iterator[str]:
 def lines_of(number: int, it: Finding, around: Bytes) -> Iterator[str]:
     """Yields the lines of a finding."""
     yield from textwrap.wrap(f"{number}. {printable(place_of(it))}", WIDTH, subsequent_indent="  ")
-    yield from labelled("perhaps" if it.is_perhaps else "found", it.fault)
+    yield from labelled(WORD_PERHAPS if it.is_perhaps else WORD_FOUND, it.fault)
     yield from lines_of_bytes(it, around)
     yield from labelled("rule", f"RFC 9204, section {it.section}{f': {it.code}' if it.code else ''}")
     yield from labelled("cause", it.cause)

@@ -10,7 +10,7 @@ from running import run_tests
 import qpk_files
 import qpk_libcrypto
 import qpk_source
-import qpk_verdict
+from qpk_findings import Marker
 from qpk_streams import SourceError
 from sealed import Made, ip_packets, pcapng
 
@@ -78,7 +78,7 @@ def marker_of(connection):
     """Has qpk check a connection, and returns what is marked, and the lines."""
     recording = "\n".join(connection.lines).encode()
     ran = subprocess.run([PROGRAM, "check", "-"], input=recording, capture_output=True, check=False)
-    marker = qpk_verdict.Marker(connection.seen)
+    marker = Marker(connection.seen)
     return marker, [line.decode() for line in marker.lines(ran.stdout.splitlines(True))], marker.status(ran.returncode)
 
 

@@ -8,7 +8,6 @@ libcrypto nothing is tested. It ends with a line 'findings: N tests .. passed', 
 """
 import json
 import os
-import pty
 import random
 import re
 import shutil
@@ -19,10 +18,10 @@ from pathlib import Path
 
 from captures import CAPTURED, KEPT, PROGRAM, SCRIPT, ask, ask_fork, mutated
 from connections import file_of, packets_of, run_with_libcrypto
-from running import shows_no_fault_of_a_script
+from running import on_terminal, shows_no_fault_of_a_script
 
 # These are in dist/, which captures.py puts into the path of modules.
-from qpk_findings import Causes, read_finding
+from qpk_findings import Causes, marked, read_finding, read_printed
 from sealed import Made, ip_packets, pcapng
 
 INSERT = "3fe11f6294e7838c767f"  # the capacity 4096, and an insertion
@@ -98,6 +97,29 @@ def changed(choice, digits):
         return digits
     at = choice.randrange(len(digits) // 2) * 2
     return digits[:at] + b"%02x" % choice.randrange(256) + digits[at + 2 :]
+
+
+def test_text_and_objects():
+    """A finding that is read of a line of text is that of its object, marked or not, also of a record."""
+    recordings = [((), f"{SETTINGS}@12:00 {text}".encode()) for text, *_ in FOLLOWING]
+    recordings.append((("--qif",), bytes(7) + b"\x04" + bytes(3) + b"\x09\0\0\xd1"))
+    subjects = set()
+    for words, data in recordings:
+        texts, objects = (
+            subprocess.run([PROGRAM, "check", *words, *more, "-"], input=data, stdout=subprocess.PIPE, check=False).stdout
+            for more in ((), ("--json",))
+        )
+        for text, line in zip(texts.splitlines(True), objects.splitlines(True)):
+            for own, other in ((text, line), (marked(text), marked(line))):
+                found, expected = read_printed(own), read_printed(other)
+                at = expected.at if expected.subject == "section" else 0
+                left_out = {"time": "", "at": at, "offset": 0, "instruction": 0, "code": "", "cause": ""}
+                assert found == expected._replace(**left_out), (own, other)
+                assert found.is_perhaps == (own is not text), own
+            subjects.add(found.subject)
+        assert len(texts.splitlines()) == len(objects.splitlines())
+    assert subjects == {"section", "encoder", "decoder", "record"}, subjects
+    assert read_printed(b"nothing found: sections 1\n") is None and read_printed(b'{"findings":0}\n') is None
 
 
 # ---- Packets and filters
@@ -233,20 +255,11 @@ def test_the_front_on_a_terminal():
     with tempfile.TemporaryDirectory() as room:
         path = Path(room) / "recording"
         path.write_text(f"{SETTINGS}> b 4 0000ff24\n")
-        variables = {**os.environ, "QPK_PROGRAM": str(PROGRAM), "TERM": "xterm", "NO_COLOR": "1"}
+        variables = {**os.environ, "QPK_PROGRAM": str(PROGRAM)}
         for words in (("check", path), ("check", "--all", path)):
-            own, other = pty.openpty()
-            with subprocess.Popen([front, *words], stdin=subprocess.DEVNULL, stdout=other, env=variables) as running:
-                os.close(other)
-                output = b""
-                try:
-                    while True:
-                        output += os.read(own, 1 << 16)
-                except OSError:  # the terminal is closed
-                    pass
-            os.close(own)
+            status, output = on_terminal(front, *words, QPK_PROGRAM=str(PROGRAM), NO_COLOR="1")
             expected = ask("check", "--terminal", *words[1:])[1]
-            assert running.returncode == 1 and output.replace(b"\r\n", b"\n") == expected, output
+            assert status == 1 and output == expected, output
             piped = subprocess.run([front, *words], capture_output=True, env=variables, check=False)
             plain = subprocess.run([PROGRAM, "check", "-"], input=path.read_bytes(), capture_output=True, check=False)
             assert (piped.returncode, piped.stdout, piped.stderr) == (1, plain.stdout, b""), piped

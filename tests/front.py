@@ -8,7 +8,6 @@ last line says so. ./qpk is left out if the sources were changed. Else it ends w
 and with status 1 if a test failed.
 """
 import os
-import pty
 import re
 import shutil
 import signal
@@ -18,7 +17,8 @@ import tempfile
 import time
 from pathlib import Path
 
-from running import TOP, answers_at_once, can_decrypt, cost_of, install, missing_tool, run_tests, shows_no_fault_of_a_script
+from running import TOP, answers_at_once, can_decrypt, cost_of, install, missing_tool, on_terminal, run_tests
+from running import shows_no_fault_of_a_script
 
 FOLDER = tempfile.TemporaryDirectory(prefix="h3-qpack-front-")  # which ends with the script
 ROOM = Path(FOLDER.name)
@@ -63,24 +63,6 @@ def run(*words, data="", **more):
     """Runs a program on an input, and returns its status, its output and what it said."""
     ran = subprocess.run([*map(str, words)], input=data.encode(), capture_output=True, check=False, **more)
     return ran.returncode, ran.stdout, ran.stderr
-
-
-def on_terminal(*words, **variables):
-    """Runs a program whose output is a terminal, and returns its status and its output, with line feeds alone."""
-    own, other = pty.openpty()
-    environment = {name: it for name, it in os.environ.items() if name not in ("NO_COLOR", "TERM")}
-    environment.update({"TERM": "xterm", **variables})
-    pipes = {"stdin": subprocess.DEVNULL, "stdout": other, "stderr": subprocess.PIPE}
-    with subprocess.Popen([*map(str, words)], env=environment, **pipes) as running:
-        os.close(other)
-        output = b""
-        try:
-            while True:
-                output += os.read(own, 1 << 16)
-        except OSError:  # the terminal is closed
-            pass
-    os.close(own)
-    return running.returncode, output.replace(b"\r\n", b"\n")
 
 
 def write(name, text):

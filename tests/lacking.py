@@ -20,8 +20,9 @@ from connections import words_of
 from running import TOP
 
 # These are in dist/, which captures.py puts into the path of modules.
+import qpk_seen
 import qpk_source
-import qpk_verdict
+from qpk_lines import ENDS
 from sealed import CLIENT, SERVER, Made, ack_frame, ip_packets, pcapng
 
 
@@ -59,7 +60,7 @@ def test_packets_that_are_named():
         for mark in "><":
             lacking = [it for one, other in found.seen.ends[mark].missing for it in range(one, other + 1)]
             assert lacking == numbers[mark], (seed, mark, lacking, numbers)
-            assert not numbers[mark] or f"not in the file: {qpk_verdict.ENDS[mark]} {numbers[mark][0]}" in found.seen.line()
+            assert not numbers[mark] or f"not in the file: {ENDS[mark]} {numbers[mark][0]}" in found.seen.line()
         marker, lines, _ = marker_of(found)
         assert not marker.certain, (seed, lines)
 
@@ -138,7 +139,7 @@ def test_a_start_in_the_middle():
 
 def test_which_findings_are_perhaps():
     """What is missing explains some findings, and others not; without a gap each is certain."""
-    whole = qpk_verdict.SeenOfEnd()
+    whole = qpk_seen.SeenOfEnd()
     gap, none = whole._replace(missing=[(1, 1)]), whole._replace(has_settings=False)
     missing = {"nothing": (whole, whole), "client": (gap, whole), "server": (whole, gap), "limits": (whole, none)}
     for lines, explained in (
@@ -159,7 +160,7 @@ def test_which_findings_are_perhaps():
         for name, (client, server) in missing.items():
             for is_late in (False, True):
                 connection = qpk_source.Connection(0, {}, lines.split("\n"))
-                connection.seen = qpk_verdict.Seen({">": client, "<": server}, is_late)
+                connection.seen = qpk_seen.Seen({">": client, "<": server}, is_late)
                 marker, printed, status = marker_of(connection)
                 assert marker.certain + marker.explained == 1, (lines, printed)
                 late = is_late and bool(explained) and ("client" in explained)

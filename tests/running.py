@@ -1,5 +1,6 @@
 """Runs the functions of a script whose names begin with test_, and has what several try: qpk, and a recording."""
 import os
+import pty
 import re
 import shutil
 import subprocess
@@ -55,6 +56,24 @@ def cost_of(command, file, output, **options):
         running.returncode = os.WEXITSTATUS(status)
     assert running.returncode == 0, command
     return used.ru_utime + used.ru_stime, used.ru_maxrss
+
+
+def on_terminal(*words, **variables):
+    """Runs a program whose output is a terminal, and returns its status and its output, with line feeds alone."""
+    own, other = pty.openpty()
+    environment = {name: it for name, it in os.environ.items() if name not in ("NO_COLOR", "TERM")}
+    environment.update({"TERM": "xterm", **variables})
+    pipes = {"stdin": subprocess.DEVNULL, "stdout": other, "stderr": subprocess.PIPE}
+    with subprocess.Popen([*map(str, words)], env=environment, **pipes) as running:
+        os.close(other)
+        output = b""
+        try:
+            while True:
+                output += os.read(own, 1 << 16)
+        except OSError:  # the terminal is closed
+            pass
+    os.close(own)
+    return running.returncode, output.replace(b"\r\n", b"\n")
 
 
 def assert_linear(work, size):

@@ -2,7 +2,8 @@
 
 const NONE = -1;
 const ENDS = {'>': 'client', '<': 'server', ' ': ''};
-const OF_PEER = 'axn'; // instructions of the decoder stream, which are about the other end's encoder
+const OF_ENCODER = 'cid'; // instructions of the encoder stream
+const OF_DECODER = 'axn'; // instructions of the decoder stream, which are about the other end's encoder
 const REQUEST_FIELDS = [':method', ':path', ':status'];
 
 function bytesIn(hex) {
@@ -14,6 +15,12 @@ function bytesIn(hex) {
 // A number for each field: 1 and up for a field of a request's row, and else 0.
 function kindsOfFields(fields) {
   return Uint8Array.from(fields, field => 1 + REQUEST_FIELDS.findIndex(name => field.startsWith(name + ': ')));
+}
+
+// What faults together are, as a class: nothing, wrong, or what may be nothing with what the file lacks.
+function stateOfFaults(faults) {
+  if (!faults.length) return '';
+  return faults.every(it => it.perhaps) ? 'doubtful' : 'faulty';
 }
 
 // The entries of an encoder, and its table after each of its instructions.
@@ -90,7 +97,7 @@ class Connection {
     const row = this.events[event];
     if (row[0] === 't') return Math.min(row[3], this.encoders.length - 1);
     const own = this.encoders.length > 1 && this.ends[this.recordOf[event]] === '<' ? 1 : 0;
-    return OF_PEER.includes(row[0]) && this.encoders.length > 1 ? 1 - own : own;
+    return OF_DECODER.includes(row[0]) && this.encoders.length > 1 ? 1 - own : own;
   }
 
   read(row, event) {
@@ -104,7 +111,7 @@ class Connection {
       if (named) encoder.refer(named, event);
       encoder.change(event, row[6], {field: row[4], size: row[5]});
     } else if (kind === 'a' || kind === 'x' || kind === 't' && row[4] >= 0) this.join(row[kind === 't' ? 4 : 3], event);
-    if (kind === 'c' || kind === 'i' || kind === 'd') this.since[place].bytes += this.sizes[event];
+    if (OF_ENCODER.includes(kind)) this.since[place].bytes += this.sizes[event];
   }
 
   readSection(row, event, place) {
@@ -163,8 +170,7 @@ class Connection {
 
   finish() {
     for (const request of this.requests) {
-      for (const {event, end} of request.waits)
-        request.blocked += (end === null ? this.last : this.position(end)) - this.position(event);
+      for (const [begin, end] of request.waits.map(it => this.spanOf(it))) request.blocked += end - begin;
       if (request.waits.some(it => it.end === null)) request.finish = this.last;
       [request.method, request.path, request.status] = request.fields.map((field, i) => this.valueOf(field, i));
     }
@@ -177,14 +183,13 @@ class Connection {
     }
   }
 
+  // When a wait began and ended, or the end of the recording came.
+  spanOf({event, end}) { return [this.position(event), end === null ? this.last : this.position(end)]; }
+
   valueOf(field, kind) { return field === NONE ? '' : this.fields[field].slice(REQUEST_FIELDS[kind].length + 2); }
 
-  // What is wrong with an event, as a class: nothing, something, or what may be nothing with what the file lacks.
-  stateOf(event) {
-    const faults = this.faultsOf.get(event);
-    if (faults?.every(it => it.perhaps)) return 'doubtful';
-    return faults || this.refused[event] ? 'faulty' : '';
-  }
+  // What is wrong with an event, as a class: what is refused is wrong, also if no fault says so.
+  stateOf(event) { return stateOfFaults(this.faultsOf.get(event) ?? []) || (this.refused[event] ? 'faulty' : ''); }
 
   // The entry that an instruction of the encoder stream references, or 0.
   referencedBy(event) {

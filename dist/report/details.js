@@ -21,8 +21,9 @@ class Details {
     const facts = [`stream ${stream}`, status ? `status ${status}` : '', `${counted(request.bytes, 'byte')} of sections`,
       `${counted(request.instructions, 'byte')} of instructions`];
     const parts = [element('h2', '', title), element('p', 'facts', facts.filter(it => it).join(' · '))];
-    for (const {event, until, end} of waits) {
-      const waited = end === null ? 'to the end' : `for ${spanText(connection, connection.position(end) - connection.position(event))}`;
+    for (const wait of waits) {
+      const {event, until, end} = wait, [began, ended] = connection.spanOf(wait);
+      const waited = end === null ? 'to the end' : `for ${spanText(connection, ended - began)}`;
       const insertion = connection.encoders[connection.direction(event)].events[until - 1];
       parts.push(element('p', 'waited', `Blocked ${waited}, from `, this.link(event, `line ${connection.line(event)}`), ', until ',
         insertion === undefined ? `insertion ${until}, which never came` : this.link(insertion, `insertion ${until}`), '.'));
@@ -36,7 +37,7 @@ class Details {
   // The instructions that came before a section, closed.
   before(event, from, place) {
     const {connection} = this, own = [];
-    for (let i = from; i < event; i++) if ('cid'.includes(connection.events[i][0]) && connection.direction(i) === place) own.push(i);
+    for (let i = from; i < event; i++) if (OF_ENCODER.includes(connection.events[i][0]) && connection.direction(i) === place) own.push(i);
     if (!own.length) return '';
     const bytes = own.reduce((sum, i) => sum + connection.sizes[i], 0);
     const made = element('details', 'before', element('summary', '', `${counted(own.length, 'instruction')} before it, ${counted(bytes, 'byte')}`));
@@ -108,9 +109,8 @@ class Details {
   inParts(items, make, from = 0) {
     const made = items.slice(from, from + MOST_LINES).map(make), rest = items.length - from - MOST_LINES;
     if (rest <= 0) return made;
-    const button = element('button', 'more', `Show ${Math.min(rest, MOST_LINES)} of ${rest.toLocaleString('en')} more`);
-    button.type = 'button';
-    button.onclick = () => button.replaceWith(...this.inParts(items, make, from + MOST_LINES));
+    const button = makeButton('more', [`Show ${Math.min(rest, MOST_LINES)} of ${rest.toLocaleString('en')} more`],
+      () => button.replaceWith(...this.inParts(items, make, from + MOST_LINES)));
     return [...made, button];
   }
 
@@ -132,12 +132,10 @@ class Details {
   }
 
   restOf(body, places, encoder, moment, evicted) {
-    const button = element('button', 'more', `Show all ${places.length.toLocaleString('en')} entries`);
-    button.type = 'button';
-    button.onclick = () => {
+    const button = makeButton('more', [`Show all ${places.length.toLocaleString('en')} entries`], () => {
       body.append(...places.slice(MOST_LINES).map(i => this.entry(encoder, i, moment, evicted)));
       button.remove();
-    };
+    });
     return button;
   }
 

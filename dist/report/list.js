@@ -33,10 +33,7 @@ class List {
     const made = element('div', column.className), {key, text, title} = column;
     made.setAttribute('role', 'columnheader');
     if (key) {
-      const button = element('button', '', text);
-      button.type = 'button';
-      button.onclick = () => onSort(key);
-      made.append(button);
+      made.append(makeButton('', [text], () => onSort(key)));
     } else made.append(text);
     if (title) made.title = title;
     column.head = made;

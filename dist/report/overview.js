@@ -8,7 +8,7 @@ function bytesInBins({events, sizes}) {
   const width = Math.min(BINS, events.length), bins = Array.from({length: width}, () => [0, 0]);
   events.forEach(([kind], event) => {
     const bin = bins[Math.floor(event * width / events.length)];
-    if (kind === 's') bin[0] += sizes[event]; else if ('cid'.includes(kind)) bin[1] += sizes[event];
+    if (kind === 's') bin[0] += sizes[event]; else if (OF_ENCODER.includes(kind)) bin[1] += sizes[event];
   });
   return bins;
 }

@@ -29,9 +29,9 @@ class Report {
   }
 
   makeAside() {
-    const copy = element('button', '', 'Copy link');
-    copy.type = 'button';
-    copy.onclick = async () => { copy.textContent = await copied(location.href) ? 'Copied' : 'Copy the address above'; };
+    const copy = makeButton('', ['Copy link'], async () => {
+      copy.textContent = await copied(location.href) ? 'Copied' : 'Copy the address above';
+    });
     copy.onblur = () => { copy.textContent = 'Copy link'; };
     const states = ['inserted', 'draining', 'evicted'].map(state => element('span', state, state));
     this.part = scrollable('chosen-part', 'What is chosen', element('div', 'tools', copy), this.chosen);
@@ -45,9 +45,7 @@ class Report {
 
   makeElement() {
     this.tabs = Object.entries(TABS).map(([name, text]) => {
-      const button = element('button', 'tab', text);
-      button.type = 'button';
-      button.onclick = () => this.choose(name);
+      const button = makeButton('tab', [text], () => this.choose(name));
       button.dataset.name = name;
       return button;
     });
@@ -82,7 +80,7 @@ class Report {
   }
 
   showRequest(request) {
-    const {connection} = this, last = request.sections.at(-1)?.event ?? request.waits.at(-1)?.event ?? request.event;
+    const last = request.sections.at(-1)?.event ?? request.waits.at(-1)?.event ?? request.event;
     this.request = request;
     this.showMoment(last);
     this.timeline.choose(last, true);
@@ -109,6 +107,10 @@ class Report {
     this.overview.show(moment);
     this.tables.replaceChildren(...this.connection.encoders.map(encoder => this.details.table(encoder, moment)));
   }
+}
+
+function makeButton(className, parts, onclick) {
+  return Object.assign(element('button', className, ...parts), {type: 'button', onclick});
 }
 
 // A part of the page that is scrolled by itself, also by the keyboard.

@@ -39,12 +39,13 @@ function hasField(connection, name, value) {
   });
 }
 
+const FINDINGS = {'': '', doubtful: 'perhaps', faulty: 'wrong'}; // the words for what faults together are
 const has = name => ({requests}) => requests.some(request => request[name]);
 const COLUMNS = [
   {key: 'packet', text: 'Packet', className: 'number wide', width: '5.4em', isWide: true, isThere: ({packets}) => packets,
     value: (request, connection) => connection.packet(request.event) ?? NONE},
   {key: 'begin', text: 'Time', className: 'number wide', width: '6.4em', isWide: true, isThere: ({hasTimes}) => hasTimes,
-    value: ({begin}) => begin, text_of: ({event}, connection) => connection.time(event)},
+    value: ({begin}) => begin, textOf: ({event}, connection) => connection.time(event)},
   {key: 'stream', text: 'Stream', className: 'number', width: '5.2em', value: ({stream}) => stream},
   {key: 'method', text: 'Method', className: 'text', width: '5.4em', narrow: '5em', isThere: has('method'),
     value: ({method}) => method},
@@ -57,15 +58,11 @@ const COLUMNS = [
     width: '4.8em', isWide: true, value: ({instructions}) => instructions},
   {key: 'blocked', text: 'Blocked', title: 'how long a section waited for insertions', className: 'number blocked',
     width: '6em', isThere: ({requests}) => requests.some(({waits}) => waits.length), value: ({blocked}) => blocked,
-    text_of: ({blocked, waits}, connection) => waits.length ? spanText(connection, blocked) : ''},
+    textOf: ({blocked, waits}, connection) => waits.length ? spanText(connection, blocked) : ''},
   {key: 'finding', text: 'Finding', className: 'finding', width: '5.6em', isThere: ({faults}) => faults.length,
     value: ({faults}) => faults.length,
-    text_of: request => findingOf(request).text},
+    textOf: ({faults}) => FINDINGS[stateOfFaults(faults)]},
 ];
-function findingOf({faults}) {
-  if (!faults.length) return {text: '', className: ''};
-  return faults.every(it => it.perhaps) ? {text: 'perhaps', className: 'doubtful'} : {text: 'wrong', className: 'faulty'};
-}
 const WATERFALL = {text: '', title: 'when each began and ended; red: blocked', className: 'waterfall wide', width: 'minmax(9em, 1.3fr)', isWide: true};
 
 class RequestList {
@@ -77,7 +74,7 @@ class RequestList {
     this.list = new List({
       name: 'requests', columns: [...this.columns, {...WATERFALL}],
       cells: place => this.cells(this.shown[place]),
-      classOf: place => findingOf(this.shown[place]).className,
+      classOf: place => stateOfFaults(this.shown[place].faults),
       onChoose: place => onChoose(this.shown[place]), onOpen, onSort: key => this.sort(key),
       onRender: (first, end) => this.waterfall.render(this.list, first, end),
     });
@@ -93,7 +90,7 @@ class RequestList {
   }
 
   cells(request) {
-    const texts = this.columns.map(({value, text_of: textOf}) =>
+    const texts = this.columns.map(({value, textOf}) =>
       textOf ? textOf(request, this.connection) : String(value(request, this.connection)));
     return [...texts.map((text, i) => this.columns[i].key === 'status' ? statusOf(text) : text), this.waterfall.cell(request)];
   }

@@ -35,18 +35,17 @@ function summary(ranked) {
 // A button for each connection, worst first.
 function connectionList(ranked, onChoose) {
   const item = ({connection, number, state}) => {
-    const button = element('button', 'connection', sign(state), element('span', 'name', connection.name), ' ',
-      element('span', 'said', verdictText(connection)));
-    button.type = 'button';
+    const parts = [sign(state), element('span', 'name', connection.name), ' ', element('span', 'said', verdictText(connection))];
+    const button = makeButton('connection', parts, () => onChoose(number));
     button.dataset.number = number;
-    button.onclick = () => onChoose(number);
     return element('li', '', button);
   };
   const made = element('ul', 'connections', ...ranked.slice(0, MOST_NAMED).map(item)), rest = ranked.slice(MOST_NAMED);
   if (rest.length) {
-    const more = element('button', 'more', `Show ${counted(rest.length, 'more connection')}`);
-    more.type = 'button';
-    more.onclick = () => { more.parentElement.remove(); made.append(...rest.map(item)); };
+    const more = makeButton('more', [`Show ${counted(rest.length, 'more connection')}`], () => {
+      more.parentElement.remove();
+      made.append(...rest.map(item));
+    });
     made.append(element('li', '', more));
   }
   return made;
@@ -64,9 +63,10 @@ function findings({connection, details}) {
   };
   if (faults.length) made.append(element('ol', '', ...faults.slice(0, MOST_NAMED).map(item)));
   if (faults.length > MOST_NAMED) {
-    const more = element('button', 'more', `Show ${counted(faults.length - MOST_NAMED, 'more finding')}`);
-    more.type = 'button';
-    more.onclick = () => { more.previousElementSibling.append(...faults.slice(MOST_NAMED).map(item)); more.remove(); };
+    const more = makeButton('more', [`Show ${counted(faults.length - MOST_NAMED, 'more finding')}`], () => {
+      more.previousElementSibling.append(...faults.slice(MOST_NAMED).map(item));
+      more.remove();
+    });
     made.append(more);
   }
   return made;

@@ -3,8 +3,9 @@
 from dataclasses import dataclass, field
 from typing import Any, Dict, Iterable, List, Optional
 
+from qpk_findings import WORD_PERHAPS
 from qpk_lines import MARKS
-from qpk_verdict import Seen, SeenOfEnd
+from qpk_seen import Seen, SeenOfEnd
 
 from .lines import Object
 
@@ -26,8 +27,8 @@ class Verdict:
             if "packets" in it and "fault" not in it:
                 self.seen = seen_of(it)
             elif "fault" in it:
-                self.explained += bool(it.get("perhaps"))
-                self.certain += not it.get("perhaps")
+                self.explained += bool(it.get(WORD_PERHAPS))
+                self.certain += not it.get(WORD_PERHAPS)
                 if len(self.faults) < MOST_FAULTS:
                     self.faults.append(it)
 

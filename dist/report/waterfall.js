@@ -18,10 +18,9 @@ class Waterfall {
     const {connection} = this, made = element('div', 'track'), bar = element('i', 'bar-of-request');
     const title = [`${spanText(connection, request.finish - request.begin)} from its first section`];
     made.append(bar);
-    for (const {event, end} of request.waits) {
+    for (const [begin, end] of request.waits.map(it => connection.spanOf(it))) {
       made.append(element('i', 'bar-of-wait'));
-      const until = end === null ? connection.last : connection.position(end);
-      title.push(`blocked for ${spanText(connection, until - connection.position(event))}`);
+      title.push(`blocked for ${spanText(connection, end - begin)}`);
     }
     made.title = title.join('; ');
     this.place(made, request);
@@ -32,8 +31,7 @@ class Waterfall {
   at(position) { return 100 * (position - this.begin) / this.span; }
 
   place(track, request) {
-    const bars = [[request.begin, request.finish], ...request.waits.map(({event, end}) =>
-      [this.connection.position(event), end === null ? this.connection.last : this.connection.position(end)])];
+    const bars = [[request.begin, request.finish], ...request.waits.map(it => this.connection.spanOf(it))];
     bars.forEach(([begin, end], i) => {
       const {style} = track.children[i], left = Math.min(99, Math.max(0, this.at(begin)));
       style.left = left + '%';
