@@ -27,7 +27,7 @@ class Chromium:
              f'--origin-to-force-quic-on=localhost:{port}', f'--ignore-certificate-errors-spki-list={key}',
              f'--log-net-log={room}/net.json', '--net-log-capture-mode=Everything',
              f'https://localhost:{port}/test.html'],
-            env={**os.environ, 'SSLKEYLOGFILE': f'{room}/secrets'}, stdout=subprocess.DEVNULL,
+            env={**os.environ, 'SSLKEYLOGFILE': f'{room}/secrets', 'TMPDIR': room}, stdout=subprocess.DEVNULL,
             stderr=subprocess.DEVNULL, start_new_session=True)
 
     def compare(self, room, received, sent):
@@ -126,7 +126,7 @@ class Firefox:
                 file.write(f'user_pref({json.dumps(name)}, {json.dumps(value)});\n')
         environment = {**os.environ, 'HOME': profile, 'MOZ_HEADLESS': '1', 'MOZ_CRASHREPORTER_DISABLE': '1',
                        'MOZ_LOG': 'timestamp,nsHttp:4', 'MOZ_LOG_FILE': f'{room}/firefox',
-                       'SSLKEYLOGFILE': f'{room}/secrets'}
+                       'SSLKEYLOGFILE': f'{room}/secrets', 'TMPDIR': room}
         environment.pop('DISPLAY', None)
         return subprocess.Popen(
             ['firefox-esr', '--headless', '--no-remote', '--profile', profile, f'https://localhost:{port}/test.html'],

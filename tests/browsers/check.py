@@ -26,6 +26,7 @@ import time
 import capture
 from browsers import BROWSERS
 from nghttp3 import Decoder, Failure
+from processes import new_folder, stop
 
 HERE = os.path.dirname(os.path.abspath(__file__))
 SERVER = os.path.join(HERE, '..', '..', 'examples', 'http3-server')
@@ -91,16 +92,6 @@ def free_port():
         return udp.getsockname()[1]
 
 
-def stop(process):
-    """Ends a process that this one started, and waits for it."""
-    process.terminate()
-    try:
-        return process.wait(20)
-    except subprocess.TimeoutExpired:
-        process.kill()
-        return process.wait()
-
-
 def find_report(path):
     """Returns the page's report, or None before the server logged it."""
     if not os.path.exists(path):
@@ -139,7 +130,7 @@ def run(browser, program, certificates, key, options, room, is_captured):
 
 def check(browser, program, certificates, key, options, is_captured=False):
     """Runs a setting, and returns what was compared. Raises Failure if anything differs."""
-    with tempfile.TemporaryDirectory() as room:
+    with new_folder() as room:
         report = run(browser, program, certificates, key, options, room, is_captured)
         if report['wrong']:
             raise Failure('the page found ' + report['wrong'][0])

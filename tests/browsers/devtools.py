@@ -9,6 +9,7 @@ import subprocess
 import time
 
 from nghttp3 import Failure
+from processes import stop
 
 SECONDS = 60
 PROGRAM = 'chromium'
@@ -29,19 +30,14 @@ class Browser:
              f'--window-size={width},{height}', '--force-device-scale-factor=1', f'--user-data-dir={room}/profile',
              '--remote-debugging-pipe', 'about:blank'],
             pass_fds=(3, 4), preexec_fn=lambda: [os.dup2(fd, number) for fd, number in zip(passed, (3, 4))],
-            stdout=subprocess.DEVNULL, stderr=subprocess.DEVNULL, start_new_session=True)
+            env={**os.environ, 'TMPDIR': room}, stdout=subprocess.DEVNULL, stderr=subprocess.DEVNULL, start_new_session=True)
         for it in (its_read, its_write, *passed):
             os.close(it)
         self.read, self.write, self.waiting, self.number = own_read, own_write, b'', 0
 
     def close(self):
         """Ends it."""
-        self.process.terminate()
-        try:
-            self.process.wait(20)
-        except subprocess.TimeoutExpired:
-            self.process.kill()
-            self.process.wait()
+        stop(self.process)
         os.close(self.read)
         os.close(self.write)
 

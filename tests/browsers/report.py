@@ -20,7 +20,6 @@ import re
 import shutil
 import subprocess
 import sys
-import tempfile
 import zlib
 from ctypes.util import find_library
 from pathlib import Path
@@ -28,6 +27,7 @@ from pathlib import Path
 import devtools
 import everybody
 import keyboard
+import processes
 import sizes
 from nghttp3 import Failure
 
@@ -317,6 +317,7 @@ CHECKS = {
     'the keyboard': keyboard.check,
     'everybody': everybody.check,
     'any size': sizes.check,
+    'processes': processes.check,
 }
 
 
@@ -335,7 +336,7 @@ def main():
         print(f'not shown: the page of qpk report in a browser, without {devtools.PROGRAM}\n0 passed, 0 failed')
         return 0
     passed = failed = 0
-    with tempfile.TemporaryDirectory() as room:
+    with processes.new_folder() as room:
         browser = devtools.Browser(room)
         try:
             if sys.argv[1:2] == ['--pictures']:
