@@ -91,8 +91,10 @@ def read_questions(share=1):
     import foretold  # pylint: disable=import-outside-toplevel # each of these imports this module
     import recorded  # pylint: disable=import-outside-toplevel
     import short_lists  # pylint: disable=import-outside-toplevel
+    import tables  # pylint: disable=import-outside-toplevel
 
-    return [*foretold.read_questions(), *recorded.read_questions(share), *short_lists.read_questions(share)]
+    questions = [*foretold.read_questions(), *recorded.read_questions(share)]
+    return [*questions, *short_lists.read_questions(share), *tables.read_questions(share)]
 
 
 def answers_to(question, said):

@@ -19,7 +19,7 @@ use positions::Positions;
 use qpack_testing::cases::{Kinds, Run, answer_calls, hold, hold_files};
 use short_lists::ShortLists;
 use stateless::Stateless;
-use table::{Received, Table};
+use table::{Hashed, Received, Table};
 
 /// The files of cases.
 const FILES: [&str; 8] = [
@@ -42,6 +42,7 @@ impl Kinds for Names {
             "positions" => hold::<Positions>(run),
             "table" => hold::<Table>(run),
             "received-table" => hold::<Received>(run),
+            "hashed-table" => hold::<Hashed>(run),
             "h3-encoder" => hold::<H3Encoder>(run),
             "h3-decoder" => hold::<H3Decoder<SortedIndex>>(run),
             "h3-received-decoder" => hold::<H3Decoder<NoIndex>>(run),

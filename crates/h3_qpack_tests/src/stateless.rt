@@ -3,11 +3,12 @@
 use crate::decoder::show_decoded;
 use h3_qpack::coding::Cursor;
 use h3_qpack::{
-    DecoderError, EncoderError, Error, HeaderField, decode_stateless, encode_stateless,
+    DecoderError, EncoderError, Error, HeaderField, decode_stateless, dynamic, encode_stateless,
     prefix_string, vas,
 };
 use linked_list_allocator::LocalHeap;
 use qpack_testing::cases::{Call, Subject};
+use std::fmt::Display;
 
 /// Calls without a table, and the sections that they wrote. A section may be decoded up to a size.
 #[derive(Drop)]
@@ -32,6 +33,13 @@ const NEVER_RETURNED: &[Error] = &[
     Error::Encoder(EncoderError::Memory),
 ];
 
+/// Errors of a table that no call returns.
+const NEVER_RETURNED_BY_TABLES: &[dynamic::Error] = &[
+    dynamic::Error::NoTrackingData,
+    dynamic::Error::InvalidTrackingCount,
+    dynamic::Error::Memory,
+];
+
 impl Subject for Stateless {
     fn begin(call: &mut Call<'_>, _size: usize) -> Option<Stateless> {
         let max_size = call.number();
@@ -45,7 +53,8 @@ impl Subject for Stateless {
             "encodes" => self.encode(call),
             "encodes-on-heap" => self.encode_on_heap(call),
             "holds" => call.show_bytes(&self.sections),
-            "error" => show_error(call),
+            "error" => show_error(call, NEVER_RETURNED),
+            "table-error" => show_error(call, NEVER_RETURNED_BY_TABLES),
             _ => call.fail("there is no such call without a table"),
         }
     }
@@ -99,8 +108,8 @@ impl Stateless {
 }
 
 /// Appends what an error is printed as.
-fn show_error(call: &mut Call<'_>) {
-    match NEVER_RETURNED.get(call.count()) {
+fn show_error<E: Display>(call: &mut Call<'_>, errors: &[E]) {
+    match errors.get(call.count()) {
         Some(error) => call.show(error),
         None => call.fail("there is no such error"),
     }

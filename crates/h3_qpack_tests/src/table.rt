@@ -2,10 +2,13 @@
 
 use h3_qpack::HeaderField;
 use h3_qpack::dynamic::{
-    DynamicTable, DynamicTableEncoder, EntryIndex, Error, NoIndex, ReceivedTable, SortedIndex,
+    DynamicTable, DynamicTableEncoder, EntryIndex, Error, FindsEntries, Index, NoIndex,
+    ReceivedTable, SortedIndex, Steps,
 };
 use h3_qpack::encoder::set_dynamic_table_size;
-use qpack_testing::cases::{Call, Subject};
+use h3_qpack::field::FieldLine;
+use h3_qpack::static_::StaticTable;
+use qpack_testing::cases::{Call, Field, Mark, Subject};
 use std::alloc::Global;
 
 /// A table of an encoder.
@@ -19,6 +22,12 @@ pub(crate) struct Table {
 #[derive(Drop)]
 pub(crate) struct Received {
     table: ReceivedTable,
+}
+
+/// A table of an encoding end, whose index is of hashes.
+#[derive(Drop)]
+pub(crate) struct Hashed {
+    table: DynamicTable<Index>,
 }
 
 /// A kind of table: with an index, or without one.
@@ -36,6 +45,12 @@ impl Kind for SortedIndex {
 impl Kind for NoIndex {
     fn empty(alloc: Global) -> ReceivedTable {
         DynamicTable::without_index(alloc)
+    }
+}
+
+impl Kind for Index {
+    fn empty(alloc: Global) -> DynamicTable<Index> {
+        DynamicTable::with_seed(alloc, 0)
     }
 }
 
@@ -162,6 +177,47 @@ impl Subject for Received {
     }
 }
 
+impl Subject for Hashed {
+    fn begin(call: &mut Call<'_>, _size: usize) -> Option<Hashed> {
+        Some(Hashed {
+            table: table_of::<Index>(call),
+        })
+    }
+
+    fn make(&mut self, word: &str, call: &mut Call<'_>) {
+        match word {
+            "newest" => show_newest(call, &mut self.table),
+            _ => call_any(word, call, &mut self.table),
+        }
+    }
+}
+
+/// Appends the newest entry with a field, whether the number of entries that were compared is in bounds, and the newest
+/// with its name.
+fn show_newest<I: FindsEntries>(call: &mut Call<'_>, table: &mut DynamicTable<I>) {
+    let (least, most) = (call.number(), call.number());
+    let fields = call.headers();
+    call.holds(fields.len() == 1, "no field is sought, or several");
+    for field in &fields {
+        let mut steps = Steps::new();
+        call.show_parts(&table.newest_equal(field, &mut steps));
+        call.say(" ");
+        call.show(&(least <= steps.count() && steps.count() <= most));
+        call.say(" ");
+        call.show_parts(&newest_name(table, &field.name));
+    }
+}
+
+/// Returns the newest entry with a name, as a block finds it.
+fn newest_name<I: FindsEntries>(table: &mut DynamicTable<I>, name: &[u8]) -> Option<usize> {
+    let block = table.encoder(0);
+    let field = FieldLine::new(name, b"");
+    let sought = block.seek(&field, StaticTable::find_name(field.name));
+    let newest = block.newest_name(&field, &sought);
+    block.release();
+    newest
+}
+
 impl Subject for Table {
     fn begin(call: &mut Call<'_>, _size: usize) -> Option<Table> {
         Some(Table {
@@ -187,6 +243,13 @@ impl Table {
             "finds" | "finds-name" | "inserts" | "block" => self.show_given_up(word, call),
             "sends-found" | "sends-inserted" => self.show_sent(word, call),
             "commits" => self.show_committed(call),
+            "gives-up" => self.show_asked_and_given_up(call),
+            "newest" => show_newest(call, &mut self.table),
+            "oldest" => {
+                let stream = call.number();
+                call.show_parts(&self.table.oldest_required(stream));
+            }
+            "tracked" => show_tracked(call, &self.table),
             "sets-size" => self.show_size_set(call),
             "blocked" => call.show(&self.table.blocked_blocks()),
             "unacknowledged" => call.show(&self.table.unacknowledged_blocks()),
@@ -218,18 +281,33 @@ impl Table {
         call.show_value(&sent);
     }
 
-    /// Appends the base of a block, and how it inserts each of some fields. The block is sent on a stream then, with a
-    /// required insert count that need not be its own.
+    /// Appends the answers of a block. The block is sent on a stream then, with a required insert count that need not be
+    /// its own.
     fn show_committed(&mut self, call: &mut Call<'_>) {
         let (stream, required) = (call.number(), call.count());
-        let fields = call.headers();
+        let fields = call.fields();
         let mut block = self.table.encoder(stream);
-        call.say_number("base ", block.base());
-        show_insertions(call, &mut block, &fields);
+        show_asked(call, &mut block, &fields);
         let done = block.commit(required);
         call.say("; ");
         call.show_done(&done);
     }
+
+    /// Appends the answers of a block, which is given up then.
+    fn show_asked_and_given_up(&mut self, call: &mut Call<'_>) {
+        let fields = call.fields();
+        let mut block = self.table.encoder(8);
+        show_asked(call, &mut block, &fields);
+        block.release();
+    }
+}
+
+/// Appends how many blocks wait, how many are blocked, and how many insertions are known to be received.
+fn show_tracked(call: &mut Call<'_>, table: &DynamicTable) {
+    call.show(&table.unacknowledged_blocks());
+    call.say_number(" unacknowledged, ", table.blocked_blocks());
+    call.say_number(" blocked, ", table.known_received_count());
+    call.say(" known");
 }
 
 impl Table {
@@ -306,5 +384,23 @@ fn show_insertions(
     for field in fields {
         call.say("; ");
         call.show_value(&block.insert(field));
+    }
+}
+
+/// Appends the base of a block, and what it answers to each of some fields.
+fn show_asked(call: &mut Call<'_>, block: &mut DynamicTableEncoder<'_>, fields: &[Field]) {
+    call.say_number("base ", block.base());
+    for field in fields {
+        call.say("; ");
+        show_answer(call, block, field);
+    }
+}
+
+/// Appends what a block finds for a field with the mark `reuse`, or how it inserts another.
+fn show_answer(call: &mut Call<'_>, block: &mut DynamicTableEncoder<'_>, field: &Field) {
+    match HeaderField::from_pair(call.alloc(), &field.name, &field.value) {
+        Ok(sought) if field.mark == Mark::Reuse => call.show_value(&block.find(&sought)),
+        Ok(inserted) => call.show_value(&block.insert(&inserted)),
+        Err(_) => call.lack_memory(),
     }
 }

@@ -1,8 +1,9 @@
 //! What calls answer.
 
+use h3_qpack::dynamic::Error;
 use qpack_ends::decoder::DecodingError;
 use qpack_ends::encoder::EncodingError;
-use qpack_ends::{DecoderStreamError, EncoderStreamError, FieldSection, Reading};
+use qpack_ends::{DecoderStreamError, EncoderStreamError, FieldSection, Reading, SectionError};
 use qpack_testing::cases::Call;
 use std::fmt::Display;
 
@@ -10,11 +11,38 @@ use std::fmt::Display;
 pub(crate) trait Refusal: Display + Drop {
     /// Returns the code that ends the connection, or `None` if it goes on.
     fn ending_code(&self) -> Option<u64>;
+
+    /// Whether the call was refused memory.
+    fn is_of_memory(&self) -> bool;
+}
+
+impl Refusal for Error {
+    fn ending_code(&self) -> Option<u64> {
+        None
+    }
+
+    fn is_of_memory(&self) -> bool {
+        matches!(self, Error::Memory)
+    }
+}
+
+impl Refusal for SectionError {
+    fn ending_code(&self) -> Option<u64> {
+        self.code()
+    }
+
+    fn is_of_memory(&self) -> bool {
+        matches!(self, SectionError::Memory)
+    }
 }
 
 impl Refusal for DecodingError {
     fn ending_code(&self) -> Option<u64> {
         self.code()
+    }
+
+    fn is_of_memory(&self) -> bool {
+        matches!(self, DecodingError::Memory)
     }
 }
 
@@ -22,11 +50,19 @@ impl Refusal for EncodingError {
     fn ending_code(&self) -> Option<u64> {
         self.code()
     }
+
+    fn is_of_memory(&self) -> bool {
+        matches!(self, EncodingError::Memory)
+    }
 }
 
 impl Refusal for EncoderStreamError {
     fn ending_code(&self) -> Option<u64> {
         self.code()
+    }
+
+    fn is_of_memory(&self) -> bool {
+        matches!(self, EncoderStreamError::Memory)
     }
 }
 
@@ -34,10 +70,39 @@ impl Refusal for DecoderStreamError {
     fn ending_code(&self) -> Option<u64> {
         Some(self.code())
     }
+
+    fn is_of_memory(&self) -> bool {
+        false
+    }
+}
+
+/// Notes if a call was refused memory: then all calls of its case are made once more.
+pub(crate) fn note_memory<T, E: Refusal>(call: &mut Call<'_>, done: &Result<T, E>) {
+    if let Err(error) = done {
+        note_memory_of(call, error);
+    }
+}
+
+/// Notes if an error is of refused memory.
+fn note_memory_of<E: Refusal>(call: &mut Call<'_>, error: &E) {
+    if error.is_of_memory() {
+        call.lack_memory();
+    }
+}
+
+/// Notes that a call was refused, whatever the answer, unless it was refused memory.
+pub(crate) fn must_be_done<T, E: Refusal>(
+    call: &mut Call<'_>,
+    done: &Result<T, E>,
+    why: &'static str,
+) {
+    note_memory(call, done);
+    call.holds(done.is_ok(), why);
 }
 
 /// Appends why a call was refused.
 pub(crate) fn show_refusal<E: Refusal>(call: &mut Call<'_>, error: &E) {
+    note_memory_of(call, error);
     call.show_refusal(error.ending_code(), error);
 }
 

@@ -1,6 +1,5 @@
 //! Calls that begin an end or need none, and texts of errors that occur in no case.
 
-use crate::answers::show_refusal;
 use crate::{decoder, encoder};
 use qpack_ends::decoder::{ConnectionDecoder, DecodingError, SettingsError};
 use qpack_ends::encoder::{ConnectionEncoder, EncodingError};
@@ -73,9 +72,14 @@ fn show_lack_of_memory(call: &mut Call<'_>) {
     match call.word() {
         "section" => call.show_refusal(SectionError::Memory.code(), &SectionError::Memory),
         "line" => call.show_refusal(LineError::Memory.code(), &LineError::Memory),
-        "encoder-stream" => show_refusal(call, &EncoderStreamError::Memory),
-        "decoder" => show_refusal(call, &DecodingError::Memory),
-        "encoder" => show_refusal(call, &EncodingError::Memory),
+        "encoder-stream" => {
+            call.show_refusal(
+                EncoderStreamError::Memory.code(),
+                &EncoderStreamError::Memory,
+            );
+        }
+        "decoder" => call.show_refusal(DecodingError::Memory.code(), &DecodingError::Memory),
+        "encoder" => call.show_refusal(EncodingError::Memory.code(), &EncodingError::Memory),
         _ => call.fail("there is no such end or stream"),
     }
 }

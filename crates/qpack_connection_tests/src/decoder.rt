@@ -1,6 +1,8 @@
 //! The decoding end of a connection.
 
-use crate::answers::{show_count, show_done, show_failure, show_reading, show_refusal};
+use crate::answers::{
+    note_memory, show_count, show_done, show_failure, show_reading, show_refusal,
+};
 use h3_qpack::coding::Cursor;
 use h3_qpack::stream::{DecoderLine, HeaderAck, InsertCountIncrement, StreamCancel, next_line};
 use qpack_ends::decoder::{ConnectionDecoder, DecoderSettings};
@@ -74,6 +76,7 @@ impl Decoder {
         let mut received = self.end.receive(&mut Cursor::new(b""));
         for piece in bytes.chunks(self.size.max(1)) {
             received = self.end.receive(&mut Cursor::new(piece));
+            note_memory(call, &received);
         }
         show_count(call, &received);
     }

@@ -1,6 +1,6 @@
 //! The decoder stream, received strictly.
 
-use crate::answers::show_done;
+use crate::answers::{must_be_done, note_memory, show_done};
 use h3_qpack::HeaderField;
 use h3_qpack::coding::Cursor;
 use h3_qpack::dynamic::{DynamicLookupResult, DynamicTable, DynamicTableEncoder, Error};
@@ -43,9 +43,10 @@ impl Subject for Hearing {
     /// The settings are the capacity of the table, and its limit of blocked streams.
     fn begin(call: &mut Call<'_>, size: usize) -> Option<Hearing> {
         let mut table = DynamicTable::new(call.alloc());
-        let is_set = table.set_max_size(call.count()).is_ok();
-        let is_limited = table.set_max_blocked(call.count()).is_ok();
-        call.holds(is_set && is_limited, "the table's settings are refused");
+        let set = table.set_max_size(call.count());
+        must_be_done(call, &set, "the capacity is refused");
+        let limited = table.set_max_blocked(call.count());
+        must_be_done(call, &limited, "the limit is refused");
         Some(Hearing {
             stream: DecoderStream::new(),
             table,
@@ -79,9 +80,12 @@ impl Hearing {
     fn send(&mut self, call: &mut Call<'_>) {
         let stream = call.number();
         let name = call.word().as_bytes();
-        if let Ok(field) = HeaderField::from_pair(call.alloc(), name, b"bar") {
-            call.show_value(&send(&mut self.table, stream, &field));
-        }
+        let sent = match HeaderField::from_pair(call.alloc(), name, b"bar") {
+            Ok(field) => send(&mut self.table, stream, &field),
+            Err(_) => Err(Error::Memory),
+        };
+        note_memory(call, &sent);
+        call.show_value(&sent);
     }
 
     /// Receives bytes in pieces, until one is refused.

@@ -1,11 +1,11 @@
 //! The encoding end of a connection.
 
-use crate::answers::{show_count, show_done, show_failure, show_reading};
+use crate::answers::{must_be_done, show_count, show_done, show_failure, show_reading};
 use h3_qpack::coding::Cursor;
 use h3_qpack::encoder::AsField;
-use qpack_ends::decoder::{ConnectionDecoder, DecoderSettings};
+use qpack_ends::decoder::{ConnectionDecoder, DecoderSettings, DecodingError};
 use qpack_ends::encoder::{ConnectionEncoder, EncoderSettings, EncodingError};
-use qpack_ends::{FieldLine, FieldSection, Wish, WishedField};
+use qpack_ends::{FieldLine, FieldSection, Reading, Wish, WishedField};
 use qpack_testing::cases::{Call, Field, Subject};
 use std::alloc::Global;
 
@@ -111,9 +111,19 @@ fn decode_alone(call: &mut Call<'_>, section: &[u8]) {
 /// Appends what an end decodes a section to.
 fn decode_by(call: &mut Call<'_>, end: &mut ConnectionDecoder, section: &[u8]) {
     let mut fields = FieldSection::new(call.alloc());
-    match end.decode(8, section, &mut fields) {
-        Ok(reading) => show_reading(call, reading, &fields),
-        Err(_) => call.fail("the peer refuses a section"),
+    let decoded = end.decode(8, section, &mut fields);
+    show_decoded(call, &decoded, &fields);
+}
+
+/// Appends what a peer decoded a section to, which it may not refuse.
+fn show_decoded(
+    call: &mut Call<'_>,
+    decoded: &Result<Reading, DecodingError>,
+    fields: &FieldSection,
+) {
+    must_be_done(call, decoded, "the peer refuses a section");
+    if let Ok(reading) = decoded {
+        show_reading(call, *reading, fields);
     }
 }
 
@@ -125,7 +135,9 @@ fn wishes_of<'a>(call: &mut Call<'_>, fields: &'a [Field]) -> Vec<WishedField<'a
             line: field.as_line(),
             wish: field.mark.among(WISHES),
         };
-        call.holds(wished.push(wish).is_ok(), "out of memory");
+        if wished.push(wish).is_err() {
+            call.lack_memory();
+        }
     }
     wished
 }
@@ -134,7 +146,9 @@ fn wishes_of<'a>(call: &mut Call<'_>, fields: &'a [Field]) -> Vec<WishedField<'a
 fn lines_of<'a>(call: &mut Call<'_>, fields: &'a FieldSection) -> Vec<FieldLine<'a>> {
     let mut lines = Vec::new(call.alloc());
     for field in fields.iter() {
-        call.holds(lines.push(field).is_ok(), "out of memory");
+        if lines.push(field).is_err() {
+            call.lack_memory();
+        }
     }
     lines
 }
@@ -155,7 +169,7 @@ impl Encoder {
         }
         let encoded = self.encode_words(number, call);
         if word == "passes" {
-            call.holds(encoded.is_ok(), "a section is refused");
+            must_be_done(call, &encoded, "a section is refused");
             self.pass(number, call);
         } else {
             self.show_encoded(&encoded, call);
@@ -186,7 +200,7 @@ impl Encoder {
         let mut required = 0usize;
         for stream in 0..streams {
             let encoded = self.encode(stream, &lines);
-            call.holds(encoded.is_ok(), "a section is refused");
+            must_be_done(call, &encoded, "a section is refused");
             required = required.saturating_add(encoded.unwrap_or(0));
         }
         call.show(&required);
@@ -196,7 +210,7 @@ impl Encoder {
     fn hand_on(&mut self, call: &mut Call<'_>) {
         let stream = call.number();
         let encoded = self.encode_again(stream, call);
-        call.holds(encoded.is_ok(), "a section is refused");
+        must_be_done(call, &encoded, "a section is refused");
         self.pass(stream, call);
     }
 
@@ -228,15 +242,13 @@ impl Encoder {
     fn pass(&mut self, stream: u64, call: &mut Call<'_>) {
         let instructions = &mut Cursor::new(self.end.encoder_stream());
         let received = self.peer.receive(instructions);
-        call.holds(received.is_ok(), "the peer refuses the encoder stream");
+        must_be_done(call, &received, "the peer refuses the encoder stream");
         self.end.sent(usize::MAX);
-        match self.peer.decode(stream, &self.section, &mut self.fields) {
-            Ok(reading) => show_reading(call, reading, &self.fields),
-            Err(_) => call.fail("the peer refuses a section"),
-        }
+        let decoded = self.peer.decode(stream, &self.section, &mut self.fields);
+        show_decoded(call, &decoded, &self.fields);
         let answers = &mut Cursor::new(self.peer.decoder_stream());
         let received = self.end.receive(answers);
-        call.holds(received.is_ok(), "the decoder stream is refused");
+        must_be_done(call, &received, "the decoder stream is refused");
         self.peer.sent(usize::MAX);
     }
 

@@ -1,6 +1,6 @@
 //! The encoder stream, received strictly.
 
-use crate::answers::show_done;
+use crate::answers::{must_be_done, show_done};
 use h3_qpack::HeaderField;
 use h3_qpack::coding::Cursor;
 use h3_qpack::dynamic::{DynamicTable, Error};
@@ -19,8 +19,8 @@ impl Subject for Receiving {
     /// The settings are the maximum of the capacity, which is 0.
     fn begin(call: &mut Call<'_>, size: usize) -> Option<Receiving> {
         let mut table = DynamicTable::new(call.alloc());
-        let is_agreed = table.set_agreed_max(call.count()).is_ok();
-        call.holds(is_agreed, "the maximum is refused");
+        let agreed = table.set_agreed_max(call.count());
+        must_be_done(call, &agreed, "the maximum is refused");
         Some(Receiving {
             table,
             stream: EncoderStream::new(call.alloc()),

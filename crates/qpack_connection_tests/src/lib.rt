@@ -1,7 +1,9 @@
-//! Cases of the two ends of a connection, and of their parts, in the format of `qpack_testing::cases`.
+//! Cases of the two ends of a connection, of their parts, and of the bytes that they read and write, in the format of
+//! `qpack_testing::cases`.
 #![tactic(auto)]
 
 mod answers;
+mod bytes;
 mod calls;
 mod decoder;
 mod decoder_stream;
@@ -10,6 +12,7 @@ mod encoder_stream;
 mod sections;
 
 use anyhow::Result;
+use bytes::Bytes;
 use calls::Calls;
 use decoder::Decoder;
 use decoder_stream::Hearing;
@@ -19,7 +22,14 @@ use qpack_testing::cases::{Kinds, Run, answer_calls, hold, hold_files};
 use sections::Sections;
 
 /// The files of cases.
-const FILES: [&str; 7] = [
+const FILES: [&str; 14] = [
+    "integers.txt",
+    "literals.txt",
+    "recorded_texts.txt",
+    "header_fields.txt",
+    "field_lines.txt",
+    "instructions.txt",
+    "cut_stream.txt",
     "decoder.txt",
     "encoder.txt",
     "decoder_stream.txt",
@@ -40,6 +50,7 @@ impl Kinds for Ends {
             "decoder-stream" => hold::<Hearing>(run),
             "encoder-stream" => hold::<Receiving>(run),
             "sections" => hold::<Sections>(run),
+            "bytes" => hold::<Bytes>(run),
             "calls" => hold::<Calls>(run),
             _ => run.fail("there is no such kind"),
         }

@@ -1,6 +1,6 @@
 //! Sections read strictly, up to a limit.
 
-use crate::answers::{show_fields, show_reading};
+use crate::answers::{must_be_done, note_memory, show_fields, show_reading, show_refusal};
 use h3_qpack::HeaderField;
 use h3_qpack::dynamic::{DynamicTable, Error};
 use qpack_ends::{FieldSection, read_section};
@@ -23,11 +23,11 @@ impl Subject for Sections {
     /// The settings are the capacity of the table, and the name of each entry.
     fn begin(call: &mut Call<'_>, _size: usize) -> Option<Sections> {
         let mut table = DynamicTable::new(call.alloc());
-        let is_set = table.set_max_size(call.count()).is_ok();
-        call.holds(is_set, "the capacity is refused");
+        let set = table.set_max_size(call.count());
+        must_be_done(call, &set, "the capacity is refused");
         for name in call.rest().split_whitespace() {
             let done = put(call.alloc(), &mut table, name);
-            call.holds(done.is_ok(), "an entry is refused");
+            must_be_done(call, &done, "an entry is refused");
         }
         call.set_rest("");
         Some(Sections {
@@ -42,6 +42,7 @@ impl Subject for Sections {
             "reads-up-to" => self.read(call.number(), call),
             "puts" => {
                 let done = put(call.alloc(), &mut self.table, call.word());
+                note_memory(call, &done);
                 call.show_done(&done);
             }
             "clears" => {
@@ -62,7 +63,7 @@ impl Sections {
             Ok(reading) => show_reading(call, reading, &self.fields),
             Err(error) => {
                 call.holds(self.fields.is_empty(), "a refused section gives fields");
-                call.show_refusal(error.code(), &error);
+                show_refusal(call, &error);
             }
         }
     }

@@ -34,6 +34,6 @@ mod subject;
 
 pub use call::Call;
 pub use fields::{Field, Mark};
-pub use files::{answer_calls, hold_files};
+pub use files::{answer_calls, hold_files, read_calls};
 pub use run::Run;
 pub use subject::{Kinds, Subject, hold, make_call};

@@ -4,12 +4,12 @@
 #![tactic(auto)]
 
 use anyhow::{Result, bail};
-use std::io::{self, Read};
+use qpack_testing::cases::read_calls;
+use std::io::Read;
 use std::str;
 
 /// The crates with such tests.
-const CRATES: [&str; 5] = [
-    "qpack_wire_tests",
+const CRATES: [&str; 4] = [
     "h3_qpack_tests",
     "two_ends_tests",
     "qpack_connection_tests",
@@ -22,7 +22,6 @@ const LONGEST: usize = 64;
 /// Runs the tests of a crate.
 fn run(rt: &HostRuntime, name: &str) -> Result<()> {
     match name {
-        "qpack_wire_tests" => qpack_wire_tests::run(rt),
         "h3_qpack_tests" => h3_qpack_tests::run(rt),
         "two_ends_tests" => two_ends_tests::run(rt),
         "qpack_connection_tests" => qpack_connection_tests::run(rt),
@@ -42,8 +41,7 @@ fn run_all(rt: &HostRuntime) -> Result<()> {
 
 /// Prints the answers of the calls of standard input, of which this is the beginning.
 fn answer(rt: &HostRuntime, name: &str, begun: &str) -> Result<()> {
-    let mut calls = String::from_str(rt.alloc(), begun)?;
-    calls.push_str(io::read_to_string(rt.alloc(), rt.reader())?.as_str())?;
+    let calls = read_calls(rt, begun)?;
     match name {
         "h3_qpack_tests" => h3_qpack_tests::answer(rt, calls.as_str()),
         "two_ends_tests" => two_ends_tests::answer(rt, calls.as_str()),

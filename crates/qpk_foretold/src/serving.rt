@@ -45,7 +45,7 @@ impl Subject for Serving {
                 call.show_bytes(&output.taken);
             }
             "pipes" => {
-                let output = self.run(call);
+                let output = self.run_twice(call);
                 call.show(&output.taken.len());
                 self.input = output.taken;
             }
@@ -55,6 +55,18 @@ impl Subject for Serving {
 }
 
 impl Serving {
+    /// Runs `qpk`, and once more if it was refused: memory may have been, and what the next run is given is its output.
+    fn run_twice(&self, call: &mut Call<'_>) -> Output {
+        let words = call.rest();
+        let output = self.run(call);
+        if call.answer().starts_with("0 ") {
+            return output;
+        }
+        call.clear();
+        call.set_rest(words);
+        self.run(call)
+    }
+
     /// Runs `qpk`, and returns its output. Appends its status and its faults.
     fn run(&self, call: &mut Call<'_>) -> Output {
         let words = words_of(call);

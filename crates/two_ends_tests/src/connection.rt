@@ -74,9 +74,11 @@ impl Connection {
     /// Gives an event after one that was refused memory: the same, or a delivery of no bytes more, since some of a number
     /// of bytes may have been taken.
     fn step_again(&mut self, word: &str, call: &mut Call<'_>) -> Outcome {
+        let words = call.rest();
         if word == "to-decoder" && call.amount() != usize::MAX {
             return self.ends.step(Event::ToDecoder(0));
         }
+        call.set_rest(words);
         self.step(word, call)
     }
 }

@@ -11,7 +11,7 @@ pub(crate) fn go_round(call: &mut Call<'_>, settings: &str, fields: usize) {
     inner.take(settings.strip_prefix("session ").unwrap_or(""));
     match Lawful::<Session>::begin(&mut inner, 0) {
         Some(mut session) => send_all(call, &mut session, fields),
-        None => call.fail("the settings are refused"),
+        None => call.lack_memory(),
     }
 }
 
@@ -19,7 +19,9 @@ pub(crate) fn go_round(call: &mut Call<'_>, settings: &str, fields: usize) {
 fn send_all(call: &mut Call<'_>, session: &mut Lawful<Session>, fields: usize) {
     for n in 1..=fields {
         let mut lines = String::new(call.alloc());
-        call.holds(write_calls(&mut lines, n), "out of memory");
+        if !write_calls(&mut lines, n) {
+            call.lack_memory();
+        }
         give_all(call, session, lines.as_str());
     }
 }
@@ -56,6 +58,7 @@ fn give_all(call: &mut Call<'_>, session: &mut Lawful<Session>, lines: &str) {
     for line in lines.lines() {
         let (text, expected) = line.split_once('\t').unwrap_or((line, ""));
         make_call(session, text, &mut inner);
+        call.lack_memory_of(&inner);
         let is_begun = expected.ends_with(' ') && inner.answer().starts_with(expected);
         let is_answered = is_begun || inner.answer() == expected;
         call.holds(

@@ -119,9 +119,10 @@ impl Runs {
 
 /// Notes what went wrong with an event, and whether there was memory for it.
 fn note_event(call: &mut Call<'_>, is_kept: bool, words: &Call<'_>) {
-    if !is_kept || words.lacks_memory() {
+    if !is_kept {
         call.lack_memory();
     }
+    call.lack_memory_of(words);
     call.holds(words.fault().is_empty(), "there is no such event");
 }
 

@@ -112,8 +112,9 @@ impl Scripts {
     fn play(&mut self, call: &mut Call<'_>) {
         self.scripts = self.scripts.saturating_add(1);
         let (mut settings, mut calls) = (String::new(call.alloc()), String::new(call.alloc()));
-        let is_written = self.write(&mut settings, &mut calls).is_ok();
-        call.holds(is_written, "out of memory");
+        if self.write(&mut settings, &mut calls).is_err() {
+            call.lack_memory();
+        }
         let mut words = Call::new(call.alloc());
         words.take(settings.as_str());
         let counts = match words.word() {
@@ -188,7 +189,7 @@ fn play_one<S: Ends>(call: &mut Call<'_>, words: &mut Call<'_>, calls: &str) -> 
     match Lawful::<S>::begin(words, 0) {
         Some(mut ends) => play_with(call, &mut ends, calls),
         None => {
-            call.fail("the settings are refused");
+            call.lack_memory();
             Counts::NONE
         }
     }
@@ -212,6 +213,7 @@ fn play_with<S: Ends>(call: &mut Call<'_>, ends: &mut Lawful<S>, calls: &str) ->
         acknowledge(ends, acks, &mut inner);
     }
     make_call(ends, "to-encoder all", &mut inner);
+    call.lack_memory_of(&inner);
     call.holds(
         ends.is_at_rest(),
         "a section is not acknowledged, or an end waits",

@@ -70,6 +70,11 @@ impl<'a> Call<'a> {
         self.lacks_memory = true;
     }
 
+    /// Notes that a part of another call was refused memory, if one was.
+    pub fn lack_memory_of(&mut self, other: &Call<'_>) {
+        self.lacks_memory |= other.lacks_memory;
+    }
+
     /// Notes that the call does not hold.
     pub fn fail(&mut self, why: &'static str) {
         if self.fault.is_empty() {

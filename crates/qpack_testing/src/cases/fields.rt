@@ -81,6 +81,13 @@ impl<'a> Call<'a> {
         }
     }
 
+    /// Returns the bytes of the words that are left, written as a name or a value is.
+    pub fn text(&mut self) -> Vec<u8> {
+        let text = self.rest();
+        self.set_rest("");
+        self.text_of(text)
+    }
+
     /// Returns the bytes of a name or of a value.
     fn text_of(&mut self, text: &str) -> Vec<u8> {
         match text.strip_prefix("0x") {

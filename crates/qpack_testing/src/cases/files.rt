@@ -5,7 +5,8 @@ use crate::cases::run::Run;
 use crate::cases::subject::Kinds;
 use anyhow::{Context, Result, bail};
 use std::alloc::Global;
-use std::fs;
+use std::io::Read;
+use std::{fs, str};
 
 /// The size of pieces if a case names none: a stream comes whole.
 const WHOLE: &str = "1000000000";
@@ -31,6 +32,33 @@ pub fn answer_calls<K: Kinds>(rt: &HostRuntime, text: &str) -> Result<()> {
     run.keep_answers();
     print!(rt; "{}", run.printed)?;
     tell(rt, "asked", &run)
+}
+
+/// How many bytes of standard input are read at a time.
+const PIECE: usize = 4096;
+
+/// Reads what is left of standard input, and returns all of it. The beginning was read before. Each growth is tried twice, in
+/// case memory was refused: what was read can't be read again.
+pub fn read_calls(rt: &HostRuntime, begun: &str) -> Result<String> {
+    let mut calls = String::new(rt.alloc());
+    push_twice(&mut calls, begun)?;
+    let mut piece = [0; PIECE];
+    for _ in 0..usize::MAX {
+        let len = rt.reader().read(&mut piece)?;
+        if len == 0 {
+            break;
+        }
+        push_twice(&mut calls, str::from_utf8(piece.get(..len).unwrap_or(&[]))?)?;
+    }
+    Ok(calls)
+}
+
+/// Appends a text, a second time in case memory was refused.
+fn push_twice(calls: &mut String, text: &str) -> Result<()> {
+    if calls.push_str(text).is_err() {
+        calls.push_str(text)?;
+    }
+    Ok(())
 }
 
 /// Reads a file, a second time in case memory was refused.

@@ -66,9 +66,11 @@ impl<'a> Run<'a> {
         kind
     }
 
-    /// Keeps the answers of this run.
+    /// Keeps the answers of this run, a second time in case memory was refused.
     pub(crate) fn keep_answers(&mut self) {
-        let is_kept = self.printed.push_str(self.answers.as_str()).is_ok();
+        let answers = self.answers.as_str();
+        let is_kept = self.printed.push_str(answers).is_ok()
+            || self.printed.push_str(answers).is_ok();
         self.answers.clear();
         if !is_kept {
             self.fail("out of memory");
@@ -225,6 +227,9 @@ impl<'a> Run<'a> {
 
     /// Notes that a line does not hold, if the state was another one.
     fn expect_state(&mut self, state: Option<Vec<u8>>, line: &Line) {
+        if state.is_none() {
+            self.call.lack_memory();
+        }
         let is_same = state.is_some_and(|state| self.call.answer().as_bytes() == state.as_slice());
         if !is_same && !self.call.lacks_memory() {
             self.fail_at(line.number, "a call that ended changes the state");

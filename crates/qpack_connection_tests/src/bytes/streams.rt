@@ -1,6 +1,6 @@
 //! Streams of instructions: whole, truncated, and cut into pieces (RFC 9204, sections 4.3 and 4.4).
 
-use crate::calls::show_result;
+use crate::bytes::show_result;
 use qpack_base::coding::Cursor;
 use qpack_base::parse_error::ParseError;
 use qpack_testing::cases::Call;
@@ -46,6 +46,15 @@ fn read_all(call: &mut Call<'_>, bytes: &[u8], lines: &mut Vec<EncoderLine>) -> 
         }
     }
     cursor.position()
+}
+
+/// Appends the whole instructions at the front of an encoder stream, read one behind the other, and how many bytes they took.
+pub(crate) fn show_all(call: &mut Call<'_>, stream: &[u8]) {
+    let mut lines = Vec::new(call.alloc());
+    let taken = read_all(call, stream, &mut lines);
+    call.show_parts(&lines);
+    call.say_number(", ", taken);
+    call.say(" taken");
 }
 
 /// Requires that a stream in two pieces, the first of this many bytes, has the instructions of the whole.

@@ -2,8 +2,7 @@
 
 ghost use Rattle.std.specs.Prelude.{◌≤◌};
 
-use crate::calls::show_result;
-use crate::streams;
+use crate::bytes::{show_result, streams};
 use bstr::ByteSlice;
 use qpack_base::coding::{BufExt, Cursor};
 use qpack_base::prefix_string::HpackStringDecode;
@@ -31,6 +30,7 @@ pub(crate) fn make(word: &str, call: &mut Call<'_>) {
         "decoder" => streams::show_next::<DecoderLine>(call, bytes),
         "waits" => streams::show_waiting(call, bytes),
         "cuts" => streams::show_cuts(call, bytes),
+        "turns" => streams::show_all(call, bytes),
         "block" => show_result(call, &read_block(call.alloc(), bytes)),
         _ => show_line(call, word, &mut Cursor::new(bytes)),
     }

@@ -1,6 +1,6 @@
 //! What is written, to vectors that have room, that grow, and that can't.
 
-use crate::reading::read_size;
+use crate::bytes::reading::read_size;
 use linked_list_allocator::LocalHeap;
 use qpack_base::coding::{BufMutExt, Cursor, NoMemory};
 use qpack_base::prefix_string::{Error, HpackStringEncode};
@@ -99,8 +99,7 @@ fn write_or_leave<'a>(
 
 /// Appends the payload of the text that is left.
 pub(crate) fn show_payload(call: &mut Call<'_>) {
-    let text = call.copy(call.rest().as_bytes());
-    call.set_rest("");
+    let text = call.text();
     match text.hpack_encode() {
         Ok(payload) => call.show_bytes(&payload),
         Err(_) => call.lack_memory(),
@@ -137,7 +136,7 @@ fn write_item<'a, A: Allocator>(
 }
 
 /// Reads a number that a byte has.
-fn read_byte(call: &mut Call<'_>) -> u8 {
+pub(crate) fn read_byte(call: &mut Call<'_>) -> u8 {
     let byte = call.word().parse::<u8>();
     call.holds(byte.is_ok(), "a word is no byte");
     byte.unwrap_or(0)
@@ -159,7 +158,8 @@ fn write_integer<A: Allocator>(call: &mut Call<'_>, out: &mut Vec<u8, A>) -> Res
 fn write_string<A: Allocator>(call: &mut Call<'_>, out: &mut Vec<u8, A>) -> Result<(), Error> {
     let size = read_size(call, 2);
     let flags = read_byte(call);
-    prefix_string::encode(size, flags, call.rest().as_bytes(), out)
+    let text = call.text();
+    prefix_string::encode(size, flags, &text, out)
 }
 
 /// Reads a string with a prefix of a size, and writes its text.

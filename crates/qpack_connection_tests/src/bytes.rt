@@ -1,15 +1,23 @@
-//! The calls of cases. None keeps anything for the next.
+//! The bytes of QPACK: integers, strings, header fields, lines, prefixes and instructions. Cases hold what no clause of
+//! `qpack_base` and `qpack_wire` says: values from outside, success with ample memory, what a refused growth leaves, and
+//! printed texts. No call keeps anything for the next.
 
-use crate::{fields, reading, writing};
+mod fields;
+mod reading;
+mod streams;
+mod writing;
+
 use qpack_base::parse_error::ParseError;
 use qpack_base::prefix_string::{BitWindow, Error, HuffmanEncodingError};
 use qpack_base::static_::StaticTable;
 use qpack_testing::cases::{Call, Subject};
+use qpack_wire::block::HeaderBlockField;
+use qpack_wire::stream::{DecoderInstruction, EncoderInstruction};
 use std::fmt::{Debug, Display};
 
 /// Calls.
 #[derive(Drop)]
-pub(crate) struct Calls;
+pub(crate) struct Bytes;
 
 /// Returns whether an answer has the name of an error of refused memory, or the text of std's. What `fills` answers is
 /// another text.
@@ -17,9 +25,9 @@ fn is_refusal(answer: &str) -> bool {
     answer.contains("Memory") || answer.contains("Out of memory")
 }
 
-impl Subject for Calls {
-    fn begin(_call: &mut Call<'_>, _size: usize) -> Option<Calls> {
-        Some(Calls)
+impl Subject for Bytes {
+    fn begin(_call: &mut Call<'_>, _size: usize) -> Option<Bytes> {
+        Some(Bytes)
     }
 
     fn make(&mut self, word: &str, call: &mut Call<'_>) {
@@ -45,6 +53,7 @@ fn make(word: &str, call: &mut Call<'_>) {
             show_result(call, &StaticTable::get(index));
         }
         "compares" | "alters" | "finds" | "changes" | "shows" => fields::make(word, call),
+        "forms" => show_forms(call),
         "windows" => show_windows(call),
         "unreturned" => show_unreturned(call),
         _ => reading::make(word, call),
@@ -63,6 +72,16 @@ pub(crate) fn show_result<T: Debug, E: Debug + Display>(
         Ok(value) => call.show_parts(value),
         Err(error) => call.show_error(error),
     }
+}
+
+/// Appends the forms of a line, of an encoder instruction and of a decoder instruction that a byte begins.
+fn show_forms(call: &mut Call<'_>) {
+    let byte = writing::read_byte(call);
+    call.show_parts(&HeaderBlockField::decode(byte));
+    call.say(", ");
+    call.show_parts(&EncoderInstruction::decode(byte));
+    call.say(", ");
+    call.show_parts(&DecoderInstruction::decode(byte));
 }
 
 /// Appends whether the first window is the default one, where it moved, and the rest of the byte there.
