@@ -91,10 +91,13 @@ def read_questions(share=1):
     import foretold  # pylint: disable=import-outside-toplevel # each of these imports this module
     import recorded  # pylint: disable=import-outside-toplevel
     import short_lists  # pylint: disable=import-outside-toplevel
+    import scripts  # pylint: disable=import-outside-toplevel
     import tables  # pylint: disable=import-outside-toplevel
 
-    questions = [*foretold.read_questions(), *recorded.read_questions(share)]
-    return [*questions, *short_lists.read_questions(share), *tables.read_questions(share)]
+    return [
+        *foretold.read_questions(),
+        *(it for module in (recorded, short_lists, tables, scripts) for it in module.read_questions(share)),
+    ]
 
 
 def answers_to(question, said):

@@ -1,4 +1,4 @@
-//! The words of errors, each beside those that its own `Display` prints: `stdout` has the same on both sides.
+//! The words of errors, each beside those that its own `Display` prints: an answer has the same on both sides.
 
 use h3_qpack::coding::NoMemory;
 use h3_qpack::dynamic::Error as TableError;
@@ -8,11 +8,12 @@ use h3_qpack::prefix_string::{
 };
 use h3_qpack::vas::Error as AddressError;
 use h3_qpack::{DecoderError, EncoderError};
+use qpack_testing::cases::{Call, Subject};
 use qpk::error_words::{DecoderWords, EncoderWords, MEMORY, RecordingWords};
 use qpk::text;
 use qpk_qif::lists::ListFault;
 use qpk_qif::session;
-use std::io;
+use std::fmt::Display;
 
 const WINDOW: BitWindow = BitWindow {
     byte: 3,
@@ -88,54 +89,82 @@ const TEXTS: [text::Fault; 5] = [
     text::Fault::Limit,
 ];
 
-/// Prints the words of all errors.
-pub(crate) fn print_errors(rt: &HostRuntime) -> io::Result<()> {
-    for e in DECODERS {
-        print_of_decoder(rt, &e)?;
+/// The words of errors. There are no settings.
+#[derive(Drop)]
+pub(crate) struct Words;
+
+impl Subject for Words {
+    fn begin(_call: &mut Call<'_>, _size: usize) -> Option<Words> {
+        Some(Words)
     }
-    for e in ENCODERS {
-        print_of_encoder(rt, &e)?;
+
+    /// A call is the kind of an error, and its place.
+    fn make(&mut self, word: &str, call: &mut Call<'_>) {
+        let place = call.count();
+        match word {
+            "decoder" => show_of_decoder(call, DECODERS.get(place)),
+            "encoder" => show_of_encoder(call, ENCODERS.get(place)),
+            "string" => show_of_string(call, STRINGS.get(place)),
+            "table" => show_of_table(call, TABLES.get(place)),
+            "recording" => show_of_recording(call, RECORDINGS.get(place)),
+            _ => show_other(word, place, call),
+        }
     }
-    print_strings(rt)?;
-    print_tables(rt)?;
-    print_of_texts(rt)
 }
 
-/// Prints the words of a decoder's error, and its own.
-fn print_of_decoder(rt: &HostRuntime, e: &DecoderError) -> io::Result<()> {
-    println!(rt; "{} = {e}", DecoderWords(e))
+/// Appends words, and what an error is printed as.
+fn show_both<W: Display, E: Display>(call: &mut Call<'_>, words: &W, error: &E) {
+    call.show(words);
+    call.say(" = ");
+    call.show(error);
 }
 
-/// Prints the words of an encoder's error, and its own.
-fn print_of_encoder(rt: &HostRuntime, e: &EncoderError) -> io::Result<()> {
-    println!(rt; "{} = {e}", EncoderWords(e))
+/// Appends the words of a decoder's error.
+fn show_of_decoder(call: &mut Call<'_>, error: Option<&DecoderError>) {
+    match error {
+        Some(error) => show_both(call, &DecoderWords(error), error),
+        None => call.fail("there is no such error"),
+    }
 }
 
-/// Prints the words of a string's errors, of a decoder and of an encoder.
-fn print_strings(rt: &HostRuntime) -> io::Result<()> {
-    for e in STRINGS {
-        print_of_decoder(rt, &DecoderError::InvalidString(e))?;
-        print_of_encoder(rt, &EncoderError::InvalidString(e))?;
+/// Appends the words of an encoder's error.
+fn show_of_encoder(call: &mut Call<'_>, error: Option<&EncoderError>) {
+    match error {
+        Some(error) => show_both(call, &EncoderWords(error), error),
+        None => call.fail("there is no such error"),
     }
-    Ok(())
 }
 
-/// Prints the words of a table's errors, of a decoder and of an encoder.
-fn print_tables(rt: &HostRuntime) -> io::Result<()> {
-    for e in TABLES {
-        print_of_decoder(rt, &DecoderError::DynamicTable(e))?;
-        print_of_encoder(rt, &EncoderError::Insertion(e))?;
-    }
-    Ok(())
+/// Appends the words of an error of a string, by a decoder and by an encoder.
+fn show_of_string(call: &mut Call<'_>, error: Option<&StringError>) {
+    let error = error.copied().unwrap_or(StringError::Memory);
+    show_of_decoder(call, Some(&DecoderError::InvalidString(error)));
+    call.say("; ");
+    show_of_encoder(call, Some(&EncoderError::InvalidString(error)));
 }
 
-/// Prints the words of recordings, of texts, of lists and of memory.
-fn print_of_texts(rt: &HostRuntime) -> io::Result<()> {
-    for e in RECORDINGS {
-        println!(rt; "{} = {e}", RecordingWords(&e))?;
+/// Appends the words of an error of a table, by a decoder and by an encoder.
+fn show_of_table(call: &mut Call<'_>, error: Option<&TableError>) {
+    let error = error.copied().unwrap_or(TableError::Memory);
+    show_of_decoder(call, Some(&DecoderError::DynamicTable(error)));
+    call.say("; ");
+    show_of_encoder(call, Some(&EncoderError::Insertion(error)));
+}
+
+/// Appends the words of a fault of a recording.
+fn show_of_recording(call: &mut Call<'_>, fault: Option<&session::Fault>) {
+    match fault {
+        Some(fault) => show_both(call, &RecordingWords(fault), fault),
+        None => call.fail("there is no such fault"),
     }
-    for e in TEXTS {
-        println!(rt; "{e}")?;
+}
+
+/// Appends the words of a fault of a text, of a list, or of memory.
+fn show_other(word: &str, place: usize, call: &mut Call<'_>) {
+    match (word, TEXTS.get(place)) {
+        ("text", Some(fault)) => call.show(fault),
+        ("list", _) => call.show(&ListFault::NoTab(place)),
+        ("memory", _) => show_both(call, &MEMORY, &NoMemory),
+        _ => call.fail("there are no such words"),
     }
-    println!(rt; "{}\n{MEMORY} = {NoMemory}", ListFault::NoTab(3))
 }

@@ -23,22 +23,22 @@ pub(crate) struct Rest {
 
 /// How many sections were decoded, how many of them required an insertion, and how many decodes had to wait.
 #[derive(Clone, Copy)]
-pub(crate) struct Counts {
-    pub(crate) decoded: usize,
-    pub(crate) dynamic: usize,
-    pub(crate) blocked: usize,
+struct Counts {
+    decoded: usize,
+    dynamic: usize,
+    blocked: usize,
 }
 
 impl Counts {
     /// Nothing was counted.
-    pub(crate) const NONE: Counts = Counts {
+    const NONE: Counts = Counts {
         decoded: 0,
         dynamic: 0,
         blocked: 0,
     };
 
     /// Adds other counts.
-    pub(crate) fn add(&mut self, other: Counts) {
+    fn add(&mut self, other: Counts) {
         self.decoded = self.decoded.saturating_add(other.decoded);
         self.dynamic = self.dynamic.saturating_add(other.dynamic);
         self.blocked = self.blocked.saturating_add(other.blocked);
@@ -151,10 +151,10 @@ impl<S: Ends> Subject for Lawful<S> {
                 let stream = self.streams.iter().find(|stream| stream.number == number);
                 call.show(&stream.map_or(0, |stream| stream.decoded));
             }
-            _ => {
-                self.ends.make(word, call);
-                call.holds(may_answer(word, call.answer()), "its answer is not lawful");
-            }
+            "settles" => self.settle(call),
+            "at-rest" => call.show(&self.is_at_rest()),
+            "counts" => self.show_counts(call),
+            _ => self.make_other(word, call),
         }
     }
 
@@ -191,21 +191,51 @@ fn may_refuse_capacity(answer: &str) -> bool {
 }
 
 impl<S: Ends> Lawful<S> {
-    /// What was counted.
-    pub(crate) fn counts(&self) -> Counts {
-        self.counts
+    /// Makes a call that is no encode, decode or cancellation.
+    fn make_other(&mut self, word: &str, call: &mut Call<'_>) {
+        self.ends.make(word, call);
+        call.holds(may_answer(word, call.answer()), "its answer is not lawful");
+    }
+
+    /// Appends what was counted.
+    fn show_counts(&self, call: &mut Call<'_>) {
+        call.show(&self.counts.decoded);
+        call.say_number(" decoded, ", self.counts.dynamic);
+        call.say_number(" with insertions, ", self.counts.blocked);
+        call.say(" blocked");
+    }
+
+    /// Decodes the sections of a stream that are left, and acknowledges them.
+    fn settle(&mut self, call: &mut Call<'_>) {
+        let (words, number) = (call.rest(), call.first_number());
+        for _ in 0..MOST_SECTIONS {
+            if self.has_next(number) {
+                begin_again(call, words);
+                self.decode(call);
+            }
+        }
+        call.holds(!self.has_next(number), "a section is not decoded");
+        for _ in 0..MOST_SECTIONS {
+            begin_again(call, words);
+            self.make_other("acks", call);
+            if call.answer().starts_with("skipped") {
+                break;
+            }
+        }
+        call.clear();
+        call.say("settled");
     }
 
     /// Returns whether all is at rest: no end failed or waits for bytes, and each section is acknowledged, unless a stream
     /// was cancelled.
-    pub(crate) fn is_at_rest(&self) -> bool {
+    fn is_at_rest(&self) -> bool {
         let rest = self.ends.rest();
         let is_cancelled = self.streams.iter().any(|stream| stream.is_cancelled);
         rest.is_sound && (is_cancelled || rest.unacknowledged == 0 && rest.blocked == 0)
     }
 
     /// Whether a stream has a section to decode, and is not cancelled.
-    pub(crate) fn has_next(&self, number: u64) -> bool {
+    fn has_next(&self, number: u64) -> bool {
         self.streams.iter().any(|stream| {
             stream.number == number && !stream.is_cancelled && stream.next().is_some()
         })
@@ -267,6 +297,15 @@ impl<S: Ends> Lawful<S> {
         let is_lawful = stream.is_some_and(|stream| stream.note_cancel(call.answer()));
         call.holds(is_lawful, "its answer is not lawful");
     }
+}
+
+/// More sections than a stream has in a script.
+const MOST_SECTIONS: usize = 60;
+
+/// Has a call be one of these words, with no answer.
+fn begin_again<'a>(call: &mut Call<'a>, words: &'a str) {
+    call.clear();
+    call.set_rest(words);
 }
 
 /// Returns the fields of an encode as a decode prints them. Leaves the words.

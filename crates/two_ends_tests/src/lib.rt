@@ -3,9 +3,7 @@
 
 mod connection;
 mod lawful;
-mod round;
 mod runs;
-mod scripts;
 mod session;
 
 use anyhow::Result;
@@ -13,17 +11,15 @@ use connection::Connection;
 use lawful::Lawful;
 use qpack_testing::cases::{Kinds, Run, answer_calls, hold, hold_files};
 use runs::Runs;
-use scripts::Scripts;
 use session::Session;
 
 /// The files of cases.
-const FILES: [&str; 6] = [
+const FILES: [&str; 5] = [
     "sessions.txt",
     "many_streams.txt",
     "two_ends.txt",
     "refused.txt",
     "runs.txt",
-    "scripts.txt",
 ];
 
 /// What the cases call.
@@ -34,7 +30,6 @@ impl Kinds for TwoEnds {
         match kind {
             "session" => hold::<Lawful<Session>>(run),
             "connection" => hold::<Lawful<Connection>>(run),
-            "scripts" => hold::<Scripts>(run),
             "runs" => hold::<Runs>(run),
             _ => run.fail("there is no such kind"),
         }
