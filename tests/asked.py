@@ -102,8 +102,12 @@ def read_questions(share=1):
 
 def answers_to(question, said):
     """Returns the answers to a question, of all that rt try printed: a line each, and then a line that counts the calls."""
-    found = re.search(rf"^== {re.escape(question.name)}\n(.*?)^asked: .* calls$", said, re.M | re.S)
-    return found[1].split("\n")[:-1] if found else []
+    found = re.search(rf"^== {re.escape(question.name)}\n", said, re.M)
+    if not found:
+        return []
+    answers = said[found.end() - 1 :].partition("\n== ")[0][1:]
+    counted = re.search(r"^asked: .* calls$", answers, re.M)
+    return answers[: counted.start()].split("\n")[:-1] if counted else []
 
 
 def compare_parts(questions, said):

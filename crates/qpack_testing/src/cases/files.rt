@@ -3,7 +3,7 @@
 use crate::cases::lines::{Line, read_lines};
 use crate::cases::run::Run;
 use crate::cases::subject::Kinds;
-use anyhow::{Context, Result, bail};
+use anyhow::{Result, bail};
 use std::alloc::Global;
 use std::io::Read;
 use std::{fs, str};
@@ -11,27 +11,50 @@ use std::{fs, str};
 /// The size of pieces if a case names none: a stream comes whole.
 const WHOLE: &str = "1000000000";
 
-/// Makes all calls of the files' cases, and prints a line for each file. Fails at the first file with a case that
-/// does not hold.
+/// Makes all calls of the files' cases, and prints a line for each file. Fails if a case does not hold.
 pub fn hold_files<K: Kinds>(rt: &HostRuntime, files: &[&str]) -> Result<()> {
+    let mut is_held = true;
     for file in files {
-        let text = read_file(rt, file)?;
-        let lines = read_twice(rt.alloc(), text.as_str()).context("a file's lines")?;
-        let mut run = Run::new(rt.alloc(), false);
-        hold_cases::<K>(&mut run, &lines);
-        tell(rt, file, &run)?;
+        is_held &= hold_file::<K>(rt, file);
     }
-    Ok(())
+    end(is_held)
 }
 
 /// Makes the calls of a text, and prints each answer. Fails at a call that does not hold, whatever its answer.
 pub fn answer_calls<K: Kinds>(rt: &HostRuntime, text: &str) -> Result<()> {
-    let lines = read_twice(rt.alloc(), text).context("the calls")?;
-    let mut run = Run::new(rt.alloc(), true);
-    hold_cases::<K>(&mut run, &lines);
+    end(hold_text::<K>(rt, "asked", text, true))
+}
+
+/// Fails unless all was held.
+fn end(is_held: bool) -> Result<()> {
+    if !is_held {
+        bail!("a case does not hold, or a file's lines are not read");
+    }
+    Ok(())
+}
+
+/// Makes all calls of a file's cases. Returns whether they hold.
+fn hold_file<K: Kinds>(rt: &HostRuntime, file: &str) -> bool {
+    match read_file(rt, file) {
+        Some(text) => hold_text::<K>(rt, file, text.as_str(), false),
+        None => false,
+    }
+}
+
+/// Makes all calls of a text's cases. Returns whether they hold.
+fn hold_text<K: Kinds>(rt: &HostRuntime, name: &str, text: &str, is_asked: bool) -> bool {
+    match read_twice(rt.alloc(), text) {
+        Some(lines) => hold_lines::<K>(rt, name, &lines, is_asked),
+        None => false,
+    }
+}
+
+/// Makes all calls of the cases of lines, and prints the answers that are asked for. Returns whether the cases hold.
+fn hold_lines<K: Kinds>(rt: &HostRuntime, name: &str, lines: &[Line], is_asked: bool) -> bool {
+    let mut run = Run::new(rt.alloc(), is_asked);
+    hold_cases::<K>(&mut run, lines);
     run.keep_answers();
-    print!(rt; "{}", run.printed)?;
-    tell(rt, "asked", &run)
+    tell(rt, name, &run)
 }
 
 /// How many bytes of standard input are read at a time.
@@ -41,32 +64,43 @@ const PIECE: usize = 4096;
 /// case memory was refused: what was read can't be read again.
 pub fn read_calls(rt: &HostRuntime, begun: &str) -> Result<String> {
     let mut calls = String::new(rt.alloc());
-    push_twice(&mut calls, begun)?;
+    let mut is_whole = push_twice(&mut calls, begun);
     let mut piece = [0; PIECE];
     for _ in 0..usize::MAX {
-        let len = rt.reader().read(&mut piece)?;
-        if len == 0 {
-            break;
+        match rt.reader().read(&mut piece) {
+            Ok(0) => break,
+            Ok(len) => is_whole &= push_piece(&mut calls, piece.get(..len).unwrap_or(&[])),
+            Err(_) => {
+                is_whole = false;
+                break;
+            }
         }
-        push_twice(&mut calls, str::from_utf8(piece.get(..len).unwrap_or(&[]))?)?;
+    }
+    if !is_whole {
+        bail!("the calls are not read whole");
     }
     Ok(calls)
 }
 
-/// Appends a text, a second time in case memory was refused.
-fn push_twice(calls: &mut String, text: &str) -> Result<()> {
-    if calls.push_str(text).is_err() {
-        calls.push_str(text)?;
+/// Appends bytes that are a text. Returns whether they are, and there was memory.
+fn push_piece(calls: &mut String, piece: &[u8]) -> bool {
+    match str::from_utf8(piece) {
+        Ok(text) => push_twice(calls, text),
+        Err(_) => false,
     }
-    Ok(())
+}
+
+/// Appends a text, a second time in case memory was refused. Returns whether there was memory.
+fn push_twice(calls: &mut String, text: &str) -> bool {
+    calls.push_str(text).is_ok() || calls.push_str(text).is_ok()
 }
 
 /// Reads a file, a second time in case memory was refused.
-fn read_file(rt: &HostRuntime, file: &str) -> Result<String> {
-    if let Ok(text) = fs::read_to_string(rt, file) {
-        return Ok(text);
+fn read_file(rt: &HostRuntime, file: &str) -> Option<String> {
+    match fs::read_to_string(rt, file) {
+        Ok(text) => Some(text),
+        Err(_) => fs::read_to_string(rt, file).ok(),
     }
-    Ok(fs::read_to_string(rt, file)?)
 }
 
 /// Reads the lines of a text, a second time in case memory was refused.
@@ -77,14 +111,18 @@ fn read_twice(alloc: Global, text: &str) -> Option<Vec<Line>> {
     }
 }
 
-/// Prints how many cases held, or which line does not.
-fn tell(rt: &HostRuntime, file: &str, run: &Run<'_>) -> Result<()> {
-    if run.has_failed() {
-        println!(rt; "{file}, line {}: {}", run.wrong_line, run.why)?;
-        bail!("a case does not hold");
-    }
-    println!(rt; "{file}: {} cases, {} calls", run.cases, run.calls)?;
-    Ok(())
+/// Prints the answers of a run, and how many cases held or which line does not. Returns whether all held, and all is printed.
+fn tell(rt: &HostRuntime, name: &str, run: &Run<'_>) -> bool {
+    let is_held = !run.has_failed();
+    let is_told = if is_held {
+        println!(rt;
+            "{}{name}: {} cases, {} calls",
+            run.printed, run.cases, run.calls
+        )
+    } else {
+        println!(rt; "{name}, line {}: {}", run.wrong_line, run.why)
+    };
+    is_held && is_told.is_ok()
 }
 
 /// Returns the place of the first line from one on that begins so, or the end of the lines.
