@@ -44,11 +44,19 @@ impl Output {
             is_interrupted: false,
         }
     }
+
+    /// Makes room for more bytes, a second time in case memory was refused: an output that takes all has no need of it.
+    fn make_room(&mut self, more: usize) {
+        if self.taken.reserve(more).is_err() {
+            let _ = self.taken.reserve(more);
+        }
+    }
 }
 
 impl Write for Output {
     fn write(&mut self, buf: &[u8]) -> io::Result<usize> {
         if self.room == usize::MAX {
+            self.make_room(buf.len());
             return self.taken.write(buf);
         }
         self.is_interrupted = !self.is_interrupted;
@@ -61,6 +69,7 @@ impl Write for Output {
         let Some(first) = buf.first() else {
             return Ok(0);
         };
+        self.make_room(1);
         self.taken.push(*first)?;
         Ok(1)
     }
