@@ -11,6 +11,10 @@
 #define DECODER_BOUND (192 * 1024)
 #define PIECE_BOUND (112 * 1024)
 #define LEFT_BOUND (12 * 1024)
+/* On a decoder that has received nothing else: what an insertion takes that can't fit, all of whose bytes are in one piece;
+ * and one that fits, for each byte of the capacity. */
+#define REFUSED_BOUND (2 * 1024)
+#define FITTING_BOUND 3
 #define ENCODER_BOUND (144 * 1024)
 #define CANCELLED_BOUND (256 * 1024)
 
@@ -142,6 +146,41 @@ static void hold_piece(size_t len) {
   CHECK(!live && !blocks);
 }
 
+/* An insertion of a name and a value of these lengths, in one piece, at a capacity: it fits, or it is rejected and takes
+ * nothing for its texts. */
+static void hold_insertion(size_t capacity, const coding *c, size_t names, size_t values) {
+  bytes b = {NULL, 0, 0};
+  h3_qpack_decoder d;
+  bool fits = names + values + 32 <= capacity;
+  char what[96];
+  begin_case();
+  open_decoder(&d, capacity, BLOCKED, LIMIT);
+  put_insertion(&b, c, names, c, values);
+  h3_qpack_received r = h3_qpack_decoder_read_encoder(&d, b.at, b.len);
+  CHECK(r.status == (fits ? H3_QPACK_OK : H3_QPACK_ENCODER_STREAM_ERROR));
+  snprintf(what, sizeof what, "bytes of an insertion in one piece at a capacity of %zu, %s", capacity, c->label);
+  check_bound(what, b.len, REFUSED_BOUND + (fits ? FITTING_BOUND * capacity : 0));
+  h3_qpack_decoder_del(&d);
+  drop(&b);
+  CHECK(!live && !blocks);
+}
+
+static void hold_insertions(void) {
+  const coding *codings[] = {&plain, &shortest, &longest};
+  size_t capacities[] = {CAPACITY, 65536}, lengths[] = {1, 4, 16, 256};
+  for (size_t i = 0; i < 6; i++) {
+    size_t capacity = capacities[i / 3], longest_texts = capacity - 32;
+    const coding *c = codings[i % 3];
+    hold_insertion(capacity, c, longest_texts, 0);
+    hold_insertion(capacity, c, longest_texts / 2, longest_texts / 2);
+    hold_insertion(capacity, c, longest_texts / 2, longest_texts / 2 + 1);
+    for (size_t k = 0; k < 4; k++) {
+      hold_insertion(capacity, c, lengths[k] * capacity, 1);
+      hold_insertion(capacity, c, 1, lengths[k] * capacity);
+    }
+  }
+}
+
 /* ---- An encoder */
 
 /* Encodes sections that reference as much of the table as they can, of which none is acknowledged. */
@@ -215,6 +254,7 @@ int main(void) {
   live = blocks = 0; /* the start of a program takes blocks too, on Windows */
   hold_decoder();
   for (size_t len = 1024; len <= 1 << 22; len *= 16) hold_piece(len);
+  hold_insertions();
   hold_encoder(100, ENCODER_BOUND);
   hold_encoder(1000, 10 * ENCODER_BOUND);
   cancel_all();

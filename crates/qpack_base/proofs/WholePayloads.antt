@@ -1,14 +1,15 @@
 -- Which payloads memory is asked for: those that are not empty.
-use Rattle.std.proofs.Common.{◌≡◌, ◌≢◌, ℕ, ◌%◌, Bool, true, false, cond}
+use Rattle.std.proofs.Common.{◌≡◌, ◌≢◌, ℕ, ◌%◌, ◌/◌, Bool, true, false, cond}
 use Rattle.std.proofs.Common.{List, [], ◌∷◌, length, Result, Ok, Err, rules, arith, refl, sym, ap, subst, ◌∙◌, inl, inr}
 use Rattle.std.proofs.Common.{◌≤◌, ◌++◌, append-nil}
 use Rattle.std.proofs.lemmas.Bool.{eqb-true, le-leb}
 use Rattle.std.specs.Prelude.{◌==◌}
 use Rattle.std.specs.Global.{Vec}
+use Rattle.std.specs.declared.vec.Vec.{Vec as AnyVec}
 use Rattle.qpack_spec.specs.Bytes.{Begins}
 use Rattle.qpack_spec.specs.Huffman.{HuffmanFault, bits_of_bytes, ones, PayloadMeans, PayloadMeansNothing, text_of_bits}
 use Rattle.qpack_spec.specs.Text.{StringFault, EndsEarly, LengthOverflows, BadHuffman, HoldsPayload}
-use Rattle.qpack_spec.specs.Text.{SpellsString, RefusesString, string_at}
+use Rattle.qpack_spec.specs.Text.{SpellsString, RefusesString, string_at, value_before}
 use Rattle.qpack_spec.proofs.Bits.{bytes_bits, bytes_length, ones_length}
 use Rattle.qpack_spec.proofs.Payloads.{text_means, text_again}
 use Rattle.qpack_spec.proofs.PayloadFaults.{fault_again}
@@ -17,7 +18,7 @@ use Rattle.qpack_base.specs.declared.prefix_string.Error.{Error}
 use Rattle.qpack_base.specs.declared.prefix_string.Error.TheVariants.{Memory}
 use Rattle.qpack_base.specs.Cursor.{CursorView}
 use Rattle.qpack_base.specs.Writes.{kept_within}
-use Rattle.qpack_base.specs.Strings.{IsWhole, TakesMemory, ReadsString, meaning}
+use Rattle.qpack_base.specs.Strings.{IsWhole, TakesMemory, ReadsString, AppendsTextWithin, meaning}
 
 -- no bits mean the empty text
 text_of_no_bits : text_of_bits (bits_of_bytes []) ≡ Ok []
@@ -134,3 +135,18 @@ pub string_memory : (n : ℕ) (old new : CursorView) (r : Result (Vec ℕ) Error
     → r ≡ Err Memory → Begins (HoldsPayload n) old.rest
 string_memory n old new r h e =
     whole_payload n old.rest (subst (λ (q : Result (Vec ℕ) Error). ReadsString old new q (string_at n old.rest)) e h)
+
+whole_before : (flags : ℕ) (rest : List ℕ) (read : Result (List ℕ) HuffmanFault) → TakesMemory read
+    → IsWhole (value_before flags rest read)
+whole_before flags rest (Ok value) h = h
+whole_before flags rest (Err fault) h = tt
+
+-- the same of a reader that keeps no longer text
+pub string_within_memory : {A : Type 0} (most n : ℕ) (bytes : List ℕ) (flags : ℕ) (rest payload : List ℕ)
+    (old new : AnyVec ℕ A) (r : Result ℕ Error)
+    → string_at n bytes ≡ value_before (flags / 2) rest (meaning flags payload)
+    → AppendsTextWithin most old new r (meaning flags payload) → r ≡ Err Memory → Begins (HoldsPayload n) bytes
+string_within_memory most n bytes flags rest payload old new r is h e =
+    let takes = (subst (λ (q : Result ℕ Error). AppendsTextWithin most old new q (meaning flags payload)) e h).0 in
+    whole_payload n bytes
+    (subst IsWhole (sym is) (whole_before (flags / 2) rest (meaning flags payload) takes))

@@ -178,7 +178,9 @@ pub fn decode_within<A: Allocator>(
     requires greatest { size ≤ 8 }
     // The value that is read is appended if it is no longer, and the cursor moves past exactly its string.
     ensures exact { AppendsStringWithin most buf.old buf.new text.old text.new result (string_at size buf.old.rest) }
-    // Memory is refused only if there was less room than any payload of the bytes that are left may need,
+    // Memory is refused only for a whole payload,
+    ensures whole { result ≡ Err NoRoom → Begins (HoldsPayload size) buf.old.rest }
+    // only if there was less room than any payload of the bytes that are left may need,
     ensures memory { result ≡ Err NoRoom →
         vec_capacity text.old < vec_len text.old + (length buf.old.rest / 5 * 8 + 6) }
     // only if there was less room than for `most` more bytes,

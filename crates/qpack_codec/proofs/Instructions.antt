@@ -1,15 +1,19 @@
 -- Instructions that the decoder takes, one by one.
-use Rattle.std.proofs.Common.{◌≡◌, ℕ, List, ◌++◌, Bool, true, false, if◌then◌else◌, Option}
-use Rattle.std.proofs.Common.{Some, None, Result, Ok, Err}
+use Rattle.std.proofs.Common.{◌≡◌, ℕ, ◌+◌, ◌<◌, List, ◌++◌, length, Bool, true, false, if◌then◌else◌, nat_eq, nat_le}
+use Rattle.std.proofs.Common.{Option}
+use Rattle.std.proofs.Common.{Some, None, Result, Ok, Err, arith}
 use Rattle.std.proofs.Common.{refl, sym, ap, subst, ◌∙◌, inl, inr}
-use Rattle.std.specs.Prelude.{⊤, IsSome}
+use Rattle.std.proofs.lemmas.Bool.{lt-leb, eq-eqb, ne_eqb}
+use Rattle.std.specs.Prelude.{⊤, IsSome, slice_get}
 use Rattle.qpack_spec.specs.Bytes.{Begins}
 use Rattle.qpack_spec.specs.Text.{LengthOverflows, BadHuffman}
+use Rattle.qpack_spec.specs.Field.{Field, field_size}
 use Rattle.qpack_spec.specs.Form.{BadInteger, BadString, Truncates}
 use Rattle.qpack_spec.specs.Instruction.{EncoderInstruction, encoder_instruction_form, SpellsEncoderInstruction}
 use Rattle.qpack_spec.specs.Table as table
 use Rattle.qpack_spec.specs.Table.{apply_encoder_instruction}
-use Rattle.qpack_spec.specs.Window.{TableRefusal}
+use Rattle.qpack_spec.specs.StaticTable.{static_table}
+use Rattle.qpack_spec.specs.Window.{TableRefusal, DoesNotFit, relative_entry, with_value}
 use Rattle.qpack_base.specs.Cursor.{CursorView}
 use Rattle.qpack_base.specs.Integers.{integer_fault_of}
 use Rattle.qpack_base.specs.Payloads.{huffman_fault_of}
@@ -29,11 +33,14 @@ use Rattle.qpack_wire.specs.Alone.{KindFault, Unreadable, Foreign, is_cut_kind}
 use Rattle.qpack_wire.specs.Answers.{IsTruncated, fault_of}
 use Rattle.qpack_wire.specs.Memory.{AsksForMemory}
 use Rattle.qpack_wire.specs.StreamAnswers.{FailsWhole, FindsInstruction, DecodesInstruction, ReadsStream}
-use Rattle.qpack_wire.specs.StreamLines.{RefusesEncoderLine, encoder_instruction_of, encoder_instruction_at}
-use Rattle.qpack_wire.specs.declared.stream.encoder_stream.EncoderLine.{EncoderLine}
+use Rattle.qpack_wire.specs.StreamLines.{RefusesEncoderLine, encoder_instruction_at}
+use Rattle.qpack_wire.specs.Bounded.{IsLong, IsBounded, DecodesBounded}
+use Rattle.qpack_wire.specs.declared.stream.bounded.BoundedLine.{BoundedLine}
+use Rattle.qpack_wire.specs.declared.stream.bounded.NameSource.{NameSource}
+use Rattle.qpack_wire.specs.declared.stream.bounded.NameSource.TheVariants.{Static, Dynamic, Literal}
 use Rattle.qpack_codec.specs.Errors.{decoder_error_of_parse, decoder_error_of_table}
 use Rattle.qpack_codec.specs.Receiving.{Applies, field_to_insert, refusal_of, is_passed, is_passed_for, Stops, no_memory}
-use Rattle.qpack_codec.specs.Receiving.{bad_bytes, bad_instruction}
+use Rattle.qpack_codec.specs.Receiving.{bad_bytes, bad_instruction, longest_texts, HasName, LacksName}
 use Rattle.qpack_codec.specs.declared.error.DecoderError.{DecoderError}
 use Rattle.qpack_codec.specs.declared.error.DecoderError.TheVariants.{Memory}
 
@@ -126,42 +133,117 @@ pub record StandsAt (bytes rest : List ℕ) (i : EncoderInstruction) : Type 0 wh
   pub cut : bytes ≡ encoding ++ rest
   pub spells : SpellsEncoderInstruction encoding i
 
-pub found_line : (old start new : CursorView) (o : Option EncoderLine) (line : EncoderLine) → start ≡ old
-    → o ≡ Some line
-    → FindsInstruction encoder_instruction_of SpellsEncoderInstruction start new (Ok o)
-    → StandsAt old.rest new.rest (encoder_instruction_of line)
-found_line old start new None line same is found = absurd cc
-found_line old start new (Some l) line same is found =
+-- what was kept of the instruction at the front
+pub record FoundLine (most : ℕ) (bytes rest : List ℕ) (line : BoundedLine) : Type 0 where
+  pub instruction : EncoderInstruction
+  pub kept : IsBounded most line instruction
+  pub at : StandsAt bytes rest instruction
+
+pub found_line : (most : ℕ) (old start new : CursorView) (o : Option BoundedLine) (line : BoundedLine) → start ≡ old
+    → o ≡ Some line → DecodesBounded most start new (Ok o) → FoundLine most old.rest new.rest line
+found_line most old start new None line same is d = absurd cc
+found_line most old start new (Some l) line same is d =
     let one : l ≡ line = some_is l line is in
+    let found = subst (λ (r : Result (Option EncoderInstruction) ParseError).
+    FindsInstruction (λ (i : EncoderInstruction). i) SpellsEncoderInstruction start new r) d.kept.2 d.decodes.found in
     record {
-      encoding = found.0;
-      cut = ap (λ (x : CursorView). x.rest) (sym same) ∙ found.2.0;
-      spells = subst (λ (x : EncoderLine). SpellsEncoderInstruction found.0 (encoder_instruction_of x)) one found.1;
+      instruction = d.kept.0;
+      kept = subst (λ (x : BoundedLine). IsBounded most x d.kept.0) one d.kept.1;
+      at = record {
+        encoding = found.0;
+        cut = ap (λ (x : CursorView). x.rest) (sym same) ∙ found.2.0;
+        spells = found.1;
+      };
     }
   where
-    some_is : (l m : EncoderLine) → Some l ≡ Some m → l ≡ m
+    some_is : (l m : BoundedLine) → Some l ≡ Some m → l ≡ m
     some_is l m e = cc
 
 -- the answer that no line was read
-abbrev refused_line : ParseError → Result (Option EncoderLine) ParseError
+abbrev refused_line : ParseError → Result (Option BoundedLine) ParseError
 refused_line e = Err e
 
-pub line_refused : (t : table.Table) (old start new : CursorView) (e : ParseError) → start ≡ old
-    → DecodesInstruction encoder_instruction_of SpellsEncoderInstruction RefusesEncoderLine start new (Err e)
+pub line_refused : (t : table.Table) (most : ℕ) (old start new : CursorView) (e : ParseError) → start ≡ old
+    → DecodesBounded most start new (Err e)
     → (refused_line e ≡ refused_line ParseMemory → AsksForMemory encoder_instruction_form start.rest)
-    → ReadsStream encoder_instruction_of start new (Err e) (encoder_instruction_at start.rest)
     → Stops t old.rest old.rest (decoder_error_of_parse e)
-line_refused t old start new e same decodes asks exact =
+line_refused t most old start new e same d asks =
+    let told = subst (λ (r : Result (Option EncoderInstruction) ParseError).
+    DecodesInstruction (λ (i : EncoderInstruction). i) SpellsEncoderInstruction RefusesEncoderLine start new r) d.kept
+    d.decodes in
+    let exact = subst (λ (r : Result (Option EncoderInstruction) ParseError).
+    ReadsStream (λ (i : EncoderInstruction). i) start new r (encoder_instruction_at start.rest)) d.kept d.exact in
     subst (λ (x : CursorView). Stops t x.rest x.rest (decoder_error_of_parse e)) same
     (stops_at_bytes t start.rest e (encoder_instruction_at start.rest) exact
-    (λ m. asks (ap refused_line m)) (λ fault whole told. (decodes.refused fault).0 whole told))
+    (λ m. asks (ap refused_line m)) (λ fault whole is. (told.refused fault).0 whole is))
 
-pub no_line : (old start new : CursorView) (o : Option EncoderLine) → start ≡ old → o ≡ None
-    → DecodesInstruction encoder_instruction_of SpellsEncoderInstruction RefusesEncoderLine start new (Ok o)
-    → Truncates encoder_instruction_form old.rest
-no_line old start new o same none decodes =
+pub no_line : (most : ℕ) (old start new : CursorView) (o : Option BoundedLine) → start ≡ old → o ≡ None
+    → DecodesBounded most start new (Ok o) → Truncates encoder_instruction_form old.rest
+no_line most old start new (Some l) same none d = absurd cc
+no_line most old start new None same none d =
     truncated_form old.rest (subst (λ (x : CursorView). IsTruncated SpellsEncoderInstruction RefusesEncoderLine x.rest)
-    same (decodes.truncated.0 (ap (λ (x : Option EncoderLine). Ok x) none)))
+    same (d.decodes.truncated.0 d.kept))
+
+-- ---- insertions that are too long
+
+-- an instruction that puts a field whose texts are longer than those of any field that fits
+record PutsLong (t : table.Table) (i : EncoderInstruction) : Type 0 where
+  pub field : Field
+  pub long : longest_texts t < length field.name + length field.value
+  pub is : apply_encoder_instruction t i ≡ table.put t field
+
+puts_long : (t : table.Table) (from : NameSource) (i : EncoderInstruction) → IsLong (longest_texts t) from i
+    → HasName t from → PutsLong t i
+unfolding apply_encoder_instruction
+puts_long t (Static index) i h named = go (slice_get static_table index) refl named
+  where
+    go : (o : Option Field) → slice_get static_table index ≡ o → IsSome o → PutsLong t i
+    go None is some = absurd cc
+    go (Some f) is some =
+        record {
+          field = with_value h.0 f;
+          long = let long = h.2 in omega (arith, long);
+          is = ap (apply_encoder_instruction t) h.1 ∙ rw (is) refl;
+        }
+puts_long t (Dynamic relative) i h named = go (relative_entry (table.window t) relative) refl named
+  where
+    go : (o : Option Field) → relative_entry (table.window t) relative ≡ o → IsSome o → PutsLong t i
+    go None is some = absurd cc
+    go (Some f) is some =
+        record {
+          field = with_value h.0 f;
+          long = let long = h.2 in omega (arith, long);
+          is = ap (apply_encoder_instruction t) h.1 ∙ rw (is) refl;
+        }
+puts_long t Literal i h named =
+    record { field = record { name = h.0; value = h.1 }; long = h.3; is = ap (apply_encoder_instruction t) h.2 }
+
+-- it is refused,
+pub long_refused : (t : table.Table) (from : NameSource) (i : EncoderInstruction) → IsLong (longest_texts t) from i
+    → HasName t from → (t.capacity ≡ 0 → ⊥) → apply_encoder_instruction t i ≡ Err DoesNotFit
+unfolding table.put
+long_refused t from i h named some =
+    let p = puts_long t from i h named in
+    let long = p.long in
+    let large : nat_le (field_size p.field) t.capacity ≡ false =
+    lt-leb (field_size p.field) t.capacity (omega (arith, long)) in
+    p.is ∙ rw (ne_eqb t.capacity 0 some, large) refl
+
+-- at capacity 0 passed over,
+pub long_passed : (t : table.Table) (from : NameSource) (i : EncoderInstruction) → IsLong (longest_texts t) from i
+    → HasName t from → t.capacity ≡ 0 → apply_encoder_instruction t i ≡ Ok t
+unfolding table.put
+long_passed t from i h named none =
+    let empty : nat_eq t.capacity 0 ≡ true = eq-eqb t.capacity 0 none in
+    (puts_long t from i h named).is ∙ rw (empty) refl
+
+-- and refused as any other where its name is not there
+pub long_lost : (t : table.Table) (from : NameSource) (i : EncoderInstruction) (e : DecoderError)
+    → IsLong (longest_texts t) from i → LacksName t from e → Applies (Err e) (apply_encoder_instruction t i) t t
+unfolding apply_encoder_instruction
+long_lost t (Static index) i e h lost = rw (lost.0, h.1, lost.1) (refl, refl)
+long_lost t (Dynamic relative) i e h lost = rw (lost.0, h.1, lost.1) (refl, refl)
+long_lost t Literal i e h lost = absurd lost
 
 -- where the cursor is left behind an instruction that was answered so
 pub left_behind : (passed : Bool) (r answer : Result ⊤ DecoderError) (more rest left : List ℕ) → passed ≡ is_passed r

@@ -20,6 +20,8 @@ use Rattle.qpack_base.specs.Refusals.{IsRefusedFor}
 use Rattle.qpack_table.specs.declared.dynamic.Error.TheVariants.{BadRelativeIndex, MaxTableSizeReached}
 use Rattle.qpack_table.specs.declared.dynamic.Error.TheVariants.{MaximumTableSizeTooLarge, UnknownStreamId}
 use Rattle.qpack_wire.specs.Memory.{AsksForMemory}
+use Rattle.qpack_wire.specs.declared.stream.bounded.NameSource.{NameSource}
+use Rattle.qpack_wire.specs.declared.stream.bounded.NameSource.TheVariants.{Static, Dynamic, Literal}
 use Rattle.qpack_codec.specs.Sections.{form_fault_of}
 use Rattle.qpack_codec.specs.declared.error.DecoderError.{DecoderError}
 use Rattle.qpack_codec.specs.declared.error.DecoderError.TheVariants.{DynamicTable, InvalidStaticIndex, Memory}
@@ -55,6 +57,23 @@ field_to_insert t (InsertDynamicName relative value) = option_map (λ f. with_va
 field_to_insert t (InsertLiteralName name value) = Some (record { name = name; value = value })
 field_to_insert t (Duplicate relative) = relative_entry (window t) relative
 field_to_insert t (SetCapacity capacity) = None
+
+-- how many bytes the name and the value of a field that fits have together at most (section 3.2.2)
+abbrev pub longest_texts : Table → ℕ
+longest_texts t = t.capacity - 32
+
+-- the name that an insertion references is there
+abbrev pub HasName : Table → NameSource → Type 0
+HasName t (Static index) = IsSome (slice_get static_table index)
+HasName t (Dynamic relative) = IsSome (relative_entry (window t) relative)
+HasName t Literal = Unit {0}
+
+-- it is not there, as this error says
+abbrev pub LacksName : Table → NameSource → DecoderError → Type 0
+LacksName t (Static index) e = (e ≡ InvalidStaticIndex index) × (slice_get static_table index ≡ None)
+LacksName t (Dynamic relative) e =
+    (e ≡ DynamicTable (BadRelativeIndex relative)) × (relative_entry (window t) relative ≡ None)
+LacksName t Literal e = ⊥
 
 -- the field that an instruction is to insert was found; or it is refused as the instruction is, or memory is refused
 abbrev pub FindsField : {S : Type 0} → (S → Field) → Table → EncoderInstruction → Result S DecoderError → Type 0

@@ -10,6 +10,7 @@ pub mod FiveForms
 pub mod StreamReaders
 pub mod InstructionForms
 pub mod StreamForms
+pub mod Bounded
 pub mod Waiting
 pub mod Cuttings
 pub mod NextLines

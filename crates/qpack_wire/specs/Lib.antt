@@ -7,6 +7,7 @@ pub mod LineLaws
 pub mod Instructions
 pub mod StreamAnswers
 pub mod StreamLines
+pub mod Bounded
 pub mod WireLaws
 pub mod StreamLineLaws
 pub mod Cuttings

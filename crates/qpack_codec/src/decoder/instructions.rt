@@ -1,23 +1,27 @@
 //! Encoder instructions, as a decoder takes them (RFC 9204, section 4.3).
 
-ghost use Rattle.std.specs.Prelude.{◌≡◌, ◌<◌, Err, IsSome, IsTrue, OnOk, OnErr};
-ghost use Rattle.qpack_spec.specs.Instruction.{Duplicate as DuplicateOf, written_decoder_instructions};
+ghost use Rattle.std.specs.Prelude.{◌≡◌, ◌<◌, Err, IfErr, IsSome, IsTrue, OnOk, OnErr};
+ghost use Rattle.qpack_spec.specs.Instruction.{Duplicate as DuplicateOf, EncoderInstruction};
+ghost use Rattle.qpack_spec.specs.Instruction.{written_decoder_instructions};
 ghost use Rattle.qpack_spec.specs.Table.{apply_encoder_instruction, put, with_capacity};
 ghost use Rattle.qpack_base.specs.Writes.{Writes};
+ghost use Rattle.qpack_wire.specs.Bounded.{IsBounded, IsLong};
 ghost use Rattle.qpack_wire.specs.Instructions.{encoder_instruction_of_insert_with_name_ref};
 ghost use Rattle.qpack_wire.specs.StreamLines.{encoder_instruction_of};
 ghost use Rattle.qpack_codec.specs.Receiving.{Applies, field_to_insert, FindsField, TakesNext, TakesInstructions};
-ghost use Rattle.qpack_codec.specs.Receiving.{is_passed, written_report};
+ghost use Rattle.qpack_codec.specs.Receiving.{is_passed, longest_texts, HasName, LacksName, written_report};
 ghost use Rattle.qpack_codec.specs.declared.error.DecoderError.TheVariants.{Memory};
 ghost use Rattle.qpack_codec.specs.declared.error.DecoderError.TheVariants.{DynamicTable as DynamicTableError};
 
 use crate::error::DecoderError;
 use qpack_base::coding::{Cursor, NoMemory};
+use qpack_base::field::ESTIMATED_OVERHEAD_BYTES;
+use qpack_base::static_::StaticTable;
 use qpack_base::stored_field::StoredField;
 use qpack_table::dynamic::{self, DynamicTable, EntryIndex};
 use qpack_wire::stream::{
-    Duplicate, DynamicTableSizeUpdate, EncoderLine, InsertCountIncrement, InsertWithNameRef,
-    InsertWithoutNameRef, next_line,
+    BoundedLine, Duplicate, DynamicTableSizeUpdate, EncoderLine, InsertCountIncrement,
+    InsertWithNameRef, InsertWithoutNameRef, NameSource,
 };
 use std::alloc::Allocator;
 
@@ -39,7 +43,7 @@ pub(super) fn take_instructions<I: EntryIndex, F: StoredField>(
 
 /// Applies the encoder instruction at the cursor, and moves past it (RFC 9204, section 4.3). Returns whether there was
 /// a whole one. On error the table is unchanged. The cursor moves past the instruction exactly if the table rejects
-/// what it asks for. The table may be one without an index.
+/// what it asks for. The table may be one without an index. A name or a value that can't fit takes no memory.
 pub fn take_instruction<I: EntryIndex, F: StoredField>(
     table: &mut DynamicTable<I, F>,
     buf: &mut Cursor,
@@ -48,10 +52,11 @@ pub fn take_instruction<I: EntryIndex, F: StoredField>(
     ensures total { buf.new.total ≡ buf.old.total }
 {
     let mut ahead = buf.fork();
-    let Some(line) = next_line::<EncoderLine>(table.allocator(), &mut ahead)? else {
+    let most = longest_texts(table);
+    let Some(line) = BoundedLine::decode(table.allocator(), most, &mut ahead)? else {
         return Ok(false);
     };
-    let answer = apply_encoder_line(table, line);
+    let answer = apply_bounded_line(table, line);
     if is_passed(&answer) {
         *buf = ahead;
     }
@@ -81,6 +86,68 @@ fn is_refused_by_table(e: &dynamic::Error) -> bool
             | dynamic::Error::MaximumTableSizeTooLarge
             | dynamic::Error::UnknownStreamId(_)
     )
+}
+
+/// Returns how many bytes the name and the value of a field that fits have together at most.
+fn longest_texts<I: EntryIndex, F: StoredField>(table: &DynamicTable<I, F>) -> usize
+    ensures { result ≡ longest_texts table.now }
+{
+    table
+        .max_mem_size()
+        .saturating_sub(ESTIMATED_OVERHEAD_BYTES)
+}
+
+/// Applies an instruction to the table. On error nothing changes.
+fn apply_bounded_line<I: EntryIndex, F: StoredField>(
+    table: &mut DynamicTable<I, F>,
+    line: BoundedLine,
+) -> Result<(), DecoderError>
+    ensures applies { (i : EncoderInstruction) → IsBounded (longest_texts table.old) line i
+        → Applies result (apply_encoder_instruction table.old i) table.old table.new }
+    ensures memory { (i : EncoderInstruction) → IsBounded (longest_texts table.old) line i
+        → result ≡ Err Memory → IsSome (field_to_insert table.old i) }
+{
+    match line {
+        BoundedLine::Whole(line) => apply_encoder_line(table, line),
+        BoundedLine::TooLong(source) => refuse_long_insertion(table, source),
+    }
+}
+
+/// Rejects an insertion whose texts are longer than those of any field that fits. At capacity 0, where nothing is
+/// inserted, passes over it.
+fn refuse_long_insertion<I: EntryIndex, F: StoredField>(
+    table: &DynamicTable<I, F>,
+    source: NameSource,
+) -> Result<(), DecoderError>
+    ensures applies { (i : EncoderInstruction) → IsLong (longest_texts table.now) source i
+        → Applies result (apply_encoder_instruction table.now i) table.now table.now }
+    ensures no_memory { result ≡ Err Memory → ⊥ }
+{
+    find_name(table, source)?;
+    if table.max_mem_size() == 0 {
+        return Ok(());
+    }
+    Err(DecoderError::DynamicTable(dynamic::Error::MaxTableSizeReached))
+}
+
+/// Looks for the name that an insertion references. Takes no memory.
+fn find_name<I: EntryIndex, F: StoredField>(
+    table: &DynamicTable<I, F>,
+    source: NameSource,
+) -> Result<(), DecoderError>
+    ensures found { OnOk result (HasName table.now source) }
+    ensures lost { IfErr result (λ e. LacksName table.now source e) }
+{
+    match source {
+        NameSource::Static(index) => {
+            StaticTable::name(index)?;
+        }
+        NameSource::Dynamic(index) => {
+            table.get_relative(index)?;
+        }
+        NameSource::Literal => {}
+    }
+    Ok(())
 }
 
 /// Applies an instruction to the table. On error nothing changes.

@@ -89,7 +89,7 @@ pub(crate) const NAMED_SIZE: u8 = 6;
 
 pub(crate) const NAMED_DYNAMIC: u8 = 0b10;
 
-const NAMED_STATIC: u8 = 0b11;
+pub(crate) const NAMED_STATIC: u8 = 0b11;
 
 /// Inserts a value under the name of a field of the static table, or of an entry of the dynamic table.
 #[derive(Debug, PartialEq, Drop)]
