@@ -116,8 +116,8 @@ pub trait Decode: Sized {
         ensures { decode_gives buf.old result buf.new };
 }
 
-/// What can be written to a vector.
-pub trait Encode {
+/// What can be written to a vector. It can be let go: `write` takes it by value.
+pub trait Encode: Drop {
     /// The bytes that are written.
     ghost encoding: { Self → List ℕ };
 
@@ -173,11 +173,11 @@ impl BufExt for Cursor<'_> {
 /// Writing at the end of a vector.
 pub trait BufMutExt {
     /// Appends a value's bytes; with free room for them it takes no memory.
-    fn write<T: Encode + Drop>(&mut self, value: T) -> std::result::Result<(), NoMemory>;
+    fn write<T: Encode>(&mut self, value: T) -> std::result::Result<(), NoMemory>;
 }
 
 impl<A: Allocator> BufMutExt for Vec<u8, A> {
-    fn write<T: Encode + Drop>(&mut self, value: T) -> std::result::Result<(), NoMemory>
+    fn write<T: Encode>(&mut self, value: T) -> std::result::Result<(), NoMemory>
         ensures ok { OnOk result (self.new.items ≡ self.old.items ++ T.encoding value) }
         ensures err { OnErr result (self.new.items ≡ self.old.items) }
         ensures succeeds { vec_len self.old + length (T.encoding value) ≤ vec_capacity self.old → IsOk result }

@@ -42,7 +42,8 @@ impl From<prefix_string::Error> for ParseError {
 
     fn from(e: prefix_string::Error) -> ParseError {
         match e {
-            prefix_string::Error::Memory => ParseError::Memory,
+            prefix_string::Error::Memory | prefix_string::Error::HuffmanEncoding(_) =>
+                ParseError::Memory,
             e => ParseError::String(e),
         }
     }

@@ -43,6 +43,7 @@ decoder_error_of_integer e = decoder.InvalidInteger e
 abbrev pub decoder_error_of_string : StringError → DecoderError
 decoder_error_of_string string.UnexpectedEnd = decoder.UnexpectedEnd
 decoder_error_of_string string.Memory = decoder.Memory
+decoder_error_of_string (string.HuffmanEncoding e) = decoder.Memory
 decoder_error_of_string e = decoder.InvalidString e
 
 -- ---- the encoder's; here too out of memory stays itself
@@ -55,6 +56,7 @@ encoder_error_of_table e = encoder.Insertion e
 -- a string
 abbrev pub encoder_error_of_string : StringError → EncoderError
 encoder_error_of_string string.Memory = encoder.Memory
+encoder_error_of_string (string.HuffmanEncoding e) = encoder.Memory
 encoder_error_of_string e = encoder.InvalidString e
 
 -- an instruction of the decoder that can't be read; it has no base

@@ -60,7 +60,8 @@ impl From<prefix_string::Error> for EncoderError {
 
     fn from(e: prefix_string::Error) -> EncoderError {
         match e {
-            prefix_string::Error::Memory => EncoderError::Memory,
+            prefix_string::Error::Memory | prefix_string::Error::HuffmanEncoding(_) =>
+                EncoderError::Memory,
             e => EncoderError::InvalidString(e),
         }
     }
@@ -201,7 +202,8 @@ impl From<prefix_string::Error> for DecoderError {
     fn from(e: prefix_string::Error) -> DecoderError {
         match e {
             prefix_string::Error::UnexpectedEnd => DecoderError::UnexpectedEnd,
-            prefix_string::Error::Memory => DecoderError::Memory,
+            prefix_string::Error::Memory | prefix_string::Error::HuffmanEncoding(_) =>
+                DecoderError::Memory,
             e => DecoderError::InvalidString(e),
         }
     }

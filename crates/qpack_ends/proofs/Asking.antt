@@ -2,7 +2,6 @@
 use Rattle.std.proofs.Common.{◌≡◌, ℕ, List, ◌∷◌, Option, Some, Result, Ok, Err, refl, sym, subst}
 use Rattle.std.proofs.Common.{◌∙◌, ◌≤◌, arith, inl, inr}
 use Rattle.std.specs.Prelude.{IsOk}
-use Rattle.std.specs.Global.{Vec}
 use Rattle.qpack_spec.specs.Bytes.{Begins}
 use Rattle.qpack_spec.specs.Field.{Field, FieldLine}
 use Rattle.qpack_spec.specs.Form.{FormFault, Form, Index, IndexAndValue, form_at, made_at, or_bad_integer}
@@ -10,14 +9,12 @@ use Rattle.qpack_spec.specs.Form.{or_bad_string}
 use Rattle.qpack_spec.specs.Integer.{integer_at}
 use Rattle.qpack_spec.specs.Line.{Line, line_form}
 use Rattle.qpack_spec.specs.StrictReading.{LinesUnder, strict_line_at}
-use Rattle.qpack_spec.specs.Text.{HoldsPayload, string_at}
+use Rattle.qpack_spec.specs.Text.{StringFault, string_at}
 use Rattle.qpack_spec.proofs.FormLaws.{form_takes}
-use Rattle.qpack_base.specs.Cursor.{CursorView}
 use Rattle.qpack_base.specs.declared.prefix_string.Error.{Error as StringError}
 use Rattle.qpack_base.specs.declared.prefix_string.Error.TheVariants as string
 use Rattle.qpack_base.specs.ParseErrors.{error_of_string}
 use Rattle.qpack_base.specs.Strings.{FailsString}
-use Rattle.qpack_base.proofs.WholePayloads.{string_memory}
 use Rattle.qpack_wire.specs.Alone.{ByFirstByte}
 use Rattle.qpack_wire.specs.Memory.{HoldsLine, AsksLine, AsksFormAt}
 use Rattle.qpack_wire.proofs.Asking.{HasBegun, asks_alone, asks_held, asks_line}
@@ -32,17 +29,12 @@ use Rattle.qpack_ends.proofs.LineReads.{within_line, line_at}
 
 -- ---- parts of a line
 
--- want of memory for a string is told for a whole payload that is not empty
-pub asks_string : (n : ℕ) (old : CursorView) (e : StringError) → FailsString e (string_at n old.rest)
-    → line_error_of_parse (error_of_string e) ≡ line.Memory → Begins (HoldsPayload n) old.rest
-asks_string n old string.Memory h q =
-    string_memory n old old (let r : Result (Vec ℕ) StringError = Err string.Memory in r) h refl
-asks_string n old e h q = absurd cc
-
 -- out of memory for a string is the string's
-pub string_memory_of : (e : StringError) → line_error_of_parse (error_of_string e) ≡ line.Memory → e ≡ string.Memory
-string_memory_of string.Memory q = refl
-string_memory_of e q = absurd cc
+pub string_memory_of : (e : StringError) (read : Result (ℕ × List ℕ × List ℕ) StringFault) → FailsString e read
+    → line_error_of_parse (error_of_string e) ≡ line.Memory → e ≡ string.Memory
+string_memory_of string.Memory read h q = refl
+string_memory_of (string.HuffmanEncoding e) read h q = absurd h
+string_memory_of e read h q = absurd cc
 
 -- an index was read, so that its line stands whole
 pub asks_index : (n : ℕ) (make : ℕ → Line) (bytes rest : List ℕ) (flags index : ℕ)
