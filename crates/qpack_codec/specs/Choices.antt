@@ -1,8 +1,8 @@
 -- What is chosen for a field, as the definition of choices has it (RFC 9204, section 2.1).
-use Rattle.std.specs.Prelude.{ℕ, Bool, true, false, Option, Some, None}
+use Rattle.std.specs.Prelude.{ℕ, Bool, true, false, ◌||◌, Option, Some, None}
 use Rattle.qpack_spec.specs.Chosen as chosen
 use Rattle.qpack_spec.specs.Chosen.{Chosen}
-use Rattle.qpack_spec.specs.Field.{Field, has_name}
+use Rattle.qpack_spec.specs.Field.{Field, FieldLine, has_name}
 use Rattle.qpack_spec.specs.Table.{Table, newest_index}
 use Rattle.qpack_codec.specs.declared.encoder.choices.Choice.{Choice}
 use Rattle.qpack_codec.specs.declared.encoder.choices.Choice.TheVariants.{Alone, Equal, Named, Inserted}
@@ -13,6 +13,15 @@ use Rattle.qpack_codec.specs.declared.encoder.choices.Wish.TheVariants.{Unmarked
 abbrev pub wish_of_mark : Bool → Wish
 wish_of_mark true = Never
 wish_of_mark false = Unmarked
+
+-- the wish marks its field line (section 7.1.3)
+abbrev pub is_never : Wish → Bool
+is_never Never = true
+is_never w = false
+
+-- a field line with a wish
+abbrev pub line_as_wished : FieldLine → Wish → FieldLine
+line_as_wished l w = record l { never_indexed = is_never w || l.never_indexed }
 
 -- a reference to an entry, if there is one
 abbrev pub by_entry : (ℕ → chosen.Choice) → Option ℕ → chosen.Choice

@@ -127,12 +127,12 @@ fn show_decoded(
     }
 }
 
-/// Borrows fields, each with its wish.
+/// Borrows fields, each with its wish. Their lines have no marks: the wish alone says which is never indexed.
 fn wishes_of<'a>(call: &mut Call<'_>, fields: &'a [Field]) -> Vec<WishedField<'a>> {
     let mut wished = Vec::new(call.alloc());
     for field in fields {
         let wish = WishedField {
-            line: field.as_line(),
+            line: FieldLine::new(&field.name, &field.value),
             wish: field.mark.among(WISHES),
         };
         if wished.push(wish).is_err() {

@@ -1,17 +1,17 @@
 -- What the caller's wish asks of an encoding end for each field (RFC 9204, sections 2.1, 2.1.2 and 7.1.3).
 use Rattle.std.specs.Prelude.{◌≡◌, ℕ, Bool, true, false, ◌&&◌, List, [], ◌∷◌, Option, None, Some, Result, Ok, Err}
-use Rattle.qpack_spec.specs.Chosen.{Inserts, Chosen, alone_chosen, chosen_field}
+use Rattle.qpack_spec.specs.Chosen.{Inserts, References, Chosen, alone_chosen, chosen_field}
 use Rattle.qpack_spec.specs.Field.{Field, FieldLine, is_field}
 use Rattle.qpack_spec.specs.Rule.{Draft, empty_draft}
 use Rattle.qpack_spec.specs.StaticTable.{static_index}
-use Rattle.qpack_spec.specs.Table.{Table, insert_count, newest_index, has_room, below_limit}
+use Rattle.qpack_spec.specs.Table.{Table, insert_count, newest_index, has_room, below_limit, may_reference}
 use Rattle.qpack_codec.specs.Choices.{inserts_after}
 use Rattle.qpack_codec.specs.ChoosesAlong.{Chooses}
 use Rattle.qpack_codec.specs.ChosenSections.{EncodesChosen}
 use Rattle.qpack_codec.specs.declared.encoder.choices.Choice as choices
-use Rattle.qpack_codec.specs.declared.encoder.choices.Choice.TheVariants.{Inserted}
+use Rattle.qpack_codec.specs.declared.encoder.choices.Choice.TheVariants.{Equal, Inserted}
 use Rattle.qpack_codec.specs.declared.encoder.choices.Wish.{Wish}
-use Rattle.qpack_codec.specs.declared.encoder.choices.Wish.TheVariants.{Reuse, Insert}
+use Rattle.qpack_codec.specs.declared.encoder.choices.Wish.TheVariants.{Never, Reuse, Insert}
 use Rattle.qpack_ends.specs.declared.encoder.EncodingError.{EncodingError}
 use Rattle.qpack_ends.specs.Encoders.{EncodingEnd, begun, is_full, may_block}
 use Rattle.qpack_ends.specs.Risk.{with_limit, limit_for}
@@ -27,18 +27,31 @@ pub record InsertsNothing (c : Chosen) : Type 0 where
   pub line : c.line ≡ Inserts → ⊥
   pub unreferenced : c.unreferenced ≡ false
 
+-- nothing is inserted for a field, and the newest equal entry is referenced if it may be (section 2.1.2)
+pub record ReusesField (t : Table) (f : Field) (c : Chosen) : Type 0 where
+  pub nothing : InsertsNothing c
+  pub equal : (entry : ℕ) → newest_index t (is_field f) ≡ Some entry → may_reference t entry ≡ true
+      → c.line ≡ References entry
+
+-- the choice of a chooser inserts nothing
+abbrev pub IsWithoutInsertion : choices.Choice → Type 0
+IsWithoutInsertion c = (c ≡ Inserted → ⊥) × (inserts_after c ≡ false)
+
 -- what the wish asks of the choice of a chooser, if the newest equal entry is this
 abbrev pub KeepsWish : Table → Field → Wish → Option ℕ → choices.Choice → Type 0
 KeepsWish t f Insert None c =
     ((below_limit t && has_room t f) ≡ true → c ≡ Inserted) × (below_limit t ≡ false → inserts_after c ≡ true)
-KeepsWish t f Reuse newest c = (c ≡ Inserted → ⊥) × (inserts_after c ≡ false)
+KeepsWish t f Reuse None c = IsWithoutInsertion c
+KeepsWish t f Reuse (Some entry) c = IsWithoutInsertion c × (may_reference t entry ≡ true → c ≡ Equal entry false)
 KeepsWish t f w newest c = Unit {0}
 
 -- what the wish asks of a choice at a table, for a field that no static field equals: `Insert`, that it is inserted
--- unless an entry equals it; `Reuse`, that nothing is inserted
+-- unless an entry equals it; `Reuse`, that an equal entry is referenced and nothing inserted; `Never`, that nothing is
+-- inserted. The line of a field with the wish `Never` is marked, so it is a literal (section 7.1.3).
 abbrev pub SuitsWish : Table → FieldLine → Wish → Chosen → Type 0
 SuitsWish t l Insert c = l.never_indexed ≡ false → newest_index t (is_field l.field) ≡ None → InsertsField t l.field c
-SuitsWish t l Reuse c = l.never_indexed ≡ false → InsertsNothing c
+SuitsWish t l Reuse c = l.never_indexed ≡ false → ReusesField t l.field c
+SuitsWish t l Never c = InsertsNothing c
 SuitsWish t l w c = Unit {0}
 
 -- a chooser that follows the caller's wishes, and may follow anything else

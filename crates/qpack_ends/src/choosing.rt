@@ -3,6 +3,7 @@
 
 ghost use Rattle.std.specs.Prelude.{◌≡◌, false, true, None, Some};
 ghost use Rattle.qpack_base.specs.HeaderFields.{line_of};
+ghost use Rattle.qpack_spec.specs.Table.{may_reference};
 ghost use Rattle.qpack_table.specs.Handles.{AreHashesIn};
 ghost use Rattle.qpack_codec.specs.Choices.{inserts_after};
 ghost use Rattle.qpack_codec.specs.declared.encoder.choices.Choice.TheVariants.{Equal, Inserted};
@@ -52,7 +53,9 @@ impl Chooser {
         block: &DynamicTableEncoder<'_, Index, PackedField>,
         field: &FieldLine<'_>,
         newest: usize,
-    ) -> Option<usize> {
+    ) -> Option<usize>
+        ensures { may_reference block.now.table.now newest ≡ true → result ≡ Some newest }
+    {
         if block.may_reference(newest) {
             return Some(newest);
         }
@@ -74,6 +77,7 @@ impl Chooser {
         entry: usize,
         newest: usize,
     ) -> Choice
+        requires { may_reference block.now.table.now newest ≡ true → entry ≡ newest }
         ensures { KeepsWish block.now.table.now (line_of field.now).field wish (Some newest) result }
     {
         self.names.note_reference(entry);

@@ -1,15 +1,15 @@
 //! What is chosen for each field of a section: how its line is written, and whether it is inserted (RFC 9204, section
 //! 2.1).
 
-ghost use Rattle.std.specs.Prelude.{◌≡◌, false};
+ghost use Rattle.std.specs.Prelude.{◌≡◌, false, true};
 ghost use Rattle.qpack_base.specs.HeaderFields.{line_of, field_of};
 ghost use Rattle.qpack_spec.specs.Chosen.{Chosen};
 ghost use Rattle.qpack_spec.specs.Field.{FieldLine as Line, unmarked};
 ghost use Rattle.qpack_spec.specs.Table.{Table};
 ghost use Rattle.qpack_table.specs.Handles.{AreHashesIn, IsSoughtIn};
-ghost use Rattle.qpack_codec.specs.Choices.{chosen_of, inserts_after, wish_of_mark};
+ghost use Rattle.qpack_codec.specs.Choices.{chosen_of, inserts_after, line_as_wished, wish_of_mark};
 ghost use Rattle.qpack_codec.specs.declared.encoder.choices.Wish.{Wish as Asked};
-ghost use Rattle.qpack_codec.specs.declared.encoder.choices.Wish.TheVariants.{Unmarked};
+ghost use Rattle.qpack_codec.specs.declared.encoder.choices.Wish.TheVariants.{Unmarked, Never as Refused};
 
 use qpack_base::field::{FieldLine, HeaderField};
 use qpack_base::stored_field::PackedField;
@@ -22,7 +22,7 @@ pub enum Wish {
     Unmarked,
     /// The field is never indexed: it becomes a literal with that mark (RFC 9204, section 7.1.3).
     Never,
-    /// The field is not inserted. An entry that equals it may be referenced.
+    /// The field is not inserted. The newest entry that equals it is referenced, if it may be.
     Reuse,
     /// The field is inserted if there is room.
     Insert,
@@ -106,27 +106,33 @@ pub trait AsField {
     fn as_field(&self) -> FieldLine<'_>
         ensures { line_of result ≡ line self.now };
 
-    /// Returns the wish for the field, which an encoder that chooses takes into account.
+    /// Returns the wish for the field, which an encoder that chooses takes into account. The line of a field with the
+    /// wish `Never` has that mark.
     fn wish(&self) -> Wish
-        ensures { result ≡ wish self.now };
+        ensures same { result ≡ wish self.now }
+        ensures never { wish self.now ≡ Refused → (line self.now).never_indexed ≡ true };
 }
 
 /// A field line with a wish.
 #[derive(Debug, Clone, Copy, Drop)]
 pub struct WishedField<'a> {
-    /// The field line. One that is never indexed stays so, whatever the wish.
+    /// The field line. One that is never indexed stays so, whatever the wish; the wish `Never` makes it so.
     pub line: FieldLine<'a>,
     /// The wish.
     pub wish: Wish,
 }
 
 impl AsField for WishedField<'_> {
-    ghost line = { λ x. line_of x.line };
+    ghost line = { λ x. line_as_wished (line_of x.line) x.wish };
 
     ghost wish = { λ x. x.wish };
 
     fn as_field(&self) -> FieldLine<'_> {
-        self.line
+        FieldLine {
+            name: self.line.name,
+            value: self.line.value,
+            never_indexed: self.wish == Wish::Never || self.line.never_indexed,
+        }
     }
 
     fn wish(&self) -> Wish {

@@ -20,7 +20,7 @@ pub struct OwnedFieldLine {
     pub name: Vec<u8>,
     /// The value.
     pub value: Vec<u8>,
-    /// Whether the field is never to be indexed (RFC 9204, section 7.1.3).
+    /// Whether the field is never to be indexed (RFC 9204, section 7.1.3); so it is, too, by the wish `Never`.
     pub never_indexed: bool,
     /// The wish for the field, which the encoding end takes into account.
     pub wish: Wish,
@@ -49,7 +49,7 @@ impl AsField for OwnedFieldLine {
         FieldLine {
             name: &self.name,
             value: &self.value,
-            never_indexed: self.never_indexed,
+            never_indexed: self.wish == Wish::Never || self.never_indexed,
         }
     }
 

@@ -43,7 +43,7 @@ loop-field-preserved g c =
     c.append_chosen_line.new.chooser c.args.lines.now.items c.loop-field.lines.items
     c.append_chosen_line.new.lines.items c.args.encoder_buf.now.items c.loop-field.encoder_buf.items
     c.append_chosen_line.new.encoder_buf.items (omega arith) c.field-item.is c.loop-field.invariant.base
-    c.as_field.ensures c.wish.ensures
+    c.as_field.ensures c.wish.ensures.same
     c.loop-field.invariant.adds c.in_ok-append_chosen_line.ensures.ok in
     record {
       same_table = c.append_chosen_line.ensures.same_table ∙ c.loop-field.invariant.same_table;
