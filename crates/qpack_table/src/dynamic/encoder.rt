@@ -202,20 +202,8 @@ impl<I: FindsEntries, F: StoredField> DynamicTableEncoder<'_, I, F> {
         self.table.insert_field(self.base, &field.as_line())
     }
 
-    /// Inserts a borrowed field as `insert` does; it is copied only if it is inserted. Its never-indexed mark is
-    /// ignored.
-    pub fn insert_line(&mut self, field: &FieldLine<'_>) -> Result<DynamicInsertionResult, Error>
-        ensures same_table { self.new.table.ghost_name ≡ self.old.table.ghost_name }
-        ensures stream { self.new.stream_id ≡ self.old.stream_id }
-        ensures base { self.new.base ≡ self.old.base }
-        ensures inserted { Inserts result (insert_field self.old.table.now self.old.base (line_of field.now).field)
-            self.old.table.now self.new.table.now }
-    {
-        self.table.insert_field(self.base, field)
-    }
-
-    /// Inserts a field as `insert_line` does, after `find_and_keep` found no entry of it that may be referenced, and
-    /// nothing was inserted since. Looks nothing up again.
+    /// Inserts a borrowed field as `insert` does, after `find_and_keep` found no entry of it that may be referenced, and
+    /// nothing was inserted since. Its never-indexed mark is ignored. Looks nothing up again.
     #[inline(always)]
     pub fn insert_found(
         &mut self,
