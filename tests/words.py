@@ -70,6 +70,7 @@ def list_files():
     patterns = {
         prose_of_markdown: [
             "*.md", "docs/*.md", "dist/README.md", "rust/README.md", "bindings/README.md", "examples/*/README.md",
+            "c/README.md", "crates/README.md", "tests/README.md",
             "tests/calls.md", "tests/definitions.md",
         ],
         prose_of_c: ["include/h3_qpack.h"],
