@@ -1,9 +1,17 @@
 /* The functions of h3_qpack.h that the library exports: those whose bodies are in the header, those that read or fill
  * settings, and those that take fields with NULL pointers. */
+#define _GNU_SOURCE     /* for syscall */
+#define _CRT_RAND_S     /* for rand_s */
 #define H3_QPACK_INLINE /* so each body of the header is the definition of an ordinary function here */
 #include "h3_qpack.h"
 
 #include <stdlib.h>
+#ifdef __linux__
+#include <sys/syscall.h>
+#include <unistd.h>
+#endif
+
+#define DONT_WAIT 1 /* GRND_NONBLOCK, which older headers lack */
 
 /* A field that version 0.n adds to settings is read and written only if the caller's version is 0.n or later: an older
  * caller's struct ends before it, and the field has its default. */
@@ -19,13 +27,31 @@ static int is_supported(uint32_t version) {
 
 static int fits_size(uint64_t value) { return (size_t)value == value; }
 
+/* Returns a random number of the system's, or 0 where there is none or it is not ready. */
+static uint64_t random_number(void) {
+  uint64_t number = 0;
+#if defined(_WIN32)
+  for (int i = 0; i < 2; i++) {
+    unsigned int part;
+    if (rand_s(&part)) return 0;
+    number = number << 32 | part;
+  }
+#elif defined(__APPLE__) || defined(__ANDROID__) || defined(__FreeBSD__) || defined(__OpenBSD__) || \
+    defined(__NetBSD__) || defined(__DragonFly__) || defined(__sun)
+  arc4random_buf(&number, sizeof number);
+#elif defined(SYS_getrandom)
+  if (syscall(SYS_getrandom, &number, sizeof number, DONT_WAIT) != (long)sizeof number) return 0;
+#endif
+  return number;
+}
+
 void h3_qpack_encoder_settings_default_versioned(uint32_t version, h3_qpack_encoder_settings *settings) {
   if (!settings || !is_supported(version)) return;
   settings->max_capacity = 0;
   settings->max_blocked = 0;
   settings->capacity = 4096;
   settings->most_unacknowledged = 100;
-  settings->seed = 0;
+  settings->seed = random_number();
 }
 
 int h3_qpack_encoder_new_versioned(h3_qpack_encoder *encoder, uint32_t version,

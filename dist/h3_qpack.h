@@ -166,9 +166,9 @@ typedef struct h3_qpack_encoder_settings {
   uint64_t capacity;            /* the table capacity, in bytes; |max_capacity| if that is less (section 3.2.3) */
   uint64_t most_unacknowledged; /* while this many sections that reference the table are unacknowledged (section 4.4.1),
                                    sections reference only the static table */
-  uint64_t seed;                /* what the hashes of the table's fields are computed with. Set a random number if others
-                                   choose fields, so that they can't choose ones that take long to insert. No byte that
-                                   is written depends on it. */
+  uint64_t seed;                /* what the hashes of the table's fields are computed with. Anyone who knows it can choose
+                                   fields that take long to insert, so keep the default, or set a random number. No byte
+                                   that is written depends on it. */
 } h3_qpack_encoder_settings;
 
 typedef struct h3_qpack_decoder_settings {
@@ -181,7 +181,8 @@ typedef struct h3_qpack_decoder_settings {
 /* ---- The encoder */
 
 /* Stores the defaults in |settings|: |max_capacity| 0 and |max_blocked| 0, which are those of a peer that sends no such
- * settings, |capacity| 4,096, |most_unacknowledged| 100 and |seed| 0. Does nothing if |settings| is NULL.
+ * settings, |capacity| 4,096, |most_unacknowledged| 100, and as |seed| a random number of the system's. That is 0 where the
+ * system has none, as in WebAssembly. Does nothing if |settings| is NULL.
  *
  * Bindings call h3_qpack_encoder_settings_default_versioned, with the H3_QPACK_VERSION that their struct is of. It does
  * nothing for a version that _new refuses. */

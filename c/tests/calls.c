@@ -32,15 +32,21 @@ static void compare_versions(void) {
 
 /* The defaults, and that each setting of an encoder is what it says. Those of a decoder are in the cases below. */
 static void use_settings(void) {
-  h3_qpack_encoder_settings es;
+  h3_qpack_encoder_settings es, others;
   h3_qpack_decoder_settings ds;
   h3_qpack_encoder e;
   static const h3_qpack_nv insert = {(const uint8_t *)"foo", 3, (const uint8_t *)"bar", 3, H3_QPACK_NV_FLAG_INSERT};
   h3_qpack_encoder_settings_default(NULL);
   h3_qpack_decoder_settings_default(NULL);
   h3_qpack_encoder_settings_default(&es);
+  h3_qpack_encoder_settings_default(&others);
   h3_qpack_decoder_settings_default(&ds);
-  CHECK(!es.max_capacity && !es.max_blocked && es.capacity == 4096 && es.most_unacknowledged == 100 && !es.seed);
+  CHECK(!es.max_capacity && !es.max_blocked && es.capacity == 4096 && es.most_unacknowledged == 100);
+#ifdef __wasm__
+  CHECK(!es.seed && !others.seed);
+#else
+  CHECK(es.seed && others.seed && es.seed != others.seed);
+#endif
   CHECK(!ds.max_capacity && !ds.max_blocked && ds.max_section_size == 65536);
   es.max_capacity = 200;
   es.max_blocked = 3;

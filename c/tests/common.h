@@ -148,12 +148,14 @@ static inline void free_lists(void) {
   nlists = nfields = 0;
 }
 
-/* Makes an encoder for a peer of these settings, whose table is as large as they allow. Returns the status. */
+/* Makes an encoder for a peer of these settings, whose table is as large as they allow. Returns the status. Each has one
+ * seed, so that each run asks for the same memory. */
 static inline int new_encoder(h3_qpack_encoder *e, uint64_t max_capacity, uint64_t max_blocked) {
   h3_qpack_encoder_settings settings;
   h3_qpack_encoder_settings_default(&settings);
   settings.max_capacity = settings.capacity = max_capacity;
   settings.max_blocked = max_blocked;
+  settings.seed = 1;
   return h3_qpack_encoder_new(e, &settings);
 }
 
