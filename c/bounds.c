@@ -205,6 +205,22 @@ static void hold_encoder(size_t unacknowledged, size_t bound) {
   CHECK(!live && !blocks);
 }
 
+/* A long section is kept until the next one is encoded, and no longer. */
+static void hold_section(void) {
+  static uint8_t value[1 << 20];
+  const h3_qpack_nv large = {(const uint8_t *)"a", 1, value, sizeof value, 0}, small = {(const uint8_t *)"a", 1, value, 1, 0};
+  h3_qpack_encoder e;
+  begin_case();
+  open_encoder(&e, CAPACITY, BLOCKED, 100);
+  h3_qpack_encoded a = h3_qpack_encoder_encode(&e, 0, &large, 1, section, sizeof section);
+  CHECK(a.status == H3_QPACK_ERR_NO_ROOM && a.len > sizeof value && live > a.len);
+  CHECK(h3_qpack_encoder_encode(&e, 4, &small, 1, section, sizeof section).status == H3_QPACK_OK);
+  printf("%8zu  %-66s %7zu now\n", a.len, "bytes of a section before one of a small field", live + 8 * blocks);
+  CHECK(live + 8 * blocks <= LEFT_BOUND);
+  h3_qpack_encoder_del(&e);
+  CHECK(!live && !blocks);
+}
+
 /* Each stream is cancelled at once, and no insertion is ever reported: a peer that the encoder can learn nothing from. */
 static void cancel_all(void) {
   bytes b = {NULL, 0, 0};
@@ -257,6 +273,7 @@ int main(void) {
   hold_insertions();
   hold_encoder(100, ENCODER_BOUND);
   hold_encoder(1000, 10 * ENCODER_BOUND);
+  hold_section();
   cancel_all();
   cancel_blocked();
   printf("bounds: within the bounds of docs/SECURITY.md; cancelled streams are not blocked\n");

@@ -1,7 +1,7 @@
 //! The encoding end of a handle.
 
 ghost use Rattle.h3_qpack_c.specs.declared.encoder.State.{State};
-ghost use Rattle.std.specs.Prelude.{◌≡◌, ◌<◌, ◌≤◌, ◌^◌, pos, length, map, IfOk, IfErr, ℤ};
+ghost use Rattle.std.specs.Prelude.{◌≡◌, ◌<◌, ◌≤◌, ◌^◌, [], pos, length, map, IfOk, IfErr, vec_capacity, ℤ};
 ghost use Rattle.qpack_ends.specs.declared.decoder.SettingsError.TheVariants.{CapacityTooLarge};
 ghost use Rattle.h3_qpack_c.specs.Crossing.{line_of_lent, wish_of_lent, copied, told_of_copy, Makes};
 ghost use Rattle.h3_qpack_c.specs.Encoding.{EncodesTo, HearsTo, SetsCapacityTo, TakesStream, told_of_hearing};
@@ -136,7 +136,7 @@ fn encode(state: &mut State, stream: u64, fields: &[Field], section: &mut [u8]) 
     ensures { EncodesTo state.old state.new stream (map line_of_lent fields.now) (map wish_of_lent fields.now) section.old
         section.new result }
 {
-    state.section.clear();
+    clear_section(&mut state.section);
     match state.end.encode(stream, fields, &mut state.section) {
         Ok(required) => {
             let Written { status, len } = write(&state.section, section);
@@ -153,6 +153,20 @@ fn encode(state: &mut State, stream: u64, fields: &[Field], section: &mut [u8]) 
             required: 0,
             size: 0,
         },
+    }
+}
+
+/// How much memory is kept for the next section, in bytes.
+const KEPT_ROOM: usize = 4096;
+
+/// Empties the section that was encoded last, and gives back memory of more than `KEPT_ROOM` bytes.
+fn clear_section(section: &mut Vec<u8>)
+    ensures items { section.new.items ≡ [] }
+    ensures given_back { vec_capacity section.new ≤ 4096 }
+{
+    section.clear();
+    if section.capacity() > KEPT_ROOM {
+        section.shrink_to_fit();
     }
 }
 
