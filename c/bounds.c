@@ -11,10 +11,11 @@
 #define DECODER_BOUND (192 * 1024)
 #define PIECE_BOUND (112 * 1024)
 #define LEFT_BOUND (12 * 1024)
-/* On a decoder that has received nothing else: what an insertion takes that can't fit, all of whose bytes are in one piece;
- * and one that fits, for each byte of the capacity. */
-#define REFUSED_BOUND (2 * 1024)
+/* What an insertion takes whose bytes are all in one piece, on a decoder that has received nothing else: so much, and so many
+ * bytes for each byte of the capacity if it fits, or of its name if that alone does. */
+#define INSERTION_BASE 1024
 #define FITTING_BOUND 3
+#define NAME_BOUND 2
 #define ENCODER_BOUND (144 * 1024)
 #define CANCELLED_BOUND (256 * 1024)
 
@@ -146,12 +147,13 @@ static void hold_piece(size_t len) {
   CHECK(!live && !blocks);
 }
 
-/* An insertion of a name and a value of these lengths, in one piece, at a capacity: it fits, or it is rejected and takes
- * nothing for its texts. */
+/* An insertion of a name and a value of these lengths, in one piece, at a capacity: it fits, or it is rejected, and no
+ * text that is too long takes memory. */
 static void hold_insertion(size_t capacity, const coding *c, size_t names, size_t values) {
   bytes b = {NULL, 0, 0};
   h3_qpack_decoder d;
-  bool fits = names + values + 32 <= capacity;
+  int fits = names + values + 32 <= capacity;
+  size_t texts = fits ? FITTING_BOUND * capacity : names + 32 <= capacity ? NAME_BOUND * names : 0;
   char what[96];
   begin_case();
   open_decoder(&d, capacity, BLOCKED, LIMIT);
@@ -159,7 +161,7 @@ static void hold_insertion(size_t capacity, const coding *c, size_t names, size_
   h3_qpack_received r = h3_qpack_decoder_read_encoder(&d, b.at, b.len);
   CHECK(r.status == (fits ? H3_QPACK_OK : H3_QPACK_ENCODER_STREAM_ERROR));
   snprintf(what, sizeof what, "bytes of an insertion in one piece at a capacity of %zu, %s", capacity, c->label);
-  check_bound(what, b.len, REFUSED_BOUND + (fits ? FITTING_BOUND * capacity : 0));
+  check_bound(what, b.len, INSERTION_BASE + texts);
   h3_qpack_decoder_del(&d);
   drop(&b);
   CHECK(!live && !blocks);
@@ -167,14 +169,14 @@ static void hold_insertion(size_t capacity, const coding *c, size_t names, size_
 
 static void hold_insertions(void) {
   const coding *codings[] = {&plain, &shortest, &longest};
-  size_t capacities[] = {CAPACITY, 65536}, lengths[] = {1, 4, 16, 256};
+  size_t capacities[] = {CAPACITY, 65536}, lengths[] = {1, 4, 16};
   for (size_t i = 0; i < 6; i++) {
     size_t capacity = capacities[i / 3], longest_texts = capacity - 32;
     const coding *c = codings[i % 3];
     hold_insertion(capacity, c, longest_texts, 0);
     hold_insertion(capacity, c, longest_texts / 2, longest_texts / 2);
     hold_insertion(capacity, c, longest_texts / 2, longest_texts / 2 + 1);
-    for (size_t k = 0; k < 4; k++) {
+    for (size_t k = 0; k < 3; k++) {
       hold_insertion(capacity, c, lengths[k] * capacity, 1);
       hold_insertion(capacity, c, 1, lengths[k] * capacity);
     }
