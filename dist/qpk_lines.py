@@ -4,7 +4,7 @@ Which lines there may be (docs/QPK.md, Lines of a recording) is checked by qpk, 
 """
 
 import re
-from typing import Iterable, Iterator, NamedTuple
+from typing import Iterable, Iterator, List, NamedTuple, Optional
 
 # What a file begins with that is compressed.
 GZIP, XZ, ZSTD = (bytes.fromhex(it) for it in ("1f8b08", "fd377a58", "28b52ffd"))
@@ -39,10 +39,32 @@ def is_capture(head: bytes) -> bool:
 def pieces_of_lines(lines: Iterable[str]) -> Iterator[Piece]:
     """Yields the pieces of lines."""
     for number, line in enumerate(lines, 1):
-        found = LINE.match(line)
-        if found:
-            _, mark, kind, stream, digits = found.groups()
-            yield Piece(number, ENDS[mark or ""], kind, bytes_of(digits), stream or "")
+        piece = piece_of_words(number, line.split()) or piece_of_line(number, line)
+        if piece:
+            yield piece
+
+
+def piece_of_words(number: int, words: List[str]) -> Optional[Piece]:
+    """Returns the piece of a line as most are, with a blank after each part: a time, a mark, a kind, a stream, and bytes."""
+    at = 1 if words and words[0].startswith("@") else 0
+    marks = 1 if len(words) > at and words[at] in (">", "<") else 0
+    *kind, digits = words[at + marks :] or [""]
+    if not (kind in (["e"], ["d"]) or len(kind) == 2 and kind[0] == "b"):
+        return None
+    try:
+        data = bytes.fromhex(digits)
+    except ValueError:
+        return None
+    return Piece(number, ENDS[words[at] if marks else ""], kind[0], data, kind[1] if len(kind) == 2 else "")
+
+
+def piece_of_line(number: int, line: str) -> Optional[Piece]:
+    """Returns the piece of a line in any of its forms."""
+    found = LINE.match(line)
+    if not found:
+        return None
+    _, mark, kind, stream, digits = found.groups()
+    return Piece(number, ENDS[mark or ""], kind, bytes_of(digits), stream or "")
 
 
 def digits_of(text: str) -> str:

@@ -49,6 +49,7 @@ def load():
 
 capture = load()
 import qpk_streams  # noqa: E402 # pylint: disable=wrong-import-position
+import qpk_tshark  # noqa: E402 # pylint: disable=wrong-import-position
 
 
 def field(name, show, inner=""):
@@ -71,8 +72,8 @@ def packet(time, source, target, *pieces, connection=0):
 
 def connections(*packets):
     """Returns the connections of packets."""
-    pieces = capture.read_pieces(io.BytesIO(f"<pdml>{''.join(packets)}</pdml>".encode()))
-    return [capture.connect(number, pieces[number]) for number in sorted(pieces)]
+    pieces = qpk_tshark.read_pieces(io.BytesIO(f"<pdml>{''.join(packets)}</pdml>".encode()))
+    return [qpk_tshark.connect(number, pieces[number]) for number in sorted(pieces)]
 
 
 def lines(*packets):

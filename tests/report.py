@@ -9,6 +9,7 @@ ends with a line 'report: N tests .. passed', and with status 1 if a test failed
 """
 import base64
 import collections
+import gc
 import itertools
 import json
 import os
@@ -19,22 +20,26 @@ import sys
 import tempfile
 import zlib
 from pathlib import Path
+from unittest import mock
 
 from running import FORMED, PLAIN, TOP, assert_linear, can_decrypt, cost_of, run_tests, shows_no_fault_of_a_script
 
 sys.dont_write_bytecode = True
-sys.path.insert(0, str(TOP / "dist"))
+sys.path[:0] = [str(TOP / "dist"), str(TOP / "tests" / "browsers")]
 from qpk_lines import pieces_of_lines  # noqa: E402 # pylint: disable=wrong-import-position
 from report.columns import Columns, Texts  # noqa: E402 # pylint: disable=wrong-import-position
 from report.connection import Finder, Reading  # noqa: E402 # pylint: disable=wrong-import-position
 from report.lines import shown_form  # noqa: E402 # pylint: disable=wrong-import-position
-from report.page import left_out  # noqa: E402 # pylint: disable=wrong-import-position
-from report.recording import Recording  # noqa: E402 # pylint: disable=wrong-import-position
+from report.page import PageMaker, left_out  # noqa: E402 # pylint: disable=wrong-import-position
+from report.recording import Recording, Source, read_recordings  # noqa: E402 # pylint: disable=wrong-import-position
+import large  # noqa: E402 # pylint: disable=wrong-import-position
+import qpk_source  # noqa: E402 # pylint: disable=wrong-import-position
 
 CAPTURED = TOP / "tests" / "captured"
 RECORDING = CAPTURED / "chromium.txt"
 BUILT = tempfile.TemporaryDirectory()  # the program and the library of dist/, which tests ask often
 QPK = f"{BUILT.name}/qpk" if shutil.which("cc") and shutil.which("make") else str(TOP / "qpk")
+MOST_CALLS = 27  # of Python for a line of a page
 # A section that waits for an insertion: one line of the recording, and half a second.
 BLOCKED = "@1.5 b 4 028010\n@2 e 3fe11f6294e7838c767f\n"
 # At capacity 76: foo: bar is inserted, duplicated and inserted again, which evicts the first. A section has a line of
@@ -279,6 +284,50 @@ def test_large_recordings():
     assert shown[-1]["lines"] == ["post-base 0 (entry 1)", "static 17", "static 23", "static 1"], shown[-1]
 
 
+def calls_of_page(recording):
+    """Returns how many calls Python made for a page, of its functions and of those in C, and the page."""
+    calls = 0
+
+    def count(_, event, __):
+        nonlocal calls
+        calls += event in ("call", "c_call")
+
+    page = PageMaker()
+    sys.setprofile(count)
+    try:
+        page.add(recording)
+        html = "".join(page.parts())
+    finally:
+        sys.setprofile(None)
+    return calls, html
+
+
+def test_the_cost_of_a_page():
+    """A page takes a bounded number of calls for each of its lines, with all that belongs to them, which no other work on
+    the machine changes. Twice as many lines take twice as many."""
+    costs = []
+    for requests in (200, 400):
+        recording = Recording("", large.recording(QPK, requests).encode(), [])
+        calls, html = calls_of_page(recording)
+        lines = sum(len(it.get("lines", ())) for it in data_of(html)["connections"][0]["events"])
+        assert lines == 25 * requests, lines
+        costs.append(calls / lines)
+    assert max(costs) <= MOST_CALLS and abs(costs[0] - costs[1]) < 3, costs
+
+
+def test_a_capture_is_decrypted_once():
+    """For a page, with what check says of it; and each connection is a recording as lines prints it."""
+    if not can_decrypt():
+        return
+    with mock.patch.object(qpk_source, "read_capture", wraps=qpk_source.read_capture) as read:
+        (recording,) = read_recordings(Source(str(CAPTURED / "chromium.pcapng")))
+        _, html = calls_of_page(recording)
+    assert read.call_count == 1 and data_of(html)["connections"][0]["verdict"]["seen"].startswith("packets: client ")
+    words = [sys.executable, TOP / "dist" / "qpk-capture", "lines", CAPTURED / "chromium.pcapng"]
+    printed = subprocess.run(words, stdout=subprocess.PIPE, check=True).stdout
+    assert printed == b"# %b\n%b" % (recording.name.encode(), recording.data)
+
+
 def test_what_a_page_has_no_room_for():
     """Many rows, and many faults: the page has the first ones, and says so."""
     columns = Columns(Texts(), set())
@@ -309,7 +358,7 @@ def test_many_sections_at_once():
             finder = Finder(events)
             assert finder.find({"line": size + 2, "section": 4}).arrival
 
-        assert_linear(read, 2000)
+        assert_linear(read, 4000)
     assert_linear(lambda size: list(pieces_of_lines([" " * size, "@" + " " * size, "b" + " " * size])), 5000)
 
 
@@ -352,6 +401,32 @@ def test_each_kind_of_line():
     ]
 
 
+def test_the_forms_of_references():
+    """A line that references an entry has the form that qpk show prints, at the base, before it and after it."""
+    text = "e 3fe11f 6294e7838c767f 6294e703626172\nb 0 0300 81 80\nb 4 0381 10 11\nb 8 0380 10 80 000161\n"
+    words = [QPK, "show", "--json", "-"]
+    shown = subprocess.run(words, input=text.encode(), stdout=subprocess.PIPE, check=True).stdout.splitlines()
+    lines = [(it["line"], line) for it in map(json.loads, shown) for line in it.get("lines", ())]
+    types = set()
+    for entry in (1, 2):
+        (found,) = ask_json("table", "-", "--entry", entry, text=text)
+        expected = [(at, it["offset"], it["form"]) for at, it in lines if f"'entry': {entry}" in str(it["form"])]
+        assert [(it["line"], it["offset"], it["form"]) for it in found["referenced_by"]] == expected, found
+        types |= {(it["type"], it.get("index")) for _, _, it in expected}
+    assert types == {("dynamic", 0), ("dynamic", 1), ("post-base", 0), ("post-base", 1), ("literal", None)}, types
+
+
+def test_lists_that_qif_cannot_have():
+    """Their fields and their references are counted, and not what they take without a table."""
+    for value, counted in (("0a", 0), ("62", 2)):
+        text = f"e 3fe11f6294e7838c767f\nb 0 0000d1\nb 4 0280 10 d1 2161 01{value}\n"
+        (found,) = ask_json("stats", "-", text=text)
+        check(found, fields=4, lists_not_counted=1 - counted // 2, never_referenced=0, list_bytes=2 * 10 + 6 + 2)
+        check(found["hits"], static=2, dynamic=1, literal=1)
+        # Without a table 0000d1, and 0000 2a94e7 03626172 d1 2161 0162, Huffman-coded.
+        assert found["without_table_bytes"] == 3 + (0 if not counted else 2 + 7 + 1 + 4), found
+
+
 def test_draining():
     """An entry drains from its last reference on, if it is evicted later."""
     text = "e 3f2d 6294e7838c767f\nb 0 0200 80\ne 6294e7838c767f\ne 6294e7838c767f\n"
@@ -368,6 +443,8 @@ def test_the_bytes_of_the_page():
     *instructions, section = data["connections"][0]["events"]
     assert [it["hex"] for it in instructions] == ["3f2d", "6294e7838c767f", "00", "6294e7838c767f"]
     assert section["groups"] == ["0400", "d1", "80", "5f0e0161", "400161", "21610162", "31610162"]
+    (two,) = page_of("-", text="b 0 0000 d1 ff00 d1 ff01 ff02 d7\n")[1]["connections"][0]["events"]
+    assert two["groups"] == ["0000", "d1", "ff00", "d1", "ff01", "ff02", "d7"]
     hows = ["static", None, "static-name", "dynamic-name", "literal", "literal"]
     assert [it if it is None else data["shapes"]["hows"][it] for it in section["shapes"]] == hows
     assert section["lines"] == [
@@ -393,8 +470,8 @@ def test_the_verdict_of_a_capture():
     if not can_decrypt():
         return
     capture = CAPTURED / "chromium-moved.pcapng"
-    status, html, _ = start("report", capture)
-    assert status == 2
+    status, html, said = start("report", capture)
+    assert status == 2 and "qpk-capture: connection 0: packets: client 161 of " in said and "stream 2: bytes from 0 to " in said
     (connection,) = data_of(html)["connections"]
     printed = subprocess.run([TOP / "dist" / "qpk-capture", "check", capture], env={**os.environ, "QPK": QPK},
                              capture_output=True, encoding="utf-8", check=False).stdout.splitlines()
@@ -542,6 +619,8 @@ def main():
     """Runs all tests, three at once: most of their time programs are started."""
     if QPK.startswith(BUILT.name):
         subprocess.run(["make", "-s", "-C", str(TOP / "dist"), f"BUILD={BUILT.name}"], check=True)
+    os.environ["QPK"] = QPK  # for the modules that tests call
+    gc.disable()  # as the script does
     return run_tests(globals(), "report", "dist/qpk-report", at_once=3)
 
 

@@ -59,7 +59,7 @@ def try_capacities(
 
 def fields_with_marks(event: Event, library: Any) -> List[Any]:
     """Returns the fields of a list as the library takes them. Those that are never indexed stay so."""
-    return [library.Field(*field, bool(form.said.get("never_indexed"))) for _, form, field in event.parts]
+    return [library.Field(*it.field, bool(it.form.said.get("never_indexed"))) for it in event.lines.shapes]
 
 
 def encode_again(lists: List[List[Any]], capacity: int, blocked: int, library: Any) -> Tuple[int, int]:

@@ -17,8 +17,8 @@ its lines follow one another, in parentheses where they are not one byte.
 import json
 from typing import Any, Dict, Iterator, List, Optional, Sequence, Set, Tuple
 
-from .connection import Event, Window
-from .lines import Field, Form, Part, field_of
+from .connection import Event, size_of
+from .lines import MOST_KEPT, Field, Lines, Object, Shape
 from .texts import shown_field, title_of
 
 # The page has the first events that are not more than these, and says so.
@@ -32,8 +32,9 @@ class Texts:
 
     def __init__(self) -> None:
         self.fields: Dict[Field, int] = {}
-        self.shapes: Dict[Tuple[str, Field], int] = {}
-        self.forms: List[Form] = []  # of each shape
+        self.shapes: Dict[Tuple[str, Field], int] = {}  # by their forms in words
+        self.firsts: List[Shape] = []  # the first one of each
+        self.codes: Dict[Shape, int] = {}  # of lines of the shapes that are kept
         self.room_of_rows, self.room_of_bytes = MOST_ROWS, MOST_BYTES
 
     def field(self, field: Field) -> int:
@@ -43,22 +44,25 @@ class Texts:
             self.room_of_bytes -= field.length
         return number
 
-    def shape(self, form: Form, field: Field) -> int:
-        """Returns the number of a shape."""
-        number = self.shapes.setdefault((form.words or form.text, field), len(self.shapes))
-        if number == len(self.forms):
-            self.forms.append(form)
-            self.field(field)
-        return number
+    def code(self, it: Shape) -> int:
+        """Returns the code of a line of a shape, which is not of the dynamic table."""
+        number = self.shapes.setdefault((it.form.words, it.field), len(self.shapes))
+        if number == len(self.firsts):
+            self.firsts.append(it)
+            self.field(it.field)
+        if len(self.codes) >= MOST_KEPT:
+            self.codes.clear()
+        self.codes[it] = 2 * number + 1
+        return 2 * number + 1
 
     def data(self) -> Dict[str, Any]:
         """Returns all of them, in columns."""
         return {
             "fields": [shown_field(it) for it in self.fields],
             "shapes": {
-                "hows": [it.how for it in self.forms],
-                "forms": [it.text for it in self.forms],
-                "entries": [it.entry or 0 for it in self.forms],
+                "hows": [it.how for it in self.firsts],
+                "forms": [text for text, _ in self.shapes],
+                "entries": [it.entry or 0 for it in self.firsts],
                 "fields": [self.fields[field] for _, field in self.shapes],
             },
         }
@@ -67,13 +71,13 @@ class Texts:
 class Columns:
     """Makes the rows of a connection, event by event, and keeps no event but those in lines with a finding."""
 
-    def __init__(self, texts: Texts, wanted: Set[int]) -> None:
+    def __init__(self, texts: Texts, wanted: Set[int], packets: Sequence[int] = ()) -> None:
         self.texts, self.wanted = texts, wanted
+        self.packets = packets  # of a capture, by its lines
         self.rows: List[str] = []
         self.number_of_events = 0
         self.events: List[Event] = []  # in lines that are wanted
         self.waiting: Dict[Tuple[str, Optional[str]], Tuple[int, Event, str]] = {}  # for their bytes, and what follows these
-        self.windows: Dict[str, Window] = {}
         self.records: List[Tuple[int, str, Optional[str], Optional[int]]] = []  # a line, its end, its time and its packet
         self.sizes: List[int] = []  # how many events each of these has
         self.refused: Dict[int, str] = {}
@@ -82,7 +86,7 @@ class Columns:
     def take(self, event: Event) -> None:
         """Makes the row of an event, if there is room."""
         self.number_of_events += 1
-        self.texts.room_of_rows -= 1 + len(event.parts)
+        self.texts.room_of_rows -= 1 + len(event.lines.shapes)
         self.texts.room_of_bytes -= len(event.data)
         if self.number_of_events > len(self.rows) + 1 or min(self.texts.room_of_rows, self.texts.room_of_bytes) < 0:
             return
@@ -101,7 +105,8 @@ class Columns:
     def begin_record(self, event: Event) -> None:
         """Counts an event in its line of the recording."""
         if not self.records or self.records[-1][0] != event.line:
-            self.records.append((event.line, event.end, event.said.get("time"), event.said.get("packet")))
+            packet = self.packets[event.line - 1] if event.line <= len(self.packets) else None
+            self.records.append((event.line, event.end, event.said.get("time"), packet))
             self.sizes.append(0)
         self.sizes[-1] += 1
 
@@ -115,19 +120,17 @@ class Columns:
         elif event.stream == "decoder":
             kind, rest = ANSWERS[said["instruction"]], f"{said['decoder']},{said.get('stream', said.get('by'))}"
         else:
-            kind, rest = self.rest_of_instruction(event)
+            kind, rest = self.rest_of_instruction(event, said)
         self.waiting[key] = (len(self.rows), event, rest)
         self.rows.append(kind)
 
-    def rest_of_instruction(self, event: Event) -> Tuple[str, str]:
-        """Applies an instruction of the encoder stream. Returns its kind, and what follows its bytes."""
-        said, window = event.said, self.windows.setdefault(event.of, Window())
-        size = window.apply(said)
-        if not size:
-            return "c", f"{said['encoder']},{said['capacity']},{window.evicted}"
-        field = self.texts.field(field_of(said))
+    def rest_of_instruction(self, event: Event, said: Object) -> Tuple[str, str]:
+        """Returns the kind of an instruction of the encoder stream, and what follows its bytes."""
+        if event.field is None:
+            return "c", f"{said['encoder']},{said['capacity']},{event.evicted}"
+        field, size = self.texts.field(event.field), size_of(event.field)
         kind, source = ("d", said["of"]["index"]) if "of" in said else ("i", source_of(said["name_from"]))
-        return kind, f"{said['encoder']},{source},{field},{size},{window.evicted}"
+        return kind, f"{said['encoder']},{source},{field},{size},{event.evicted}"
 
     def complete(self, key: Tuple[str, Optional[str]]) -> None:
         """Completes the row of the last instruction of a stream, whose bytes are known now."""
@@ -138,23 +141,18 @@ class Columns:
 
     def row_of_section(self, event: Event) -> str:
         """Returns the row of a section."""
-        said, parts = event.said, event.parts
+        said, data = event.said, event.data
         if "blocked_until" in said:
-            return f'["b","{event.data.hex()}",{said["section"]},{said["blocked_until"]}]'
-        base, data, shape = said.get("base", 0), event.data, self.texts.shape
-        codes = []
-        for _, form, field in parts:
-            how, entry, source, index, _, _ = form
-            if how == "dynamic" and base - entry == (index if source == "dynamic" else -1 - index):
-                codes.append(2 * (base - entry))
-            else:
-                codes.append(2 * shape(form, field) + 1)
+            return f'["b","{data.hex()}",{said["section"]},{said["blocked_until"]}]'
+        base, shapes = said.get("base", 0), event.lines.shapes
+        known, code = self.texts.codes, self.texts.code
+        codes = [2 * (base - it.entry) if it.how == "dynamic" else known.get(it) or code(it) for it in shapes]  # type: ignore[operator]
         arrival = f",{event.arrival.number}" if event.arrival else ""
-        if "refused" in said and parts:
+        if "refused" in said and shapes:
             self.rest[event.number] = data[said["offset"] :].hex()
             data = data[: said["offset"]]
         head = f'{said["section"]},{said.get("required_insert_count", -1)},{base}'
-        return f'["s","{grouped(data, parts)}",{head},{str(codes).replace(" ", "")}{arrival}]'
+        return f'["s","{grouped(data, event.lines)}",{head},[{",".join(map(str, codes))}]{arrival}]'
 
     def finish(self) -> None:
         """Completes the rows, once all events were taken."""
@@ -194,16 +192,19 @@ def rest_of_title(event: Event) -> str:
     return f"{json.dumps(title_of(event))},{int(event.of == 'server')},{stream}"
 
 
-def grouped(data: bytes, parts: Sequence[Part]) -> str:
+def grouped(data: bytes, lines: Lines) -> str:
     """Returns the bytes of a section up to the end of its lines, in groups: its prefix, and each line."""
     digits = data.hex()
-    if not parts:
+    if not lines.shapes:
         return f"({digits})"
-    begin = 2 * parts[0][0]
-    if len(data) - parts[0][0] == len(parts):
-        return f"({digits[:begin]}){digits[begin:]}"
-    groups = [f"({digits[:begin]})"]
-    for end in [*(2 * it[0] for it in parts[1:]), len(digits)]:
-        groups.append(digits[begin:end] if end == begin + 2 else f"({digits[begin:end]})")
+    begin = len(data) - len(lines.shapes)  # where the lines begin if each has one byte
+    if lines.texts[0].startswith(b"%d," % begin):
+        return f"({digits[: 2 * begin]}){digits[2 * begin :]}"
+    begin, *ends = lines.offsets()
+    groups, done = [f"({digits[: 2 * begin]})"], begin
+    for end in [*ends, len(data)]:
+        if end != begin + 1:
+            groups += [digits[2 * done : 2 * begin], f"({digits[2 * begin : 2 * end]})"]
+            done = end
         begin = end
-    return "".join(groups)
+    return "".join([*groups, digits[2 * done :]])

@@ -3,9 +3,9 @@
 from bisect import bisect_right
 from collections import deque
 from dataclasses import dataclass, field
-from typing import Deque, Dict, Iterable, Iterator, List, NamedTuple, Optional, Sequence, Tuple
+from typing import Deque, Dict, Iterable, Iterator, List, NamedTuple, Optional, Tuple
 
-from .lines import Field, Line, Object, Part, field_of, parts_of
+from .lines import NO_LINES, Field, Lines, Object, field_of, lines_of
 from .recording import Piece, Recording
 
 ENTRY_OVERHEAD = 32  # bytes that an entry counts beside its name and value (RFC 9204, section 3.2.1)
@@ -13,35 +13,25 @@ PLACES = ("encoder", "decoder", "section", "record")  # where a finding may be
 OTHER = {"client": "server", "server": "client", "": ""}
 
 
-@dataclass
 class Event:
     """An object that qpk printed: an instruction, a section, SETTINGS, or what ended them."""
 
-    number: int
-    said: Object
-    of: str  # the end whose encoder it is about
-    data: bytes = b""  # of the instruction or the section
-    arrival: Optional["Event"] = None  # of a section that was blocked: when it came
-    parts: Sequence[Part] = ()  # the lines of a section
-    is_list: bool = False  # a section that was decoded whole
-    stream: Optional[str] = None  # which stream of instructions it is of: encoder, decoder, or none
+    __slots__ = ("number", "said", "line", "end", "of", "stream", "is_list", "data", "arrival", "lines", "field", "evicted")
 
-    @property
-    def line(self) -> int:
-        """The line of the recording."""
-        return int(self.said["line"])
-
-    @property
-    def lines(self) -> List[Line]:
-        """The lines of a section, with their bytes."""
-        ends = [it[0] for it in self.parts[1:]]
-        ends.append(self.said["offset"] if "refused" in self.said and self.parts else len(self.data))
-        return [Line(begin, self.data[begin:end], form, it) for (begin, form, it), end in zip(self.parts, ends)]
-
-    @property
-    def end(self) -> str:
-        """The end that sent it."""
-        return str(self.said.get("from", ""))
+    def __init__(self, number: int, said: Object) -> None:
+        self.number, self.said = number, said
+        self.line: int = said["line"]  # of the recording
+        self.end: str = said.get("from", "")  # that sent it
+        # Which stream of instructions it is of, and the end whose encoder it is about: what is not of an encoder is written
+        # by the decoder of the other end.
+        self.stream = "encoder" if "encoder" in said else "decoder" if "decoder" in said else None
+        self.of = self.end if self.stream == "encoder" or "section" in said else OTHER[self.end]
+        self.is_list = "lines" in said and "refused" not in said  # a section that was decoded whole
+        self.data = b""  # of the instruction or the section
+        self.arrival: Optional["Event"] = None  # of a section that was blocked: when it came
+        self.lines = NO_LINES  # of a section
+        self.field: Optional[Field] = None  # that an instruction inserts
+        self.evicted = 0  # how many entries of its encoder's table were, up to it
 
     @property
     def seconds(self) -> Optional[float]:
@@ -50,6 +40,11 @@ class Event:
             return float(self.said["time"])
         except (KeyError, ValueError):
             return None
+
+
+def size_of(it: Field) -> int:
+    """Returns what an entry takes of the capacity."""
+    return it.length + ENTRY_OVERHEAD
 
 
 @dataclass
@@ -66,7 +61,7 @@ class Entry:
     @property
     def size(self) -> int:
         """What it takes of the capacity."""
-        return self.field.length + ENTRY_OVERHEAD
+        return size_of(self.field)
 
     @property
     def last_referenced(self) -> int:
@@ -107,9 +102,9 @@ class Direction:
 
     def apply(self, event: Event) -> None:
         """Applies an event: an instruction changes the table, and a section references entries."""
-        for place, (_, form, _) in enumerate(event.parts):
-            if form.entry is not None:
-                self.entries[form.entry - 1].lines.append((event, place))
+        for place, shape in enumerate(event.lines.shapes):
+            if shape.entry is not None:
+                self.entries[shape.entry - 1].lines.append((event, place))
         said, table = event.said, self.tables[-1]
         if event.stream != "encoder" or "refused" in said:
             return
@@ -119,7 +114,8 @@ class Direction:
             referenced = referenced_by(said)
             if referenced is not None:
                 self.entries[referenced - 1].instructions.append(event)
-            entry = Entry(said["entry"], field_of(said), event)
+            assert event.field
+            entry = Entry(said["entry"], event.field, event)
             self.entries.append(entry)
             self.resize(event, table._replace(event=event.number, size=table.size + entry.size, inserted=entry.number))
 
@@ -170,6 +166,7 @@ class Reading:
         self.shown, self.pieces = shown, iter(pieces)
         self.piece: Optional[Piece] = None  # the last one
         self.streams: Dict[Tuple[str, str], Instructions] = {}  # by the end whose encoder each is about, and its name
+        self.windows: Dict[str, Window] = {}  # by the end of the encoder
         self.blocked: Dict[Tuple[str, int], Deque[Event]] = {}
         self.has_ends = False
         self.is_refused = False  # something in the recording
@@ -177,16 +174,12 @@ class Reading:
     def events(self) -> Iterator[Event]:
         """Yields the events. An instruction has its bytes once the next one of its stream was yielded, or all."""
         for number, said in enumerate(self.shown):
-            event = Event(number, said, owner_of(said))
-            event.stream = next((it for it in ("encoder", "decoder") if it in said), None)
-            event.is_list = "lines" in said and "refused" not in said
-            self.has_ends = self.has_ends or "from" in said
+            event = Event(number, said)
+            self.has_ends = self.has_ends or event.end != ""
             self.is_refused = self.is_refused or "refused" in said
             self.read_up_to(event.line)
             if event.stream:
-                stream = self.stream(event.of, event.stream)
-                stream.end(said[event.stream])
-                stream.last = event
+                self.take_instruction(event, event.stream)
             elif "given_up" in said:
                 self.blocked.pop((event.of, said["given_up"]), None)
             elif "section" in said:
@@ -197,13 +190,26 @@ class Reading:
         for stream in self.streams.values():
             stream.end(stream.size)
 
+    def take_instruction(self, event: Event, name: str) -> None:
+        """Ends the instruction before one on its stream. Applies one of an encoder to the window of the table."""
+        stream = self.stream(event.of, name)
+        stream.end(event.said[name])
+        stream.last = event
+        if name == "encoder" and "instruction" in event.said and "refused" not in event.said:
+            window = self.windows.setdefault(event.of, Window())
+            event.field = window.apply(event.said)
+            event.evicted = window.evicted
+
     def ends(self) -> List[str]:
         """Returns the ends of which there are events, once all were read."""
         return ["client", "server"] if self.has_ends else [""]
 
     def stream(self, owner: str, name: str) -> Instructions:
         """Returns a stream of instructions."""
-        return self.streams.setdefault((owner, name), Instructions())
+        found = self.streams.get((owner, name))
+        if found is None:
+            found = self.streams[owner, name] = Instructions()
+        return found
 
     def read_up_to(self, line: int) -> None:
         """Takes the pieces up to a line, and the next one if there is none in that line."""
@@ -232,13 +238,8 @@ class Reading:
             event.data = self.piece.data
         if "blocked_until" in said and "refused" not in said:
             self.blocked.setdefault(key, deque()).append(event)
-        event.parts = parts_of(said.get("lines", ()))
-
-
-def owner_of(said: Object) -> str:
-    """Returns the end whose encoder an object is about: the decoder of the other end writes what is not its own."""
-    end = str(said.get("from", ""))
-    return end if "encoder" in said or "section" in said else OTHER[end]
+        if "lines" in said:
+            event.lines = said["lines"] if isinstance(said["lines"], Lines) else lines_of(said["lines"])
 
 
 # ---- How much is in a table
@@ -253,15 +254,15 @@ class Window:
     sizes: Deque[int] = field(default_factory=deque)  # of its entries, the oldest first
     evicted: int = 0  # how many entries were
 
-    def apply(self, said: Object) -> int:
-        """Applies an instruction, and returns the size of the entry that it inserts, or 0."""
-        added = 0
+    def apply(self, said: Object) -> Optional[Field]:
+        """Applies an instruction, and returns the field that it inserts, if it does."""
+        added: Optional[Field] = None
         if said["instruction"] == "set capacity":
             self.capacity = said["capacity"]
         elif "entry" in said:
-            added = field_of(said).length + ENTRY_OVERHEAD
-            self.sizes.append(added)
-            self.size += added
+            added = field_of(said)
+            self.sizes.append(size_of(added))
+            self.size += self.sizes[-1]
         while self.size > self.capacity:
             self.size -= self.sizes.popleft()
             self.evicted += 1
@@ -281,7 +282,7 @@ class Connection:
 
     def take(self, event: Event) -> None:
         """Keeps an event."""
-        event.said.pop("lines", None)  # which it has with their bytes
+        event.said.pop("lines", None)  # which it has itself
         self.events.append(event)
 
     def finish(self, ends: List[str]) -> None:

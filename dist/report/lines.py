@@ -1,21 +1,22 @@
 """The lines of a section, as qpk show prints them as JSON, and the fields that they have.
 
-A connection has few forms and fields, and many lines: so the lines of an object stay a text, of which each form and each
-field is read once.
+A connection has few forms and fields, and many lines. So what lines have in common is read once, as a shape: all but the
+offset, and but for the index of a line of the dynamic table, which follows from its entry and the base of the section.
 """
 
 import json
-from typing import Any, Dict, List, NamedTuple, Optional, Sequence, Tuple
+from typing import Any, Dict, Iterable, List, NamedTuple, Optional
 
 Object = Dict[str, Any]
 FIRST = b',"lines":['  # begins the lines of an object; no string of JSON has these bytes
 NEXT = b'{"offset":'  # begins each line
-FIELD = b'},"name":'  # is between the form and the field of a line
-DYNAMIC = b',"form":{"type":"dynamic","index":'  # begins a form of the dynamic table, after the offset
-ENTRY = b',"entry":'  # is between its index and its entry
-END = b"}]"  # ends the lines
-new_tuple = tuple.__new__  # of a named tuple: half of its time
-MOST_KEPT = 1 << 14  # forms, and fields, that are kept at once
+FORM = b',"form":'  # is between the offset of a line and its form
+FIELD = b'},"name":'  # is between the form and the field
+OF_TABLE = (b'{"type":"dynamic",', b'{"type":"post-base",')  # begin a form of the dynamic table: its index, and its entry
+ENTRY = b',"entry":'  # is between these
+END, AFTER = b"}]", b"},"  # what ends the last line, and each other one
+MOST_KEPT = 1 << 14  # shapes that are kept at once
+read_object = json.JSONDecoder().raw_decode  # half of the time of json.loads
 
 
 class Field(NamedTuple):
@@ -41,25 +42,18 @@ def bytes_of_text(text: Any) -> bytes:
     return data
 
 
+def is_in_qif(it: Field) -> bool:
+    """Whether a line of QIF can have a field."""
+    return b"\n" not in it.name + it.value and b"\t" not in it.name and not it.name.startswith(b"#")
+
+
 class Form(NamedTuple):
-    """How a line has its field."""
+    """How lines have their field, as qpk prints it in each section."""
 
     how: str  # static, dynamic, static-name, dynamic-name or literal
     entry: Optional[int]  # that it references, for its name at least
-    source: str  # its type, as qpk printed it
-    index: int  # of one that has no literal, else -1
-    members: Optional[Object] = None  # of others than dynamic ones
-    words: str = ""  # the same
-
-    @property
-    def said(self) -> Object:
-        """The form as qpk printed it."""
-        return self.members or {"type": self.source, "index": self.index, "entry": self.entry}
-
-    @property
-    def text(self) -> str:
-        """The form as qpk show prints it."""
-        return self.words or shown_form(self.said)
+    said: Object  # as qpk printed it
+    words: str  # as qpk show prints it
 
 
 def form_of(said: Object) -> Form:
@@ -67,7 +61,25 @@ def form_of(said: Object) -> Form:
     names = said.get("name_from", said)
     source = "dynamic" if "entry" in names else names["type"]
     how = f"{source}-name" if names is not said and source != "literal" else source
-    return Form(how, names.get("entry"), said["type"], said.get("index", -1), said, shown_form(said))
+    return Form(how, names.get("entry"), said, shown_form(said))
+
+
+class Shape:
+    """What lines have in common: how each has its field, and the field."""
+
+    __slots__ = ("how", "entry", "form", "field", "is_in_qif")
+
+    def __init__(self, form: Form, field: Field) -> None:
+        self.how, self.entry = form[:2]
+        self.form, self.field = form, field  # the form is that of one line
+        self.is_in_qif = is_in_qif(field)
+
+    def form_at(self, base: int) -> Object:
+        """Returns the form as qpk prints it of a line of a section with this base."""
+        if self.how != "dynamic" or self.entry is None:
+            return self.form.said
+        kind, index = ("dynamic", base - self.entry) if self.entry <= base else ("post-base", self.entry - base - 1)
+        return {"type": kind, "index": index, "entry": self.entry}
 
 
 def shown_form(form: Object) -> str:
@@ -80,70 +92,71 @@ def shown_form(form: Object) -> str:
     return f"{form['type']} {form['index']}{entry}"
 
 
-Part = Tuple[int, Form, Field]  # the offset of a line, its form and its field
+class Lines:
+    """The lines of a section: their shapes, and where they begin. The offsets are read when somebody asks for them."""
+
+    __slots__ = ("shapes", "texts")
+
+    def __init__(self, shapes: List[Shape], texts: List[bytes]) -> None:
+        self.shapes, self.texts = shapes, texts  # each text begins with the offset, and a comma
+
+    def offset(self, place: int) -> int:
+        """Returns the offset of a line."""
+        return self.offsets()[place]
+
+    def offsets(self) -> List[int]:
+        """Returns the offsets of all lines."""
+        return [int(it[: it.index(b",")]) for it in self.texts]
 
 
-class Line(NamedTuple):
-    """A line of a section, with its bytes."""
-
-    offset: int
-    data: bytes
-    form: Form
-    field: Field
+NO_LINES = Lines([], [])
 
 
 class Objects:
-    """Reads the objects that qpk show prints, a line each. The lines of a section are read as parts."""
+    """Reads the objects that qpk show prints, a line each. The lines of a section are read by their shapes."""
 
     def __init__(self) -> None:
+        self.known: Dict[bytes, Shape] = {}  # by the text after the offset, or of the dynamic table by that after the index
         self.forms: Dict[bytes, Form] = {}
-        self.fields: Dict[bytes, Field] = {}
 
     def read(self, text: bytes) -> Object:
         """Reads an object."""
         head, mark, rest = text.partition(FIRST)
         lines, end, tail = rest.rpartition(END)
         if not mark or not end:
-            found: Object = json.loads(text.decode())
-            return found
-        found = json.loads((head + tail).decode())
-        found["lines"] = self.parts(lines)
+            return read_object(text.decode())[0]  # type: ignore[no-any-return]
+        found: Object = read_object((head + tail).decode())[0]
+        found["lines"] = self.lines(lines + AFTER)
         return found
 
-    def parts(self, text: bytes) -> List[Part]:
-        """Reads the lines of a section. Most are dynamic, with another index in each section."""
-        forms, fields, found = self.forms, self.fields, []
-        for line in text.split(NEXT)[1:]:
-            form_text, _, field_text = line.partition(FIELD)
-            field = fields.get(field_text) or self.read_field(field_text)
-            dynamic = form_text.split(DYNAMIC)
-            if len(dynamic) == 2:
-                index, entry = dynamic[1].split(ENTRY)
-                form = new_tuple(Form, ("dynamic", int(entry), "dynamic", int(index), None, ""))
-                found.append((int(dynamic[0]), form, field))
-            else:
-                offset, _, form_text = form_text.partition(b",")
-                found.append((int(offset), forms.get(form_text) or self.read_form(form_text), field))
-        return found
+    def lines(self, text: bytes) -> Lines:
+        """Reads the lines of a section."""
+        known, shapes, texts = self.known, [], text.split(NEXT)[1:]
+        for it in texts:
+            shapes.append(known.get(it.partition(ENTRY)[2]) or known.get(it.partition(b",")[2]) or self.read_shape(it))
+        return Lines(shapes, texts)
+
+    def read_shape(self, text: bytes) -> Shape:
+        """Reads the shape of a line, and keeps it."""
+        if len(self.known) >= MOST_KEPT:
+            self.known.clear()
+        form, _, field = text.partition(FORM)[2].partition(FIELD)
+        shape = Shape(self.read_form(form), field_of(read_object('{"name":' + field.decode())[0]))
+        self.known[text.partition(ENTRY if shape.how == "dynamic" else b",")[2]] = shape
+        return shape
 
     def read_form(self, text: bytes) -> Form:
-        """Reads a form, and keeps it."""
-        if len(self.forms) >= MOST_KEPT:
-            self.forms.clear()
-        self.forms[text] = form_of(json.loads(b"{%b}}" % text)["form"])
+        """Reads a form, without its last bracket. All are kept but those of the dynamic table, which are many."""
+        if text.startswith(OF_TABLE):
+            return Form("dynamic", int(text.rpartition(b":")[2]), {}, "")
+        if text not in self.forms:
+            if len(self.forms) >= MOST_KEPT:
+                self.forms.clear()
+            self.forms[text] = form_of(read_object(text.decode() + "}")[0])
         return self.forms[text]
 
-    def read_field(self, text: bytes) -> Field:
-        """Reads a field, and keeps it."""
-        if len(self.fields) >= MOST_KEPT:
-            self.fields.clear()
-        begin = text[: -len("},")] if text.endswith(b"},") else text
-        self.fields[text] = field_of(json.loads(b'{"name":%b}' % begin))
-        return self.fields[text]
 
-
-def parts_of(lines: Sequence[Any]) -> Sequence[Part]:
-    """Returns lines as parts: they are, or else objects that qpk printed."""
-    if not lines or isinstance(lines[0], tuple):
-        return lines
-    return [(it["offset"], form_of(it["form"]), field_of(it)) for it in lines]
+def lines_of(objects: Iterable[Object]) -> Lines:
+    """Returns the lines that objects are which qpk printed."""
+    shapes = [Shape(form_of(it["form"]), field_of(it)) for it in objects]
+    return Lines(shapes, [b"%d," % it["offset"] for it in objects])

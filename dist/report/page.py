@@ -95,7 +95,7 @@ class PageMaker:
         """Adds a recorded connection."""
         verdict, count = Verdict(), Count()
         verdict.take(recording.check())
-        columns = Columns(self.texts, {it["line"] for it in verdict.faults})
+        columns = Columns(self.texts, {it["line"] for it in verdict.faults}, recording.packets)
         reading = Reading(recording.show(), recording.pieces())
         for event in reading.events():
             count.take(event)

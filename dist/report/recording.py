@@ -9,7 +9,7 @@ from contextlib import contextmanager
 from dataclasses import dataclass
 from io import BytesIO, TextIOWrapper
 from pathlib import Path
-from typing import Any, BinaryIO, Dict, Iterator, List, Optional, Sequence
+from typing import BinaryIO, Iterable, Iterator, List, Optional, Protocol, Sequence
 
 from qpk_lines import Piece, is_capture, pieces_of_lines
 from qpk_main import standard_input
@@ -43,6 +43,13 @@ class Source:
         return [word for name, number in given.items() if number is not None for word in (name, str(number))]
 
 
+class Judge(Protocol):
+    """Adds what a capture has beside its lines to what qpk check prints of these."""
+
+    def lines(self, printed: Iterable[bytes]) -> Iterator[bytes]:
+        """Yields the objects that qpk check prints of the capture, a line each."""
+
+
 @dataclass(frozen=True)
 class Recording:
     """A recorded connection, and the words with which qpk reads it."""
@@ -51,7 +58,8 @@ class Recording:
     data: bytes
     words: Sequence[str]
     number: Optional[int] = None  # of a connection of a capture
-    judged: Optional[List[Object]] = None  # what qpk check prints of a capture, if that was asked
+    judge: Optional["Judge"] = None  # of a capture
+    packets: Sequence[int] = ()  # of a capture, by its lines
 
     def show(self) -> Iterator[Object]:
         """Yields what qpk shows, an object a line. Its lines are parts."""
@@ -60,7 +68,8 @@ class Recording:
 
     def check(self) -> Iterator[Object]:
         """Yields what qpk check prints, as objects."""
-        return iter(self.judged) if self.judged is not None else map(json.loads, self._printed("check", (0, 1)))
+        printed = self._printed("check", (0, 1))
+        return map(json.loads, self.judge.lines(printed) if self.judge else printed)
 
     def _printed(self, command: str, statuses: Sequence[int]) -> Iterator[bytes]:
         with tempfile.TemporaryFile() as recording:
@@ -135,71 +144,29 @@ def pieces_of_records(file: BinaryIO) -> Iterator[Piece]:
 # ---- What a word of a command names
 
 
-def read_recordings(source: Source, is_judged: bool = False) -> List[Recording]:
-    """Returns the recordings that a command is about: one, or one for each connection of a capture.
-
-    Those of a capture have what qpk check prints of them, if that is asked. A recording asks for itself.
-    """
+def read_recordings(source: Source) -> List[Recording]:
+    """Returns the recordings that a command is about: one, or one for each connection of a capture."""
     if source.pdml is not None:
-        data = standard_input() if source.pdml == "-" else None
-        return read_capture(source, [f"--pdml={source.pdml}"], data, is_judged)
+        return read_capture(source, None)
     if source.file != "-" and not os.path.isfile(source.file):
         raise ReportError(f"{source.file} is not a file that can be read")
     data = standard_input() if source.file == "-" else Path(source.file).read_bytes()
     has_words = source.keys is not None or source.connection is not None or source.by is not None
     if has_words or not source.is_qif and is_scripted(data[:64]):
-        return read_capture(source, ["--", source.file], data if source.file == "-" else None, is_judged)
+        return read_capture(source, data)
     words = [*source.limits(), *(["--qif"] if source.is_qif else [])]
     name = "standard input" if source.file == "-" else os.path.basename(source.file)
     return [Recording(name.encode(errors="replace").decode(), data, words)]
 
 
 def is_scripted(head: bytes) -> bool:
-    """Whether a file that begins with these bytes is read by qpk-capture: a capture or a trace."""
+    """Whether a file that begins with these bytes is a capture or a trace."""
     return is_capture(head) or is_trace(head)
 
 
-def read_capture(source: Source, words: List[str], data: Optional[bytes], is_judged: bool) -> List[Recording]:
-    """Returns the recordings that qpk-capture makes of a capture. What it says on standard error is passed on."""
-    ran = run_on_capture(source, ["lines"], words, data)
-    if ran.returncode:
-        raise ReportError("the capture can't be read, as said above")
-    judged = judge_capture(source, words, data) if is_judged else {}
-    found = []
-    for part in re.split(rb"^# ", ran.stdout, flags=re.M)[1:]:
-        name, _, lines = part.partition(b"\n")
-        digits = re.match(rb"connection (\d+)", name)
-        number = int(digits[1]) if digits else None
-        text = name.decode(errors="replace")
-        found.append(Recording(text, lines, source.limits(), number, judged.get(number)))
-    return found
+def read_capture(source: Source, data: Optional[bytes]) -> List[Recording]:
+    """Returns the recordings that the connections of a capture are, or of what tshark printed. Says what is missing."""
+    # Of a recording these modules, which decrypt, would take a tenth of a second.
+    from .capture import recordings_of  # pylint: disable=import-outside-toplevel
 
-
-def judge_capture(source: Source, words: List[str], data: Optional[bytes]) -> Dict[Optional[int], List[Object]]:
-    """Returns what qpk check prints of each connection of a capture, by its number, as objects."""
-    ran = run_on_capture(source, ["check", "--json", *source.limits()], words, data, stderr=subprocess.DEVNULL)
-    judged: Dict[Optional[int], List[Object]] = {}
-    own: List[Object] = []
-    for it in map(json.loads, ran.stdout.splitlines()):
-        if "connection" in it:
-            own = judged[it["connection"]] = []
-        else:
-            own.append(it)
-    return {number: own for number, own in judged.items() if any("fault" in it or "findings" in it for it in own)}
-
-
-def run_on_capture(
-    source: Source, command: List[str], words: List[str], data: Optional[bytes], **options: Any
-) -> "subprocess.CompletedProcess[bytes]":
-    """Runs a command of qpk-capture on what a source names."""
-    command = [find_program("qpk-capture"), *command]
-    command += [] if source.keys is None else [f"--keys={source.keys}"]
-    command += [] if source.connection is None else ["--connection", str(source.connection)]
-    command += [] if source.by is None else [f"--by={source.by}"]
-    environment = {**os.environ, "QPK": program_of_qpk()}
-    try:
-        return subprocess.run(
-            [*command, *words], input=data, stdout=subprocess.PIPE, check=False, env=environment, **options
-        )
-    except FileNotFoundError:
-        raise ReportError("a capture is read by qpk-capture, which is neither beside qpk-report nor in PATH") from None
+    return list(recordings_of(source, data))

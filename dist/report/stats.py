@@ -2,19 +2,21 @@
 
 import tempfile
 from array import array
-from collections import defaultdict
+from collections import Counter, defaultdict
 from dataclasses import asdict, dataclass, field
-from functools import lru_cache
-from typing import Any, BinaryIO, Dict, Iterator, List, NamedTuple, Optional, Tuple
+from operator import attrgetter, mul
+from typing import Any, BinaryIO, Dict, Iterable, Iterator, List, NamedTuple, Optional, Tuple
 
 from . import ReportError
 from .connection import Event, Reading, Window, referenced_by
-from .lines import MOST_KEPT, Field, Object
+from .lines import MOST_KEPT, Object, Shape
 from .recording import pieces_of_records, qpk_on
 
 BLOCKS = "▁▂▃▄▅▆▇█"
 BLOCKS_OF_ASCII = "_.,-=+*#"
 MOST_BLOCKS = 72  # in a line of text
+PREFIX = 2  # bytes of that of a section without a dynamic table (RFC 9204, section 4.5.1)
+IS_IN_QIF = attrgetter("is_in_qif")
 NAMES = {  # of what a line has from where
     "static": "static",
     "dynamic": "dynamic",
@@ -22,6 +24,29 @@ NAMES = {  # of what a line has from where
     "dynamic-name": "name dynamic",
     "literal": "literal",
 }
+
+
+class Fields:
+    """How often fields are in lists, and each in QIF, to be encoded once without a dynamic table."""
+
+    def __init__(self) -> None:
+        self.qif: BinaryIO = tempfile.TemporaryFile()  # a list for each
+        self.times = array("Q")
+
+    def add(self, it: Shape, times: int) -> None:
+        """Adds the field of a shape."""
+        self.qif.write(b"%b\t%b\n\n" % it.field)
+        self.times.append(times)
+
+    def size(self, lists: int) -> int:
+        """Returns the bytes of the sections of that many lists, as qpk encodes each field without a dynamic table: there it
+        writes a line of each, whatever is beside it."""
+        self.qif.seek(0)
+        with qpk_on(["encode", "--qif", "0", "0", "0"], self.qif) as records:
+            sizes = [len(it.data) - PREFIX for it in pieces_of_records(records) if it.kind == "b"]
+        if len(sizes) != len(self.times):
+            raise ReportError(f"qpk encoded {len(sizes)} of {len(self.times)} lists")
+        return PREFIX * lists + sum(map(mul, sizes, self.times))
 
 
 class ListBytes(NamedTuple):
@@ -84,8 +109,8 @@ class Counting:
     hits: Dict[str, int] = field(default_factory=lambda: dict.fromkeys(NAMES, 0))
     lists_not_counted: int = 0
     counted_bytes: int = 0  # of the sections of the others
-    qif: BinaryIO = field(default_factory=tempfile.TemporaryFile)  # the others in QIF
-    window: Window = field(default_factory=Window)
+    lines: "Counter[Shape]" = field(default_factory=Counter)  # of the others, since it was counted how they have their fields
+    without_table: Fields = field(default_factory=Fields)  # of the others
     referenced: bytearray = field(default_factory=bytearray)  # 1 for each entry that is
     duplicates: int = 0
     blocked_sections: int = 0
@@ -100,24 +125,21 @@ class Counting:
     def take(self, event: Event) -> None:
         """Counts an event."""
         said = event.said
-        referenced = self.referenced
-        for _, form, _ in event.parts:
-            if form.entry is not None:
-                referenced[form.entry - 1] = 1
-        if "max_capacity" in said:
-            self.settings = self.settings or said
-        elif event.stream == "encoder":
-            self.take_instruction(said)
-        elif "section" in said:
+        if "section" in said:
             self.take_section(event)
+        elif event.stream == "encoder":
+            self.take_instruction(event)
+        elif "max_capacity" in said:
+            self.settings = self.settings or said
 
-    def take_instruction(self, said: Object) -> None:
+    def take_instruction(self, event: Event) -> None:
         """Counts an instruction of the encoder stream."""
+        said = event.said
         self.end_instruction(said["encoder"])
         if "instruction" not in said or "refused" in said:
             return
         self.last = said["encoder"]
-        if self.window.apply(said):
+        if event.field:
             self.duplicates += said["instruction"] == "duplicate"
             entry = referenced_by(said)
             if entry is not None:
@@ -140,6 +162,7 @@ class Counting:
         self.blocked_sections += "blocked_until" in event.said and "refused" not in event.said
         if not event.is_list:
             self.sections_not_decoded += 1
+            self.refer(event.lines.shapes)
             return
         if self.last is not None and self.list_after is None:
             self.list_after = len(self.lists[0])
@@ -147,7 +170,7 @@ class Counting:
         for numbers, it in zip(self.lists, taken):
             numbers.append(it)
         self.instructions = 0
-        self.take_fields(event)
+        self.take_lines(event)
 
     def take_arrival(self, event: Event, arrival: Event) -> None:
         """Counts how long a section was blocked. Its arrival is no section of its own."""
@@ -160,29 +183,49 @@ class Counting:
         else:
             self.blocked_seconds += end - begin
 
-    def take_fields(self, event: Event) -> None:
-        """Counts the fields of a list, and writes them in QIF, if that can have them."""
-        self.fields += len(event.parts)
-        hits = self.hits
-        for _, form, _ in event.parts:
-            hits[form.how] += 1
-        sizes, lines_of_qif = zip(*[written(it) for _, _, it in event.parts]) if event.parts else ((), ())
-        self.list_bytes += sum(sizes)
-        if None in lines_of_qif:
+    def take_lines(self, event: Event) -> None:
+        """Counts the lines of a list: those of most lists together later, those of one that QIF can't have now."""
+        shapes = event.lines.shapes
+        if not all(map(IS_IN_QIF, shapes)):
             self.lists_not_counted += 1
-        else:
-            self.counted_bytes += len(event.data)
-            self.qif.write(b"".join([*lines_of_qif, b"\n"]))  # type: ignore[list-item]
+            self.count(Counter(shapes))
+            return
+        self.counted_bytes += len(event.data)
+        self.lines.update(shapes)
+        if len(self.lines) > MOST_KEPT:
+            self.count_lines()
+
+    def count_lines(self) -> None:
+        """Counts the lines that wait for it."""
+        self.count(self.lines)
+        for it, times in self.lines.items():
+            self.without_table.add(it, times)
+        self.lines.clear()
+
+    def count(self, lines: "Counter[Shape]") -> None:
+        """Counts how lines have their fields."""
+        for it, times in lines.items():
+            self.fields += times
+            self.hits[it.how] += times
+            self.list_bytes += times * it.field.length
+        self.refer(lines)
+
+    def refer(self, shapes: Iterable[Shape]) -> None:
+        """Notes which entries lines reference."""
+        for it in shapes:
+            if it.entry is not None:
+                self.referenced[it.entry - 1] = 1
 
     def bytes_of_lists(self) -> Iterator[ListBytes]:
         """Yields what each list took, in the order in which they were decoded."""
         return map(ListBytes, *self.lists)
 
-    def numbers(self, encoder_bytes: int, decoder_bytes: int) -> Numbers:
-        """Returns the numbers, once all events were counted, with the bytes of the two streams."""
+    def numbers(self, encoder_bytes: int, decoder_bytes: int, evictions: int) -> Numbers:
+        """Returns the numbers, once all events were counted, with the bytes of the two streams, and the evictions."""
         self.end_instruction(encoder_bytes)
+        self.count_lines()
         sections = len(self.lists[0])
-        without = bytes_without_table(self.qif, sections - self.lists_not_counted)
+        without = self.without_table.size(sections - self.lists_not_counted)
         is_timed = self.arrivals > 0 and self.blocked_seconds is not None
         return Numbers(
             sections=sections,
@@ -199,7 +242,7 @@ class Counting:
             insertions=len(self.referenced),
             never_referenced=self.referenced.count(0),
             duplicates=self.duplicates,
-            evictions=self.window.evicted,
+            evictions=evictions,
             blocked_sections=self.blocked_sections,
             blocked_lines=self.blocked_lines,
             blocked_seconds=round(self.blocked_seconds or 0.0, 9) if is_timed else None,
@@ -222,31 +265,7 @@ class Count:
         for end in reading.ends():
             counting = self.directions[end]
             sizes = [reading.stream(end, name).size for name in ("encoder", "decoder")]
-            yield end, counting, counting.numbers(*sizes)
-
-
-# ---- The same lists without a dynamic table
-
-
-@lru_cache(MOST_KEPT)
-def written(it: Field) -> Tuple[int, Optional[bytes]]:
-    """Returns the bytes of the name and value of a field, and its line of QIF, if that can have it."""
-    return it.length, b"%b\t%b\n" % it if is_in_qif(it) else None
-
-
-def is_in_qif(it: Field) -> bool:
-    """Whether a line of QIF can have a field."""
-    return b"\n" not in it.name + it.value and b"\t" not in it.name and not it.name.startswith(b"#")
-
-
-def bytes_without_table(qif: BinaryIO, lists: int) -> int:
-    """Returns the bytes of a number of lists in QIF as qpk encodes them without a dynamic table."""
-    qif.seek(0)
-    with qpk_on(["encode", "--qif", "0", "0", "0"], qif) as records:
-        sizes = [len(it.data) for it in pieces_of_records(records) if it.kind == "b"]
-    if len(sizes) != lists:
-        raise ReportError(f"qpk encoded {len(sizes)} of {lists} lists")
-    return sum(sizes)
+            yield end, counting, counting.numbers(*sizes, reading.windows.get(end, Window()).evicted)
 
 
 # ---- What is printed

@@ -4,6 +4,7 @@ from typing import Any, Dict, Iterator, List, Tuple
 
 from . import ReportError
 from .connection import Connection, Direction, Entry, Event
+from .lines import Object, shown_form
 from .texts import place_of, shown_field, title_of
 
 
@@ -76,11 +77,15 @@ def event_object(event: Event) -> Dict[str, Any]:
     return {name: event.said[name] for name in kept if name in event.said}
 
 
+def form_of(event: Event, place: int) -> Object:
+    """Returns the form of a line of a section."""
+    return event.lines.shapes[place].form_at(event.said["base"])
+
+
 def life_as_object(direction: Direction, entry: Entry) -> Dict[str, Any]:
     """Returns the life of an entry as an object for JSON."""
     lines = [
-        {**event_object(event), "offset": event.parts[place][0], "form": event.parts[place][1].said}
-        for event, place in entry.lines
+        {**event_object(event), "offset": event.lines.offset(place), "form": form_of(event, place)} for event, place in entry.lines
     ]
     inserted = {**event_object(entry.inserted), "bytes": entry.inserted.data.hex()}
     return {
@@ -99,8 +104,8 @@ def life_as_text(direction: Direction, entry: Entry) -> Iterator[str]:
     yield f"{owner}entry {entry.number}, {entry.size} bytes, {shown_field(entry.field)}"
     yield f"  inserted: {place_of(entry.inserted)}: {title_of(entry.inserted)}; bytes {entry.inserted.data.hex()}"
     for event, place in entry.lines:
-        offset, form, _ = event.parts[place]
-        yield f"  referenced: {place_of(event)}: section {event.said['section']}, byte {offset}: {form.text}"
+        text = shown_form(form_of(event, place))
+        yield f"  referenced: {place_of(event)}: section {event.said['section']}, byte {event.lines.offset(place)}: {text}"
     for event in entry.instructions:
         verb = "duplicated" if event.said["instruction"] == "duplicate" else "its name referenced"
         yield f"  {verb}: {place_of(event)}: {title_of(event)}"

@@ -8,6 +8,9 @@ PRINTABLE = range(0x20, 0x7F)
 
 def shown(data: bytes, is_name: bool = False) -> str:
     """Returns bytes as text, as qpk show does: a backslash is doubled, and other signs are \\x and two digits."""
+    text = data.decode("latin-1")
+    if text.isascii() and text.isprintable() and "\\" not in text and not (is_name and " " in text):
+        return text
     parts = []
     for byte in data:
         if byte == 0x5C:

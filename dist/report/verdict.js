@@ -57,7 +57,7 @@ function findings({connection, details}) {
   if (verdict.seen) made.append(element('p', verdict.lacks ? 'seen lacks' : 'seen', verdict.seen));
   made.append(...leftOut.map(text => element('p', 'left-out', text)));
   const item = fault => {
-    const place = `line ${fault.line}${fault.time ? ', ' + fault.time : ''}${fault.from ? ', ' + fault.from : ''}`;
+    const place = `line ${fault.line}${fault.packet ? `, packet ${fault.packet}` : ''}${fault.time ? ', ' + fault.time : ''}${fault.from ? ', ' + fault.from : ''}`;
     return element('li', fault.perhaps ? 'perhaps' : 'wrong',
       fault.event === null ? place : details.link(fault.event, place), ': ', textOfFault(fault));
   };

@@ -1,6 +1,7 @@
 """The words of qpk report, stats and table, and what each does."""
 
 import argparse
+import gc
 import json
 import locale
 import sys
@@ -119,7 +120,7 @@ def parser_of(command: str) -> Parser:
     parser.add_argument("-h", "--help", nargs=0, action=PrintHelp)
     parser.add_argument("file", nargs="?", metavar="FILE")
     parser.add_argument("--keys", metavar="KEYLOG")
-    parser.add_argument("--by", metavar="PROGRAM")
+    parser.add_argument("--by", choices=("libcrypto", "tshark"))
     parser.add_argument("--pdml", metavar="FILE")
     for option in ("--connection", "--max-capacity", "--max-blocked"):
         parser.add_argument(option, type=number, metavar="N")
@@ -283,11 +284,12 @@ def answer(words: argparse.Namespace) -> int:
     source = Source(
         words.file, words.keys, words.pdml, words.connection, words.max_capacity, words.max_blocked, words.qif, words.by
     )
-    recordings = read_recordings(source, is_judged=words.command == "report")
+    recordings = read_recordings(source)
     return REFUSED_PART if COMMANDS[words.command](words, recordings) else 0
 
 
 def main() -> int:
     """Answers the words of the script, and returns the status."""
+    gc.disable()  # no object refers to itself over others, and the search for such ones takes a tenth of the time
     words = read_words(sys.argv[1:])
     return run(f"qpk {words.command}", lambda: answer(words))
