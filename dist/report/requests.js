@@ -42,7 +42,7 @@ function hasField(connection, name, value) {
 const FINDINGS = {'': '', doubtful: 'perhaps', faulty: 'wrong'}; // the words for what faults together are
 const has = name => ({requests}) => requests.some(request => request[name]);
 const COLUMNS = [
-  {key: 'packet', text: 'Packet', className: 'number wide', width: '5.4em', isWide: true, isThere: ({packets}) => packets,
+  {key: 'packet', text: 'Packet', className: 'number wide', width: '6.2em', isWide: true, isThere: ({packets}) => packets,
     value: (request, connection) => connection.packet(request.event) ?? NONE},
   {key: 'begin', text: 'Time', className: 'number wide', width: '6.4em', isWide: true, isThere: ({hasTimes}) => hasTimes,
     value: ({begin}) => begin, textOf: ({event}, connection) => connection.time(event)},

@@ -19,7 +19,9 @@ KEYS = {'Tab': 9, 'Enter': 13, 'Escape': 27, 'PageDown': 34, 'End': 35, 'Home': 
 class Browser:
     """Chromium without a window. Close it at the end."""
 
-    def __init__(self, room, width=1200, height=1000):
+    name, program, schemes = 'Chromium', PROGRAM, ('light', 'dark')
+
+    def __init__(self, room, more=()):
         own_read, its_write = os.pipe()
         its_read, own_write = os.pipe()
         passed = [fcntl.fcntl(it, fcntl.F_DUPFD, 10) for it in (its_read, its_write)]
@@ -27,8 +29,8 @@ class Browser:
             [PROGRAM, '--headless=new', '--no-sandbox', '--disable-gpu', '--disable-dev-shm-usage', '--no-first-run',
              '--disable-extensions', '--disable-background-networking', '--disable-component-update',
              '--hide-scrollbars', '--no-proxy-server', '--host-resolver-rules=MAP * ~NOTFOUND',
-             f'--window-size={width},{height}', '--force-device-scale-factor=1', f'--user-data-dir={room}/profile',
-             '--remote-debugging-pipe', 'about:blank'],
+             '--window-size=1200,1000', '--force-device-scale-factor=1', f'--user-data-dir={room}/profile',
+             '--remote-debugging-pipe', *more, 'about:blank'],
             pass_fds=(3, 4), preexec_fn=lambda: [os.dup2(fd, number) for fd, number in zip(passed, (3, 4))],
             env={**os.environ, 'TMPDIR': room}, stdout=subprocess.DEVNULL, stderr=subprocess.DEVNULL, start_new_session=True)
         for it in (its_read, its_write, *passed):
@@ -78,6 +80,7 @@ class Page:
 
     def __init__(self, browser, session, target):
         self.browser, self.session, self.target = browser, session, target
+        browser.call('Performance.enable', session, timeDomain='threadTicks')
 
     def close(self):
         """Closes it."""
@@ -116,13 +119,18 @@ class Page:
         self.browser.call('Input.dispatchKeyEvent', self.session, type='keyDown', **words)
         self.browser.call('Input.dispatchKeyEvent', self.session, type='keyUp', key=key)
 
+    def click(self, expression):
+        """Clicks in the middle of the element that an expression gives."""
+        x, y = self.ask(f'(it => [it.left + it.width / 2, it.top + it.height / 2])(({expression}).getBoundingClientRect())')
+        for kind in ('mousePressed', 'mouseReleased'):
+            self.browser.call('Input.dispatchMouseEvent', self.session, type=kind, x=x, y=y, button='left', clickCount=1)
+
     def type(self, text):
         """Types a text."""
         self.browser.call('Input.insertText', self.session, text=text)
 
     def processor(self):
-        """Returns the seconds of the processor that its thread took, once it was asked before the page was opened."""
-        self.browser.call('Performance.enable', self.session, timeDomain='threadTicks')
+        """Returns the seconds of the processor that its thread took."""
         found = self.browser.call('Performance.getMetrics', self.session)['metrics']
         return next(it['value'] for it in found if it['name'] == 'TaskDuration')
 

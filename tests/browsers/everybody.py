@@ -2,6 +2,8 @@
 
 The checks are those that such tools make, written as one expression that runs in the page.
 """
+import itertools
+
 from nghttp3 import Failure
 
 LEAST_CONTRAST = 4.5  # of a text and what is behind it (WCAG 2.2, 1.4.3)
@@ -60,7 +62,7 @@ def check(pages):
     """Checks the page light and dark, wide and narrow, whole and with findings, as requests and as timeline."""
     looked = 0
     for html in (pages.report(), pages.faulty_report()):
-        for width, scheme in ((1280, 'light'), (1280, 'dark'), (400, 'light'), (400, 'dark')):
+        for width, scheme in itertools.product((1280, 400), pages.browser.schemes):
             page = pages.open(html, '', width, scheme)
             page.ask("document.querySelectorAll('details').forEach(it => { it.open = true; })")
             for view in ('requests', 'timeline'):
@@ -70,7 +72,7 @@ def check(pages):
                     raise Failure(f'{width} pixels, {scheme}, {view}: {wrong}')
                 looked += 1
     number = page.printed()
-    if number > MOST_PAGES:
+    if not 1 <= number <= MOST_PAGES:
         raise Failure(f'the page is printed on {number}')
     for name, fault in PLANTED.items():
         page = pages.open(pages.report())

@@ -1,10 +1,10 @@
 #!/usr/bin/env python3
-"""Opens reports of dist/qpk-report in headless Chromium, and reads them from the page: tests/browsers/report.py.
+"""Opens reports of dist/qpk-report in headless Chromium and Firefox, and reads them there: tests/browsers/report.py.
 
 The lists of a recorded connection with Chromium are compared with those of Chromium's own log, and both tables at
 moments with what qpk table prints. A fault in the recording must be marked, and a field with the text of a script must
-stay a text. A wrong field and a wrong entry that are planted in a page must be found. Needs chromium. It opens no
-connection.
+stay a text. A wrong field and a wrong entry that are planted in a page must be found. Needs chromium and firefox-esr, and
+leaves out the one that is not there. It opens no connection.
 
     NAME..              makes these checks alone
     --pictures FOLDER   writes pictures of the report, and tests nothing
@@ -24,9 +24,11 @@ import zlib
 from ctypes.util import find_library
 from pathlib import Path
 
+import bidi
 import devtools
 import everybody
 import keyboard
+import lists
 import processes
 import sizes
 from nghttp3 import Failure
@@ -86,7 +88,6 @@ class Pages:
         path.write_text(html, encoding='utf-8')
         page = self.browser.open('about:blank')
         page.look(width, 860, scheme)
-        page.processor()
         page.go(path.as_uri() + place)
         page.wait_for("document.body && document.body.dataset.ready === 'yes'")
         return page
@@ -95,6 +96,11 @@ class Pages:
     def report():
         """Returns the report of the recording."""
         return run('report', RECORDING)
+
+    @staticmethod
+    def run(path):
+        """Returns the report of a file in which nothing is wrong."""
+        return run('report', path)
 
     def faulty_report(self):
         """Returns the report of the recording with faults."""
@@ -316,9 +322,15 @@ CHECKS = {
     'planted faults': check_planted,
     'the keyboard': keyboard.check,
     'everybody': everybody.check,
+    'sorting': lists.check_sorting,
+    'the waterfall': lists.check_waterfall,
+    'packets': lists.check_packets,
     'any size': sizes.check,
     'processes': processes.check,
 }
+
+
+OF_CHROMIUM = ('any size', 'processes')  # the first asks for seconds of the processor, and the second needs no browser
 
 
 def take_pictures(browser, room, folder):
@@ -330,33 +342,49 @@ def take_pictures(browser, room, folder):
         (Path(folder) / name).write_bytes(page.picture())
 
 
-def main():
-    """Runs all checks."""
-    if not shutil.which(devtools.PROGRAM):
-        print(f'not shown: the page of qpk report in a browser, without {devtools.PROGRAM}\n0 passed, 0 failed')
-        return 0
+def try_checks(browser, room, names):
+    """Makes checks in a browser, and returns how many passed and failed."""
     passed = failed = 0
-    with processes.new_folder() as room:
-        browser = devtools.Browser(room)
+    for name in names:
+        about = f'{browser.name}, {name}'
         try:
-            if sys.argv[1:2] == ['--pictures']:
-                take_pictures(browser, room, sys.argv[2])
-                return 0
-            if sys.argv[1:2] == ['--sizes']:
-                sizes.write(Pages(browser, room), [int(it) for it in sys.argv[2:]] or sizes.ALL)
-                return 0
-            wanted = sys.argv[1:] or CHECKS
-            for name, check in ((it, CHECKS[it]) for it in wanted):
-                try:
-                    print(f'tests/browsers/report.py: {name}: {check(Pages(browser, room))}', flush=True)
-                    passed += 1
-                except NotShown as why:
-                    print(f'not shown: the page of qpk report: {name}, {why}', flush=True)
-                except Failure as why:
-                    print(f'tests/browsers/report.py: FAILED: {name}: {why}', flush=True)
-                    failed += 1
-        finally:
-            browser.close()
+            print(f'tests/browsers/report.py: {about}: {CHECKS[name](Pages(browser, room))}', flush=True)
+            passed += 1
+        except NotShown as why:
+            print(f'not shown: the page of qpk report: {about}, {why}', flush=True)
+        except Failure as why:
+            print(f'tests/browsers/report.py: FAILED: {about}: {why}', flush=True)
+            failed += 1
+    return passed, failed
+
+
+def measure(browser, room, words):
+    """Does what the words ask for that is no test, and returns the status."""
+    if words[0] == '--pictures':
+        take_pictures(browser, room, words[1])
+        return 0
+    slow = list(sizes.write(Pages(browser, room), [int(it) for it in words[1:]] or sizes.ALL))
+    print(*[f'it takes too long: {it}' for it in slow], sep='\n')
+    return bool(slow)
+
+
+def main():
+    """Makes all checks, or those that are named."""
+    words, counts = sys.argv[1:], [(0, 0)]
+    for kind in (devtools.Browser, bidi.Browser):
+        if not shutil.which(kind.program):
+            print(f'not shown: the page of qpk report in {kind.name}, without {kind.program}')
+            continue
+        with processes.new_folder() as room:
+            browser = kind(room)
+            try:
+                if words[:1] in (['--pictures'], ['--sizes']):
+                    return measure(browser, room, words)
+                names = [it for it in words or CHECKS if it not in OF_CHROMIUM or kind is devtools.Browser]
+                counts.append(try_checks(browser, room, names))
+            finally:
+                browser.close()
+    passed, failed = map(sum, zip(*counts))
     print(f'{passed} passed, {failed} failed')
     return failed > 0
 

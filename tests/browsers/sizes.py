@@ -17,36 +17,45 @@ TOP = Path(__file__).resolve().parents[2]
 DOCUMENT = TOP / 'docs' / 'PERFORMANCE.md'
 HEAD = '## The page of `qpk report`'
 IN_THE_GATE, ALL = (1_000, 10_000), (1_000, 10_000, 100_000)
-# Of 10,000 requests: bytes, KB, and seconds of the processor, which other work on the machine does not count in.
-MOST_BYTES, MOST_MEMORY, MOST_READY, MOST_ANSWER = 5_000_000, 150_000, 2.0, 0.2
+# Of 10,000 requests: bytes, KB, and seconds of the processor, of which a busy machine takes several times as many.
+MOST_BYTES, MOST_MEMORY, MOST_SECONDS, MOST_READY, MOST_ANSWER = 5_000_000, 150_000, 10, 2.0, 0.2
+MOST_OPEN = 5.0  # seconds by the clock until a page is ready that --sizes measures
+ABOUT = """`tests/browsers/report.py --sizes` measured these on {date}, in headless Chromium, beside other work on the machine. Each
+request has 17 fields, and its response 8. The seconds of `report` are those of the processor, with what it starts. Until the page
+is ready it is by the clock. Then follow the longest of 24 scrolls and of 5 filters, in milliseconds of the processor.
+
+| requests | MB of HTML | s of `report` | MB of memory | s until ready | ms a scroll | ms a filter |
+|---|---|---|---|---|---|---|
+"""
 FILTERS = ['status:404', 'path:/api -method:post', 'blocked', 'cookie:session=7', '']
-# Scrolls to a place of each list, and filters. Each returns once the page is laid out.
-SCROLL = '''(() => {
-    for (const view of ['requests', 'timeline']) {
-        report.choose(view);
-        const {list} = report;
-        for (let i = 0; i < 12; i++) {
-            list.element.scrollTop = (i * 7 % 12) / 11 * list.element.scrollHeight;
-            list.render();
-            void document.body.offsetHeight;
-        }
-    }
-    report.choose('requests');
-    return 24;
-})()'''
-FILTER = f'''(() => {{
-    for (const text of {FILTERS}) {{
-        report.requests.filter.value = text;
-        report.requests.update();
-        void document.body.offsetHeight;
-    }}
-    return {len(FILTERS)};
-}})()'''
+# Shows a list, scrolls to a place of it, and filters. Each returns once the page is laid out.
+SHOW = "(report.choose('{}'), document.body.offsetHeight)"
+SCROLL = """(({{element}}, list) => {{ element.scrollTop = {} * element.scrollHeight; list.render(); return document.body.offsetHeight; }})(
+    report.list, report.list)"""
+FILTER = "(report.requests.filter.value = '{}', report.requests.update(), document.body.offsetHeight)"
 
 
 def program():
     """Returns the program qpk, which ./qpk runs."""
     return str(TOP / 'qpk')
+
+
+def measure_steps(page):
+    """Returns the seconds of the processor of the longest scroll, and of the longest filter."""
+    places = [number * 7 % 12 / 11 for number in range(12)]
+    scrolls = []
+    for view in ('requests', 'timeline'):
+        page.ask(SHOW.format(view))
+        scrolls += [seconds_of(page, SCROLL.format(it)) for it in places]
+    page.ask(SHOW.format('requests'))
+    return max(scrolls), max(seconds_of(page, FILTER.format(it)) for it in FILTERS)
+
+
+def seconds_of(page, expression):
+    """Returns the seconds of the processor that an expression takes in the page."""
+    begin = page.processor()
+    page.ask(expression)
+    return page.processor() - begin
 
 
 def measure(pages, requests):
@@ -64,10 +73,7 @@ def measure(pages, requests):
     page = pages.open(page_path.read_text('utf-8'))
     found['ready'] = page.processor()
     found['clock'] = page.ask("performance.getEntriesByName('ready')[0].startTime / 1000")
-    for name, expression in (('scroll', SCROLL), ('filter', FILTER)):
-        begin = page.processor()
-        number = page.ask(expression)
-        found[name] = (page.processor() - begin) / number
+    found['scroll'], found['filter'] = measure_steps(page)
     if page.ask('report.connection.requests.length') != requests:
         raise Failure(f'a page of {requests} requests has others')
     page.close()
@@ -78,25 +84,28 @@ def check(pages):
     """Holds pages to the bounds."""
     found = [measure(pages, it) for it in IN_THE_GATE]
     for it in found:
-        if it['ready'] > MOST_READY or max(it['scroll'], it['filter']) > MOST_ANSWER:
+        if it['seconds'] > MOST_SECONDS or it['ready'] > MOST_READY or max(it['scroll'], it['filter']) > MOST_ANSWER:
             raise Failure(f'it takes too long: {it}')
         if it['bytes'] > MOST_BYTES or it['memory'] > MOST_MEMORY:
             raise Failure(f'it is too large: {it}')
     return '; '.join(f"{it['requests']} requests {it['bytes']} bytes, ready after {it['ready']:.2f} s" for it in found)
 
 
+def row_of(it):
+    """Returns the row of a page in the table."""
+    return (f"| {it['requests']:,} | {it['bytes'] / 1e6:.2f} | {it['seconds']:.1f} | {it['memory'] / 1000:.0f} | "
+            f"{it['clock']:.2f} | {1000 * it['scroll']:.0f} | {1000 * it['filter']:.0f} |\n")
+
+
 def write(pages, numbers):
-    """Writes the figures of pages of those numbers of requests into the document."""
+    """Writes the figures of pages of those numbers of requests into the document. Yields what takes too long."""
     rows = []
     for it in (measure(pages, requests) for requests in numbers):
-        rows.append(f"| {it['requests']:,} | {it['bytes'] / 1e6:.2f} | {it['seconds']:.1f} | {it['memory'] / 1000:.0f} | {it['ready']:.2f} | "
-                    f"{1000 * it['scroll']:.0f} | {1000 * it['filter']:.0f} |\n")
+        rows.append(row_of(it))
         print(rows[-1], end='', flush=True)
-    text = (f'{HEAD}\n\n`tests/browsers/report.py --sizes` measured these on {datetime.date.today()}, in headless Chromium, beside other '
-            'work on the machine. Each\nrequest has 17 fields, and its response 8. Seconds are those of the processor: of `report` with '
-            'what it starts, and of the page\nuntil it is ready, a scroll and a filter. The last two are means of 24 and 5.\n\n'
-            '| requests | MB of HTML | s of `report` | MB of memory | s until ready | ms a scroll | ms a filter |\n'
-            f'|---|---|---|---|---|---|---|\n{"".join(rows)}')
+        if it['clock'] > MOST_OPEN or max(it['scroll'], it['filter']) > MOST_ANSWER:
+            yield f"{it['requests']} requests: {rows[-1].strip()}"
+    text = f'{HEAD}\n\n{ABOUT.format(date=datetime.date.today())}{"".join(rows)}'
     before = DOCUMENT.read_text('utf-8')
     pattern = re.compile(re.escape(HEAD) + r'.*?(?=\n## |\Z)', re.S)
     after = pattern.sub(lambda _: text, before) if pattern.search(before) else f'{before.rstrip()}\n\n{text}'
