@@ -5,9 +5,9 @@ A page makes 170 requests, twelve at once, of which 20 are aborted, under four s
 compares the fields of requests and answers that it knows. nghttp3 decodes each section again, both ways, and finds the
 fields that the server logged. And the browser's own log has the same lists. One run with Chromium is captured, where
 dumpcap is installed: qpk show must read the same lists in the capture, in Chromium's net log with raw bytes and in the log of
-the server, and qpk check find nothing wrong in any. It
-needs chromium or firefox-esr, and on Debian libnss3-tools for Firefox, the packages of the server and libnghttp3-3. A
-browser that is not installed is left out. It uses addresses of this machine alone.
+the server, and qpk check find nothing wrong in any. Last, Chromium opens the live page of the server, and what that shows is
+compared with the log. It needs chromium or firefox-esr, and on Debian libnss3-tools for Firefox, the packages of the server and
+libnghttp3-3. A browser that is not installed is left out. It uses addresses of this machine alone.
 
 The last line is 'N passed, M failed'.
 
@@ -24,6 +24,7 @@ import tempfile
 import time
 
 import capture
+import live
 from browsers import BROWSERS
 from nghttp3 import Decoder, Failure
 from processes import new_folder, stop
@@ -189,8 +190,21 @@ def main():
             else:
                 found = try_settings(browser, build(f'{folder}/build', SERVER), folder, key)
             passed, failed = passed + found.count(True), failed + found.count(False)
+            if '--planted' not in sys.argv[1:] and browser.name == 'Chromium':
+                found = [try_live_page(f'{folder}/build/http3-server', folder, key)]
+                passed, failed = passed + found.count(True), failed + found.count(False)
     print(f'{passed} passed, {failed} failed')
     return failed > 0
+
+
+def try_live_page(program, folder, key):
+    """Opens the live page, and returns whether it shows what it must."""
+    try:
+        print(f'tests/browsers: Chromium, the live page: {live.check(program, folder, key, free_port())}', flush=True)
+        return True
+    except Failure as why:
+        print(f'tests/browsers: FAILED: Chromium, the live page: {why}', flush=True)
+        return False
 
 
 def try_settings(browser, program, folder, key):
