@@ -1,9 +1,10 @@
 #!/usr/bin/env bash
-# Tests the bindings for Go and Python, over the library that make builds of dist/ and installs in a folder of its own. It
-# needs a C compiler and make; for Go, go 1.19 or later and pkg-config; for Python, python3 3.8 or later, and to install the
-# package by pip, venv and flit_core (Debian: gcc, make, golang-go, pkg-config, python3, python3-venv and flit). It installs
-# by apt-get what is not there, which only root can. A language whose tools can't be had is left out, and a line says so.
-# Nothing else is needed, and no network. mypy is used where it is there. The last line is 'N passed, M failed'.
+# Tests the bindings for Go and Python, and pylsqpack over the latter, over the library that make builds of dist/ and
+# installs in a folder of its own. It needs a C compiler and make; for Go, go 1.19 or later and pkg-config; for Python,
+# python3 3.8 or later, and to install the packages by pip, venv and flit_core (Debian: gcc, make, golang-go, pkg-config,
+# python3, python3-venv and flit). It installs by apt-get what is not there, which only root can. A language whose tools
+# can't be had is left out, and a line says so. Nothing else is needed, and no network. mypy is used where it is there. The
+# last line is 'N passed, M failed'.
 set -uo pipefail
 cd "$(dirname "$0")" || exit 1
 script=bindings/check.sh
@@ -105,38 +106,52 @@ list_lacking_for_pip() {
     find_flit_core >"$room/flit_core" || echo flit
 }
 
-# The package installs by pip in a folder of its own, leaves nothing where its sources are, and finds the library.
+# Makes the folder that pip installs in, with flit_core beside it.
+make_venv() {
+    mkdir "$room/packages" && ln -s "$(find_flit_core)" "$room/packages/" && python3 -m venv "$room/venv"
+}
+
+# A package installs by pip in a folder of its own, leaves nothing where its sources are, has what it requires, and finds
+# the library.
 install_by_pip() {
-    mkdir "$room/packages" && ln -s "$(find_flit_core)" "$room/packages/" && cp -r . "$room/source" || return
-    (cd "$room/source" && find . | sort) >"$room/before"
-    python3 -m venv "$room/venv" &&
-        PYTHONPATH=$room/packages PIP_NO_INDEX=1 PIP_NO_BUILD_ISOLATION=false \
-            "$room/venv/bin/pip" install "$room/source" || return
-    (cd "$room/source" && find . | sort) | diff "$room/before" - || return
-    (cd "$room" && venv/bin/python -c 'import h3_qpack; print(h3_qpack.__file__)') | grep "^$room/venv/"
+    local name=$1 source=$room/source/$1
+    { [ -d "$room/venv" ] || make_venv; } && mkdir -p "$room/source" && cp -r . "$source" || return
+    (cd "$source" && find . | sort) >"$room/before"
+    PYTHONPATH=$room/packages PIP_NO_INDEX=1 PIP_NO_BUILD_ISOLATION=false "$room/venv/bin/pip" install "$source" || return
+    (cd "$source" && find . | sort) | diff "$room/before" - || return
+    (cd "$room" && env -u PYTHONPATH venv/bin/python -c "import $name; print($name.__file__)") | grep "^$room/venv/"
 }
 
 # What pip installed has the licence, and names it.
 check_installed_licence() {
     local about
-    about=$(find "$room/venv" -name 'h3_qpack-*.dist-info') && is_licence "$(find "$about" -name LICENSE)" &&
+    about=$(find "$room/venv" -name "$1-*.dist-info") && is_licence "$(find "$about" -name LICENSE)" &&
         grep -x 'Classifier: License :: OSI Approved :: MIT License' "$about/METADATA"
 }
 
-test_python() {
-    export H3_QPACK_LIBRARY=$room/usr/lib/libh3_qpack.so.0 PYTHONDONTWRITEBYTECODE=1
-    try "python3 -m unittest" run_python
-    echo "$script: Python: $(sed -n 's/^Ran \([0-9]*\) tests.*/\1/p' "$room/told") tests, with $(python3 --version)"
-    try "the library is found, or an error says how to install it" find_by_linker
+# Tests the package that is named, in its folder.
+test_package() {
+    try "python3 -m unittest of $1" run_python
+    echo "$script: Python: $1: $(sed -n 's/^Ran \([0-9]*\) tests.*/\1/p' "$room/told") tests, with $(python3 --version)"
     if [ -z "$(list_lacking_for_pip)" ]; then
-        try "pip install" install_by_pip && try "the licence in what pip installs" check_installed_licence
+        try "pip install of $1" install_by_pip "$1" && try "the licence in what pip installs of $1" check_installed_licence "$1"
     else
         # shellcheck disable=SC2046 # words
-        not_shown "pip install of the package for Python" "without $(echo $(list_lacking_for_pip))"
+        not_shown "pip install of $1" "without $(echo $(list_lacking_for_pip))"
     fi
     if command -v mypy >/dev/null; then
-        try "mypy" mypy --strict --cache-dir "$room/mypy" h3_qpack tests
+        try "mypy of $1" mypy --strict --cache-dir "$room/mypy" "$1" tests
     fi
+}
+
+# pylsqpack is over h3_qpack.
+test_python() {
+    export H3_QPACK_LIBRARY=$room/usr/lib/libh3_qpack.so.0 PYTHONDONTWRITEBYTECODE=1
+    test_package h3_qpack
+    try "the library is found, or an error says how to install it" find_by_linker
+    cd ../pylsqpack || return
+    export PYTHONPATH=$top/bindings/python MYPYPATH=$top/bindings/python
+    test_package pylsqpack
 }
 
 # shellcheck disable=SC2046 # words

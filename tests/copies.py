@@ -20,6 +20,7 @@ COPIES = [
     ("rust/h3_qpack", ".", ["LICENSE"]),
     ("bindings/go", ".", ["LICENSE"]),
     ("bindings/python", ".", ["LICENSE"]),
+    ("bindings/pylsqpack", ".", ["LICENSE"]),
     ("rust/h3_qpack/generated", "dist", ["[!q]*-elf.s", "*-coff.s", "*-macho.s"]),
     ("rust/h3_qpack/tests", "c/tests", ["layout.txt"]),
     ("rust/h3_qpack/tests/data", "crates/qpack_tests/data", ["corpus.qif", "nghttp3_*.txt", "stateless_h3.tsv"]),

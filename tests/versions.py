@@ -20,6 +20,8 @@ WHOLE = [
     ("README.md", r"h3qpack@v([\d.]+) "),
     ("bindings/README.md", r"h3qpack@v([\d.]+) "),
     ("bindings/python/pyproject.toml", r'^version = "([\d.]+)"'),
+    ("bindings/pylsqpack/pyproject.toml", r'^version = "0\.3\.23\+h3qpack\.([\d.]+)"'),
+    ("bindings/pylsqpack/pyproject.toml", r'"h3_qpack==([\d.]+)"'),
     ("rust/h3_qpack/Cargo.toml", r'^version = "([\d.]+)"'),
     ("rust/h3_qpack/Cargo.lock", r'^name = "h3_qpack"\nversion = "([\d.]+)"'),
     ("dist/SUMS", r"^version ([\d.]+)$"),
