@@ -5,7 +5,8 @@ const TABS = {requests: 'Requests', timeline: 'Timeline'};
 
 async function readData() {
   if (typeof DecompressionStream === 'undefined') throw Error('This page needs a browser of 2023 or later.');
-  const packed = Uint8Array.from(atob(document.getElementById('data').textContent), sign => sign.charCodeAt(0));
+  const signs = atob(document.getElementById('data').textContent), packed = new Uint8Array(signs.length);
+  for (let i = 0; i < signs.length; i++) packed[i] = signs.charCodeAt(i);
   const data = await new Response(new Blob([packed]).stream().pipeThrough(new DecompressionStream('deflate'))).json();
   return {...data, kinds: kindsOfFields(data.fields)};
 }

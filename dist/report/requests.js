@@ -106,7 +106,8 @@ class RequestList {
     const {connection} = this, {value} = this.columns.find(({key}) => key === this.key), sign = this.isDown ? -1 : 1;
     const chosen = this.shown[this.list.chosen];
     const keyed = connection.requests.filter(passes(connection, this.filter.value)).map(it => [value(it, connection), it]);
-    keyed.sort(([a, one], [b, other]) => a < b ? -sign : a > b ? sign : one.number - other.number);
+    const order = ([a, one], [b, other]) => a < b ? -sign : a > b ? sign : one.number - other.number;
+    if (keyed.some((it, i) => i && order(keyed[i - 1], it) > 0)) keyed.sort(order);
     this.shown = keyed.map(([, request]) => request);
     const all = connection.requests.length;
     this.count.textContent = this.shown.length === all ? counted(all, 'request') :
