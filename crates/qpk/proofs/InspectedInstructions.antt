@@ -13,13 +13,13 @@ use Rattle.qpack_wire.specs.StreamAnswers.{DecodesInstruction, StaysUnlessRead}
 use Rattle.qpack_wire.specs.StreamLines.{RefusesEncoderLine, encoder_instruction_of}
 use Rattle.qpack_wire.specs.declared.stream.encoder_stream.EncoderLine.{EncoderLine}
 use Rattle.qpack_codec.specs.Receiving.{Stops}
-use Rattle.qpack_codec.proofs.Instructions.{no_line}
 use Rattle.qpack_codec.specs.declared.error.DecoderError.{DecoderError}
 use Rattle.qpack_codec.specs.declared.error.DecoderError.TheVariants as decoder
 use Rattle.qpk.specs.Answers.{fault_of_decoder}
 use Rattle.qpk.specs.Inspecting.{instruction_text, instructions_text, received_text}
 use Rattle.qpk.specs.Inspections.{ReadsNext, RefusesWhole, FailsWhole, InspectsOne, FailsNext, InspectsNext}
 use Rattle.qpk.specs.Inspections.{FailsInstructions, InspectsInstructions}
+use Rattle.qpk.proofs.NextInstructions.{no_line}
 use Rattle.qpk.specs.declared.text.Fault.{Fault}
 use Rattle.qpk.specs.declared.text.Fault.TheVariants.{Refused, Memory}
 
@@ -29,7 +29,7 @@ pub read_next : (old new : CursorView) (o : Option EncoderLine)
     → DecodesInstruction encoder_instruction_of SpellsEncoderInstruction RefusesEncoderLine old new (Ok o)
     → StaysUnlessRead old new (Ok o) → ReadsNext old.rest new.rest (Ok o)
 read_next old new None decodes stays = (
-  no_line old old new None refl refl decodes,
+  no_line old new None refl decodes,
   ap (λ (c : CursorView). c.rest) stays,
 )
 read_next old new (Some line) decodes stays = (decodes.found.0, decodes.found.2.0, decodes.found.1)

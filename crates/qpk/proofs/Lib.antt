@@ -4,6 +4,7 @@ pub mod ScriptRuns
 pub mod Texts
 pub mod OneInstruction
 pub mod EmptyTables
+pub mod NextInstructions
 pub mod InspectedInstructions
 pub mod InspectedEvents
 pub mod PrintedBlocks

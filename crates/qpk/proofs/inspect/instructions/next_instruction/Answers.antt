@@ -1,8 +1,8 @@
-use Rattle.std.proofs.Common.{refl, ap}
+use Rattle.std.proofs.Common.{ap}
 use Rattle.std.proofs.lemmas.Result.{err_from_is_err_and}
 use Rattle.qpack_base.specs.Cursor.{CursorView}
-use Rattle.qpack_codec.proofs.Instructions.{line_refused}
 use Rattle.qpk.proofs.InspectedInstructions.{read_next}
+use Rattle.qpk.proofs.NextInstructions.{line_refused}
 use Rattle.qpk.proofs.inspect.instructions.next_instruction.Goals as goal
 
 pub returns-in_err-next_line-clause-reads : goal.returns-in_err-next_line-clause-reads
@@ -10,8 +10,7 @@ returns-in_err-next_line-clause-reads c =
     let p = err_from_is_err_and c.from_residual.result c.from_residual.ensures.1 in
     let n = c.in_err-next_line.ensures in
     rw (p.1, p.2) (
-      λ t. line_refused t c.args.buf.now c.args.buf.now c.next_line.new.cursor c.in_err-next_line.field-0.0 refl
-          n.decodes n.memory n.exact,
+      λ t. line_refused t c.args.buf.now c.next_line.new.cursor c.in_err-next_line.field-0.0 n.decodes n.memory n.exact,
       ap (λ (x : CursorView). x.rest) n.stays,
     )
 
