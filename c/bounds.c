@@ -16,6 +16,7 @@
 #define INSERTION_BASE 1024
 #define FITTING_BOUND 3
 #define NAME_BOUND 2
+#define LONGEST 65536
 #define ENCODER_BOUND (144 * 1024)
 #define CANCELLED_BOUND (256 * 1024)
 
@@ -169,16 +170,16 @@ static void hold_insertion(size_t capacity, const coding *c, size_t names, size_
 
 static void hold_insertions(void) {
   const coding *codings[] = {&plain, &shortest, &longest};
-  size_t capacities[] = {CAPACITY, 65536}, lengths[] = {1, 4, 16};
+  size_t capacities[] = {CAPACITY, LONGEST};
   for (size_t i = 0; i < 6; i++) {
     size_t capacity = capacities[i / 3], longest_texts = capacity - 32;
     const coding *c = codings[i % 3];
     hold_insertion(capacity, c, longest_texts, 0);
     hold_insertion(capacity, c, longest_texts / 2, longest_texts / 2);
     hold_insertion(capacity, c, longest_texts / 2, longest_texts / 2 + 1);
-    for (size_t k = 0; k < 3; k++) {
-      hold_insertion(capacity, c, lengths[k] * capacity, 1);
-      hold_insertion(capacity, c, 1, lengths[k] * capacity);
+    for (size_t len = capacity; len <= LONGEST; len *= 16) {
+      hold_insertion(capacity, c, len, 1);
+      hold_insertion(capacity, c, 1, len);
     }
   }
 }
