@@ -353,7 +353,10 @@ int main(int argc, char **argv) {
   open_tls();
   last_packet = now();
   while (is_alive && (has_more || now() < last_packet + patience() * NGTCP2_MILLISECONDS)) {
-    if (ngtcp2_conn_get_handshake_completed(quic)) has_more = has_more && take_lines(), open_streams();
+    if (ngtcp2_conn_get_handshake_completed(quic)) {
+      if (has_more && !(has_more = take_lines())) last_packet = now(); /* what answers the last line is still to come */
+      open_streams();
+    }
     write_packets();
     poll(&(struct pollfd){udp, POLLIN, 0}, 1, 10);
     is_alive = read_packets() && (ngtcp2_conn_get_expiry(quic) > now() || !ngtcp2_conn_handle_expiry(quic, now()));
