@@ -1,18 +1,20 @@
 -- Looking for a code among the rows of the longer lengths is reading it bit by bit.
 use Rattle.std.proofs.Common.{◌≡◌, ℕ, zero, suc, ◌+◌, ◌-◌, ◌*◌, ◌/◌, ◌%◌, ◌^◌, ◌<◌, ◌≤◌, Bool, true, false, cond}
-use Rattle.std.proofs.Common.{◌&&◌, List, [], ◌∷◌, ◌++◌, length, drop, get_or, Result, Ok, Err, refl, sym, ap, ◌∙◌}
+use Rattle.std.proofs.Common.{◌&&◌, List, [], ◌∷◌, ◌++◌, length, drop, take, get_or, Result, Ok, Err, refl, sym, ap, ◌∙◌}
 use Rattle.std.proofs.Common.{arith, add-one, append_assoc, inl, inr, ◌⊎◌}
 use Rattle.std.specs.Prelude.{nat_lt, nat_le, slice_index}
 use Rattle.std.specs.Borrow.{Bor}
 use Rattle.std.proofs.Math.Seq.{drop-cons}
-use Rattle.std.proofs.lemmas.Bool.{cases_lt, cases_eq, lt-ltb, le-ltb, lt-leb, le-leb}
-use Rattle.std.proofs.lemmas.Nat.{shr-shr}
+use Rattle.std.proofs.lemmas.Bool.{cases_lt, cases_eq, lt-ltb, le-ltb, lt-leb, le-leb, leb-true, and_from, and_parts}
+use Rattle.std.proofs.lemmas.Nat.{shr-shr, pow_pos}
+use borrow.Rule.Slice.PartMut.{mid_of}
+use Rattle.std.proofs.Common.{le-div_iff_mul-le}
 use Rattle.std.proofs.Math.Pow.{shr_lt}
-use Rattle.std.proofs.lemmas.List.{get_or-map, length-map, drop_all}
+use Rattle.std.proofs.lemmas.List.{get_or-map, length-map, length-drop, drop_all, take_all, take-append-drop, drop-map}
 use Rattle.qpack_spec.specs.Huffman.{HuffmanFault, MissingBits, Unhandled, bits_of, bytes_by_length, bytes_of_length}
 use Rattle.qpack_spec.specs.Huffman.{first_code, code_at}
 use Rattle.qpack_spec.proofs.Bits.{bits_append, no_bits}
-use Rattle.qpack_base.specs.HuffmanTables.{rows_at, long_rows}
+use Rattle.qpack_base.specs.HuffmanTables.{rows_at, long_rows, is_smaller, are_smaller, ArePassed}
 
 -- a length, its first code, and the bytes whose codes have it
 abbrev pub Row : Type 0
@@ -256,93 +258,138 @@ long_reads count loaded more eight fits long enough =
     (omega arith) enough long
     ∙ ap (λ (rows : List Row). row_code rows count loaded more) rows_are
 
--- ---- one turn of the search
+-- ---- the rows that are passed at sight
 
-pub record IsRow (rows : List (ℕ × ℕ × Bor (List ℕ))) (i : ℕ) (row : ℕ × ℕ × Bor (List ℕ)) : Type 0 where
-  pub here : Row
-  pub within : i < length long_rows
-  pub at : drop i long_rows ≡ here ∷ drop (i + 1) long_rows
-  pub is : here ≡ (row.0, row.1, row.2.now)
+-- rows whose codes are smaller than what 24 bits begin with
+passed_all : (rows behind : List Row) (count loaded : ℕ) (more : List ℕ) → 24 ≤ count
+    → are_smaller (loaded / 2 ^ (count - 24)) rows ≡ true
+    → row_code (rows ++ behind) count loaded more ≡ row_code behind count loaded more
+unfolding are_smaller
+passed_all [] behind count loaded more le t = refl
+passed_all (row ∷ rows) behind count loaded more le t =
+    let window = loaded / 2 ^ (count - 24) in
+    let parts = and_parts (is_smaller window row) (are_smaller window rows) t in
+    let smaller = and_parts (nat_le row.0 24) (nat_le ((row.1 + length row.2) * 2 ^ (24 - row.0)) window) parts.0 in
+    let few : row.0 ≤ 24 = leb-true _ _ smaller.0 in
+    let apart : count - 24 + (24 - row.0) ≡ count - row.0 = omega arith in
+    let number : loaded / 2 ^ (count - row.0) ≡ window / 2 ^ (24 - row.0) =
+    ap (λ (k : ℕ). loaded / 2 ^ k) (sym apart) ∙ sym (shr-shr loaded (count - 24) (24 - row.0)) in
+    let past : row.1 + length row.2 ≤ window / 2 ^ (24 - row.0) =
+    (le-div_iff_mul-le (pow_pos (24 - row.0))).1 (leb-true _ _ smaller.1) in
+    row_passed row (rows ++ behind) count loaded (window / 2 ^ (24 - row.0)) more (omega arith) number (λ h. omega arith)
+    ∙ passed_all rows behind count loaded more le parts.1
+
+pub rows_passed : (n count loaded : ℕ) (more : List ℕ) → ArePassed count loaded (take n long_rows)
+    → row_code (drop n long_rows) count loaded more ≡ row_code long_rows count loaded more
+rows_passed n count loaded more passed =
+    let split : take n long_rows ++ drop n long_rows ≡ long_rows = take-append-drop n long_rows in
+    elim passed [
+      | inl none ↦
+          ap (λ (l : List Row). row_code (l ++ drop n long_rows) count loaded more) (sym none)
+          ∙ ap (λ (l : List Row). row_code l count loaded more) split
+      | inr smaller ↦
+          sym (passed_all (take n long_rows) (drop n long_rows) count loaded more smaller.0 smaller.1)
+          ∙ ap (λ (l : List Row). row_code l count loaded more) split
+    ]
+
+-- a greater window is past the same rows
+still_smaller : (a b : ℕ) (rows : List Row) → a ≤ b → are_smaller a rows ≡ true → are_smaller b rows ≡ true
+unfolding are_smaller
+still_smaller a b [] le t = refl
+still_smaller a b (row ∷ rows) le t =
+    let parts = and_parts (is_smaller a row) (are_smaller a rows) t in
+    let smaller = and_parts (nat_le row.0 24) (nat_le ((row.1 + length row.2) * 2 ^ (24 - row.0)) a) parts.0 in
+    let past : (row.1 + length row.2) * 2 ^ (24 - row.0) ≤ a = leb-true _ _ smaller.1 in
+    let here : is_smaller b row ≡ true = and_from _ _ smaller.0 (le-leb _ _ (omega (arith, past))) in
+    and_from _ _ here (still_smaller a b rows le parts.1)
+
+smaller_than_24 : are_smaller 16777194 (take 11 long_rows) ≡ true
+unfolding are_smaller bytes_by_length bytes_of_length first_code long_rows
+smaller_than_24 = refl
+
+smaller_than_19 : are_smaller 16776704 (take 6 long_rows) ≡ true
+unfolding are_smaller bytes_by_length bytes_of_length first_code long_rows
+smaller_than_19 = refl
+
+-- 24 bits that no code of at most 23 bits begins
+pub past_23 : (count loaded : ℕ) → 24 ≤ count → 16777194 ≤ loaded / 2 ^ (count - 24)
+    → ArePassed count loaded (take 11 long_rows)
+past_23 count loaded le window = inr (le, still_smaller _ _ (take 11 long_rows) window smaller_than_24)
+
+-- 24 bits that no code of at most 15 bits begins
+pub past_15 : (count loaded : ℕ) → 24 ≤ count → 16776704 ≤ loaded / 2 ^ (count - 24)
+    → ArePassed count loaded (take 6 long_rows)
+past_15 count loaded le window = inr (le, still_smaller _ _ (take 6 long_rows) window smaller_than_19)
 
 abbrev row_of : ℕ × ℕ × Bor (List ℕ) → Row
 row_of r = (r.0, r.1, r.2.now)
 
-pub row_here : (rows : List (ℕ × ℕ × Bor (List ℕ))) (i : ℕ) (d : ℕ × ℕ × Bor (List ℕ)) → rows_at rows ≡ long_rows
-    → i < 17 → IsRow rows i (get_or rows i d)
-row_here rows i d e h =
-    let len : length long_rows ≡ length rows = ap length (sym e) ∙ length-map rows row_of in
-    let within : i < length long_rows = omega (arith, long_rows_count) in
-    let inside : i < length rows = omega arith in
-    record {
-      here = get_or long_rows i (row_of d);
-      within = within;
-      at = drop-cons long_rows i (row_of d) within
-          ∙ ap (λ (k : ℕ). get_or long_rows i (row_of d) ∷ drop k long_rows) (sym (add-one i));
-      is = ap (λ (l : List Row). get_or l i (row_of d)) (sym e) ∙ get_or-map row_of rows i d (row_of d) inside;
+-- the rows that are left are those of a part of the table
+pub rows_left : (rows : List (ℕ × ℕ × Bor (List ℕ))) (n : ℕ) → rows_at rows ≡ long_rows → n ≤ 17
+    → rows_at (mid_of n (17 - n) rows) ≡ drop n long_rows
+rows_left rows n e le =
+    let count : length rows ≡ 17 = sym (length-map rows row_of) ∙ ap length e ∙ long_rows_count in
+    let all : mid_of n (17 - n) rows ≡ drop n rows =
+    take_all (17 - n) (drop n rows) (omega (arith, length-drop n rows)) in
+    ap rows_at all ∙ sym (drop-map row_of n rows) ∙ ap (drop n) e
+
+-- ---- one turn of the search
+
+-- the row is the next one, where i are passed
+pub record IsNext (rows : List (ℕ × ℕ × Bor (List ℕ))) (i : ℕ) (row : ℕ × ℕ × Bor (List ℕ)) : Type 0 where
+  pub is : drop i (rows_at rows) ≡ row_of row ∷ drop (i + 1) (rows_at rows)
+
+pub row_here : (rows : List (ℕ × ℕ × Bor (List ℕ))) (i : ℕ) (d : ℕ × ℕ × Bor (List ℕ)) → i < length rows
+    → IsNext rows i (get_or rows i d)
+row_here rows i d h =
+    let within : i < length (rows_at rows) = omega (arith, length-map rows row_of) in record {
+      is = drop-cons (rows_at rows) i (row_of d) within
+          ∙ ap (λ (r : Row). r ∷ drop (suc i) (rows_at rows)) (get_or-map row_of rows i d (row_of d) h)
+          ∙ ap (λ (k : ℕ). row_of (get_or rows i d) ∷ drop k (rows_at rows)) (sym (add-one i));
     }
 
-turn_short : (rows : List (ℕ × ℕ × Bor (List ℕ))) (i : ℕ) (row : ℕ × ℕ
-    × Bor (List ℕ)) (count loaded : ℕ) (more : List ℕ) → IsRow rows i row → count < row.0
-    → row_code (drop i long_rows) count loaded more ≡ Err MissingBits
-turn_short rows i row count loaded more r lt =
-    ap (λ (l : List Row). row_code l count loaded more) r.at
-    ∙ ap (λ (h : Row). row_code (h ∷ drop (i + 1) long_rows) count loaded more) r.is
-    ∙ row_short (row_of row) (drop (i + 1) long_rows) count loaded more lt
-
-turn_found : (rows : List (ℕ × ℕ × Bor (List ℕ))) (i : ℕ) (row : ℕ × ℕ
-    × Bor (List ℕ)) (count loaded number : ℕ) (more : List ℕ) → IsRow rows i row → row.0 ≤ count
-    → loaded / 2 ^ (count - row.0) ≡ number → row.1 ≤ number → number - row.1 < length row.2.now
-    → row_code (drop i long_rows) count loaded more
-    ≡ Ok (slice_index row.2.now (number - row.1), bits_of (count - row.0) loaded ++ more)
-turn_found rows i row count loaded number more r le is above below =
-    ap (λ (l : List Row). row_code l count loaded more) r.at
-    ∙ ap (λ (h : Row). row_code (h ∷ drop (i + 1) long_rows) count loaded more) r.is
-    ∙ row_found (row_of row) (drop (i + 1) long_rows) count loaded number more le is above below
-
-turn_passed : (rows : List (ℕ × ℕ × Bor (List ℕ))) (i : ℕ) (row : ℕ × ℕ
-    × Bor (List ℕ)) (count loaded number : ℕ) (more : List ℕ) → IsRow rows i row → row.0 ≤ count
-    → loaded / 2 ^ (count - row.0) ≡ number → (row.1 ≤ number → length row.2.now ≤ number - row.1)
-    → row_code (drop i long_rows) count loaded more ≡ row_code (drop (i + 1) long_rows) count loaded more
-turn_passed rows i row count loaded number more r le is out =
-    ap (λ (l : List Row). row_code l count loaded more) r.at
-    ∙ ap (λ (h : Row). row_code (h ∷ drop (i + 1) long_rows) count loaded more) r.is
-    ∙ row_passed (row_of row) (drop (i + 1) long_rows) count loaded number more le is out
-
-pub turn_none : (i count loaded : ℕ) (more : List ℕ) → 17 ≤ i
-    → row_code (drop i long_rows) count loaded more ≡ Err Unhandled
-turn_none i count loaded more le =
-    ap (λ (l : List Row). row_code l count loaded more) (drop_all i long_rows (omega (arith, long_rows_count)))
+pub turn_none : (rows : List (ℕ × ℕ × Bor (List ℕ))) (i count loaded : ℕ) (more : List ℕ) → length rows ≤ i
+    → row_code (drop i (rows_at rows)) count loaded more ≡ Err Unhandled
+turn_none rows i count loaded more le =
+    ap (λ (l : List Row). row_code l count loaded more)
+    (drop_all i (rows_at rows) (omega (arith, length-map rows row_of)))
     ∙ no_rows count loaded more
 
--- the same as the code has it: the row's length and first code by other names
+-- what a turn finds, as the code has it: the row's length and first code by other names
 pub code_found : (rows : List (ℕ × ℕ × Bor (List ℕ))) (i : ℕ) (row : ℕ × ℕ
-    × Bor (List ℕ)) (count loaded bits first b : ℕ) (left more : List ℕ) → IsRow rows i row → bits ≡ row.0
+    × Bor (List ℕ)) (count loaded bits first b : ℕ) (left more : List ℕ) → IsNext rows i row → bits ≡ row.0
     → first ≡ row.1 → bits ≤ count
     → (first ≤ loaded / 2 ^ (count - bits)) × (loaded / 2 ^ (count - bits) - first < length row.2.now)
     × (b ≡ slice_index row.2.now (loaded / 2 ^ (count - bits) - first))
     → left ≡ bits_of (count - bits) loaded ++ more
-    → row_code (drop i long_rows) count loaded more ≡ Ok (b, left)
-code_found rows i row count loaded bits first b left more r e f le h is =
+    → row_code (drop i (rows_at rows)) count loaded more ≡ Ok (b, left)
+code_found rows i row count loaded bits first b left more next e f le h is =
     let number = loaded / 2 ^ (count - bits) in
     let same : loaded / 2 ^ (count - row.0) ≡ number = ap (λ (n : ℕ). loaded / 2 ^ (count - n)) (sym e) in
     let below : number - row.1 < length row.2.now = omega (arith, h.1) in
-    turn_found rows i row count loaded number more r (omega arith) same (omega (arith, h.0)) below
+    ap (λ (l : List Row). row_code l count loaded more) next.is
+    ∙ row_found (row_of row) (drop (i + 1) (rows_at rows)) count loaded number more (omega arith) same
+    (omega (arith, h.0)) below
     ∙ ap (λ (n : ℕ). found_row n number row.2.now (count - row.0) loaded more) (sym f)
     ∙ ap (λ (n : ℕ). found_row first number row.2.now (count - n) loaded more) (sym e)
     ∙ ap (λ (c : ℕ). answer c (bits_of (count - bits) loaded ++ more)) (sym h.2)
     ∙ ap (λ (l : List ℕ). answer b l) (sym is)
 
 pub code_passed : (rows : List (ℕ × ℕ × Bor (List ℕ))) (i : ℕ) (row : ℕ × ℕ
-    × Bor (List ℕ)) (count loaded bits first : ℕ) (more : List ℕ) → IsRow rows i row → bits ≡ row.0 → first ≡ row.1
+    × Bor (List ℕ)) (count loaded bits first : ℕ) (more : List ℕ) → IsNext rows i row → bits ≡ row.0 → first ≡ row.1
     → bits ≤ count
     → (first ≤ loaded / 2 ^ (count - bits) → length row.2.now ≤ loaded / 2 ^ (count - bits) - first)
-    → row_code (drop i long_rows) count loaded more ≡ row_code (drop (i + 1) long_rows) count loaded more
-code_passed rows i row count loaded bits first more r e f le h =
+    → row_code (drop i (rows_at rows)) count loaded more ≡ row_code (drop (i + 1) (rows_at rows)) count loaded more
+code_passed rows i row count loaded bits first more next e f le h =
     let number = loaded / 2 ^ (count - bits) in
     let same : loaded / 2 ^ (count - row.0) ≡ number = ap (λ (n : ℕ). loaded / 2 ^ (count - n)) (sym e) in
-    turn_passed rows i row count loaded number more r (omega arith) same (λ g. let k = h (omega arith) in omega arith)
+    ap (λ (l : List Row). row_code l count loaded more) next.is
+    ∙ row_passed (row_of row) (drop (i + 1) (rows_at rows)) count loaded number more (omega arith) same
+    (λ g. let k = h (omega arith) in omega arith)
 
 pub code_short : (rows : List (ℕ × ℕ × Bor (List ℕ))) (i : ℕ) (row : ℕ × ℕ
-    × Bor (List ℕ)) (count loaded bits : ℕ) (more : List ℕ) → IsRow rows i row → bits ≡ row.0 → count < bits
-    → row_code (drop i long_rows) count loaded more ≡ Err MissingBits
-code_short rows i row count loaded bits more r e lt = turn_short rows i row count loaded more r (omega arith)
+    × Bor (List ℕ)) (count loaded bits : ℕ) (more : List ℕ) → IsNext rows i row → bits ≡ row.0 → count < bits
+    → row_code (drop i (rows_at rows)) count loaded more ≡ Err MissingBits
+code_short rows i row count loaded bits more next e lt =
+    ap (λ (l : List Row). row_code l count loaded more) next.is
+    ∙ row_short (row_of row) (drop (i + 1) (rows_at rows)) count loaded more (omega arith)

@@ -1,5 +1,6 @@
 -- What the crate's tables of the Huffman code say of the code.
-use Rattle.std.specs.Prelude.{◌≡◌, ℕ, ◌-◌, ◌/◌, ◌%◌, ◌^◌, ◌<◌, ◌≤◌, List, [], ◌∷◌, map, take, length, slice_index_or}
+use Rattle.std.specs.Prelude.{◌≡◌, ℕ, ◌+◌, ◌-◌, ◌*◌, ◌/◌, ◌%◌, ◌^◌, ◌<◌, ◌≤◌, ◌⊎◌, List, [], ◌∷◌, map, take, length}
+use Rattle.std.specs.Prelude.{Bool, true, ◌&&◌, nat_le, slice_index_or}
 use Rattle.std.specs.Borrow.{Bor}
 use Rattle.qpack_spec.specs.Huffman.{bits_of, bytes_of_length, first_code, code_of, bits_of_text}
 
@@ -59,6 +60,19 @@ long_row n = (n, first_code n, bytes_of_length n)
 -- the code beyond eight bits
 unfoldable pub long_rows : List (ℕ × ℕ × List ℕ)
 long_rows = map long_row long_lengths
+
+-- a row's codes have at most 24 bits, and are smaller than what these 24 bits begin with
+abbrev pub is_smaller : ℕ → ℕ × ℕ × List ℕ → Bool
+is_smaller window row = nat_le row.0 24 && nat_le ((row.1 + length row.2) * 2 ^ (24 - row.0)) window
+
+-- so have those of all rows
+unfoldable pub are_smaller : ℕ → List (ℕ × ℕ × List ℕ) → Bool
+are_smaller window [] = true
+are_smaller window (row ∷ rows) = is_smaller window row && are_smaller window rows
+
+-- no code of the rows comes next, where `count` bits of `loaded` are left: there are no rows, or their codes are smaller
+abbrev pub ArePassed : ℕ → ℕ → List (ℕ × ℕ × List ℕ) → Type 0
+ArePassed count loaded rows = (rows ≡ []) ⊎ ((24 ≤ count) × (are_smaller (loaded / 2 ^ (count - 24)) rows ≡ true))
 
 -- the rows behind references
 abbrev pub rows_at : List (ℕ × ℕ × Bor (List ℕ)) → List (ℕ × ℕ × List ℕ)

@@ -1,10 +1,10 @@
 //! Reading Huffman coded payloads (RFC 7541, section 5.2), and the code as two tables (Appendix B).
 
 ghost use Rattle.std.specs.Prelude.{◌≡◌, ℕ, ◌+◌, ◌*◌, ◌/◌, ◌%◌, ◌^◌, ◌<◌, ◌≤◌, ◌-◌, List, [], ◌++◌, length};
-ghost use Rattle.std.specs.Prelude.{MatchOption, OnOk, IsTrue, true, slice_index};
+ghost use Rattle.std.specs.Prelude.{MatchOption, OnOk, IsTrue, true, slice_index, take};
 ghost use Rattle.std.specs.Iterator.{at_most};
 ghost use Rattle.qpack_spec.specs.Huffman.{bits_of, bits_of_bytes, bytes_by_length, code_at, is_padding};
-ghost use Rattle.qpack_base.specs.HuffmanTables.{AreShortCodes, rows_at, long_rows};
+ghost use Rattle.qpack_base.specs.HuffmanTables.{AreShortCodes, ArePassed, rows_at, long_rows};
 ghost use Rattle.qpack_base.specs.Payloads.{GivesItem, ReadsCode, bits_left, IsLoaded, IsFull, KeepsRest, BeginsCode};
 
 use crate::prefix_string::bitwin::BitWindow;
@@ -34,6 +34,12 @@ struct Bits<'a> {
 
 /// From here on, eight bits begin no code of at most eight bits.
 const LONG: u64 = 0xfe;
+
+/// From here on, 24 bits begin no code of at most 15 bits. The next longer ones have 19.
+const CODES_OF_19: u64 = 0xff_fe00;
+
+/// From here on, 24 bits begin no code of at most 23 bits.
+const CODES_OF_24: u64 = 0xff_ffea;
 
 /// How many loaded bits serve every code.
 const ENOUGH: u32 = 32;
@@ -150,7 +156,7 @@ impl<'a> Bits<'a> {
         ensures loaded { IsLoaded self.new }
         ensures rest { OnOk result (self.new.rest.now ≡ self.old.rest.now) }
     {
-        let rows = long_codes();
+        let rows = &long_codes()[self.passed_rows()..];
         for row in rows {
             let bits = u32::from(row.0);
             if bits > self.count {
@@ -167,6 +173,25 @@ impl<'a> Bits<'a> {
         let window = self.window();
         self.stop();
         Err(HuffmanDecodingError::Unhandled(window, EOS))
+    }
+
+    /// How many of the first rows of long codes are passed at sight: what comes next is greater than their codes.
+    fn passed_rows(&self) -> usize
+        requires { IsLoaded self.now }
+        ensures few { result ≤ 17 }
+        ensures smaller { ArePassed self.now.count self.now.loaded (take result long_rows) }
+    {
+        if self.count < 24 {
+            return 0;
+        }
+        let window = self.loaded >> (self.count - 24);
+        if window >= CODES_OF_24 {
+            11
+        } else if window >= CODES_OF_19 {
+            6
+        } else {
+            0
+        }
     }
 
     /// The place of the next bit, and how many are loaded.
