@@ -26,10 +26,7 @@ pub mod Lists
 pub mod RowSlots
 pub mod NewestEntries
 pub mod RowChanges
-pub mod HashedRows
-pub mod RowsChanges
-pub mod Widths
-pub mod SplitRows
+pub mod RowEntries
 pub mod WholeIndexes
 pub mod Released
 pub mod Products

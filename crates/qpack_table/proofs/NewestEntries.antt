@@ -15,18 +15,15 @@ use Rattle.qpack_spec.specs.Table as table
 use Rattle.qpack_spec.specs.Table.{Table, fields_in, later_position, last_position, newest_index}
 use Rattle.qpack_spec.proofs.Positions.{newest_found, same_field, same_name}
 use Rattle.qpack_base.proofs.FieldOrder.{equal_is_field}
-use Rattle.qpack_table.specs.Hashes.{position_among}
 use Rattle.qpack_table.specs.Tables.{entries_of, live_fields}
-use Rattle.qpack_table.specs.Rows.{field_at, index_of, part_of, part_at, IsLiveIndex, IsRow, FindsSlot}
-use Rattle.qpack_table.specs.Indexes.{home, AreRowsOf, HasSlotOf, FindsNewest, IsNewestIn}
+use Rattle.qpack_table.specs.Rows.{field_at, index_of, part_of, part_at, IsLiveIndex, IsRow, IsRowOf, FindsSlot}
+use Rattle.qpack_table.specs.Indexes.{FindsNewest, IsNewestIn}
 use Rattle.qpack_table.specs.Entries.{Entry}
 use Rattle.qpack_table.specs.declared.dynamic.comparing.Part.{Part}
 use Rattle.qpack_table.specs.declared.dynamic.comparing.Part.TheVariants.{Name, Whole}
-use Rattle.qpack_table.specs.declared.dynamic.index.row.Row.{Row}
 use Rattle.qpack_table.specs.declared.dynamic.index.row.Slot.{Slot}
-use Rattle.qpack_table.proofs.RowOrder.{equal_when_same, same_hash}
+use Rattle.qpack_table.proofs.RowOrder.{equal_when_same}
 use Rattle.qpack_table.proofs.RowSlots.{one_slot, one_index}
-use Rattle.qpack_table.proofs.HashedRows.{row_there}
 
 -- the last position is at least that of each element that passes
 record LastFrom {X : Type 0} (p : X → Bool) (xs : List X) (i : ℕ) : Type 0 where
@@ -126,33 +123,20 @@ none_live dropped (e ∷ es) p none = absurd (none (omega arith))
 passes : (f g : Field) → g ≡ f → is_field f g ≡ true
 passes f g e = sym (equal_is_field f g) ∙ ap is_eq (equal_when_same f g (sym e))
 
--- what the row of a part answers is the newest of all that have it
-module _ (part : Part) (dropped : ℕ) (live : List Field) (entered : ℕ) (rows : List Row)
-    (are : AreRowsOf part dropped live entered rows) (all : entered ≡ length live) (k : ℕ) (r : Row)
-    (within : k < length rows) (read : r ≡ get_or rows k r) (f : Field) (here : k ≡ home part (length rows) f) where
-  is : IsRow part dropped live (r.slots.items)
-  is = row_there part dropped live entered rows are k r within read
-
-  slot_there : (a : ℕ) → IsLiveIndex dropped live a → part_at part dropped live a ≡ part_of part f
-      → HasSlotOf part dropped live (r.slots.items) a
-  slot_there a at same =
-      let position : home part (length rows) (field_at dropped live a) ≡ k =
-      ap (λ (h : ℕ). position_among (length rows) h) (same_hash part (field_at dropped live a) f same) ∙ sym here in
-      subst (λ (x : Row). HasSlotOf part dropped live (x.slots.items) a)
-      (ap (λ (i : ℕ). get_or rows i r) position ∙ sym read)
-      (are.complete a r at.0 (omega (arith, at.1, all)))
-
-  pub newest_found_in : (found : Option ℕ) → FindsSlot part dropped live (r.slots.items) (part_of part f) found
+-- what a row of all entries answers is the newest of all that have the part
+module _ (part : Part) (dropped : ℕ) (live : List Field) (entered : ℕ) (row : List Slot)
+    (are : IsRowOf part dropped live entered row) (all : entered ≡ length live) (f : Field) where
+  pub newest_found_in : (found : Option ℕ) → FindsSlot part dropped live row (part_of part f) found
       → FindsNewest part dropped live (part_of part f) found
   newest_found_in None h = λ other at same.
-      let s = slot_there other at same in h s.0 s.1 (s.4 ∙ same)
+      let s = are.complete other at.0 (omega (arith, at.1, all)) in h s.0 s.1 (s.4 ∙ same)
   newest_found_in (Some a) h = (
-    subst (λ (i : ℕ). IsLiveIndex dropped live i) h.2 (is.slots h.0 h.1).0,
+    subst (λ (i : ℕ). IsLiveIndex dropped live i) h.2 (are.is_row.slots h.0 h.1).0,
     h.3,
     λ other at same.
-        let s = slot_there other at same in
+        let s = are.complete other at.0 (omega (arith, at.1, all)) in
         let one : index_of dropped s.0 ≡ index_of dropped h.0 =
-        one_slot part dropped live (r.slots.items) is s.0 h.0 s.1 h.1
+        one_slot part dropped live row are.is_row s.0 h.0 s.1 h.1
         (s.4 ∙ same ∙ sym h.3 ∙ ap (λ (i : ℕ). part_at part dropped live i) (sym h.2)) in
         omega (arith, one, h.2, s.2),
   )

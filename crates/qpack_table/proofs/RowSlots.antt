@@ -106,6 +106,15 @@ module _ (part : Part) (dropped : ℕ) (live : List Field) (row : List Slot) (is
 
 -- ---- an index goes out
 
+-- where it is in no slot
+pub leaves_none : (dropped : ℕ) (row : List Slot) (index : ℕ) → HasNoIndex dropped row index
+    → Leaves dropped row row index
+leaves_none dropped row index none = record {
+  kept = λ s c ne. c;
+  only = λ s c. c;
+  gone = λ s c e. none c.0 s c.1 (ap (λ (x : Slot). index_of dropped x) c.2 ∙ e);
+}
+
 module _ (part : Part) (dropped : ℕ) (live : List Field) (row : List Slot) (is : IsRow part dropped live row)
   where
     -- slots of one part, or of one index, tie

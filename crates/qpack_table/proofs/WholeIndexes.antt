@@ -5,24 +5,30 @@ use Rattle.std.proofs.lemmas.List.{length-drop}
 use Rattle.qpack_spec.specs.Field.{Field, FieldLine, unmarked}
 use Rattle.qpack_table.specs.Positions.{Positions}
 use Rattle.qpack_table.specs.Rows.{part_of, part_at}
-use Rattle.qpack_table.specs.Indexes.{IsIndexOf}
+use Rattle.qpack_table.specs.Indexes.{IsIndexOf, KeepsSlots}
 use Rattle.qpack_table.specs.Tables.{live_fields, IsIndexOfEntries}
 use Rattle.qpack_table.specs.Entries.{Entry}
 use Rattle.qpack_table.specs.declared.dynamic.index.Index.{Index}
 use Rattle.qpack_table.specs.declared.dynamic.comparing.Part.{Part}
 use Rattle.qpack_table.specs.declared.dynamic.comparing.Part.TheVariants.{Name, Whole}
 use Rattle.qpack_table.proofs.RowSearches.{entry_part}
-use Rattle.qpack_table.proofs.RowsChanges.{rows_pushed}
+use Rattle.qpack_table.proofs.RowEntries.{entries_pushed}
 use Rattle.qpack_table.proofs.Evictions.{joined_fields}
 use Rattle.qpack_table.proofs.Lookups.{fields_long}
 
 index_pushed : (dropped : ℕ) (live : List Field) (f : Field) (index : Index)
     → IsIndexOf dropped live (length live) index → IsIndexOf dropped (live ++ f ∷ []) (length live) index
 index_pushed dropped live f index is = record {
-  fields = rows_pushed (Whole index.seed) dropped live f index.fields.rows.items is.fields;
-  names = rows_pushed (Name index.seed) dropped live f index.names.rows.items is.names;
-  some = is.some;
-  few = is.few;
+  fields = entries_pushed (Whole index.seed) dropped live f index.fields.slots.items is.fields;
+  names = entries_pushed (Name index.seed) dropped live f index.names.slots.items is.names;
+}
+
+-- the index that keeps its slots and its seed
+pub index_kept : (old new : Index) → KeepsSlots old new → (dropped : ℕ) (es : List Entry)
+    → IsIndexOfEntries old dropped es → IsIndexOfEntries new dropped es
+index_kept old new k dropped es is = record {
+  fields = rw (k.fields, k.seed) is.fields;
+  names = rw (k.names, k.seed) is.names;
 }
 
 -- the line of a live entry that was read

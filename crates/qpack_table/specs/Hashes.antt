@@ -1,8 +1,8 @@
--- The hashes by which the dynamic table's index cuts its rows. Nothing is promised of how well they spread.
+-- The hashes by which the dynamic table's index orders its slots. Nothing is promised of how well they spread.
 use Rattle.std.specs.Prelude.{ℕ, zero, suc, ◌+◌, ◌-◌, ◌*◌, ◌/◌, ◌%◌, ◌^◌, List, fold, take, drop, length, nat_le}
-use Rattle.std.specs.Prelude.{nat_lt, if◌then◌else◌}
+use Rattle.std.specs.Prelude.{if◌then◌else◌}
 use Rattle.std.specs.Int.{from_le_bytes, w32, w64, w128}
-use Rattle.std.specs.Int.RustNames.{bit_and, bit_xor}
+use Rattle.std.specs.Int.RustNames.{bit_and, bit_or, bit_xor}
 use Rattle.qpack_spec.specs.Field.{Field}
 
 -- the two halves of a product, in one
@@ -42,29 +42,21 @@ pieces_hash factor zero hash bytes = rest_hash factor hash bytes
 pieces_hash factor (suc more) hash bytes =
     pieces_hash factor more (piece_hash factor hash (take 16 bytes)) (drop 16 bytes)
 
+-- a number of bytes, by the second key of the seed that the factor is of
+abbrev pub length_under : (factor len : ℕ) → ℕ
+length_under factor len = len * bit_or (bit_xor factor 16646288086500911323) 1 % 2 ^ 64
+
 -- the hash goes on over bytes, whose number is hashed too
 unfoldable pub bytes_hash : (factor hash : ℕ) → List ℕ → ℕ
-bytes_hash factor hash bytes = pieces_hash factor (length bytes / 16) (bit_xor hash (length bytes)) bytes
+bytes_hash factor hash bytes =
+    pieces_hash factor (length bytes / 16) (bit_xor hash (length_under factor (length bytes))) bytes
 
--- where a hash begins under a seed, and a factor of each of its products
+-- where a hash begins under a seed, and a factor of each of its products, which goes by a second key: 0 for the seed 0
 abbrev pub start_of : ℕ → ℕ
 start_of seed = bit_xor 11562461410679940143 seed
 
 abbrev pub factor_of : ℕ → ℕ
-factor_of seed = bit_xor 16646288086500911323 seed
-
--- the least power of two that is at least a number
-unfoldable pub width_of : ℕ → ℕ
-width_of zero = 1
-width_of (suc n) = if nat_lt (width_of n) (suc n) then 2 * width_of n else width_of n
-
--- the position of a hash among a number of rows, by linear hashing: its remainder by the width, or half the width below
--- if that is past the last
-unfoldable pub position_among : ℕ → ℕ → ℕ
-position_among count hash =
-    if nat_lt (hash % width_of count) count
-    then hash % width_of count
-    else hash % width_of count - width_of count / 2
+factor_of seed = bit_xor 16646288086500911323 (folded_product seed 10285213230658275043)
 
 -- 32 bits of the hash of a name under a seed
 unfoldable pub name_hash : (seed : ℕ) → List ℕ → ℕ

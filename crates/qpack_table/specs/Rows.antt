@@ -1,7 +1,7 @@
 -- A row of the dynamic table's index: slots with the absolute indexes of entries, in the order of a part of their
 -- fields.
 use Rattle.std.specs.Prelude.{◌≡◌, ◌≢◌, ℕ, ◌+◌, ◌-◌, ◌%◌, ◌<◌, ◌≤◌, ◌^◌, List, [], length, slice_index_or}
-use Rattle.std.specs.Prelude.{Option, MatchOption, Result, Ok, Err, Contains, ◌⊎◌, Bool, ◌==◌, max, vec_capacity}
+use Rattle.std.specs.Prelude.{Option, MatchOption, Result, Ok, Err, Contains, ◌⊎◌, max, vec_capacity}
 use Rattle.std.specs.List.{AllPairs}
 use Rattle.std.specs.declared.cmp.Ordering.{Ordering}
 use Rattle.std.specs.declared.cmp.Ordering.TheVariants.{Less, Equal, Greater}
@@ -9,7 +9,7 @@ use Rattle.std.specs.Ordering.{nat_cmp, ordering_then}
 use Rattle.qpack_base.specs.HeaderFields.{field_cmp, line_of}
 use Rattle.qpack_spec.specs.Field.{Field}
 use Rattle.qpack_table.specs.Growth.{grown}
-use Rattle.qpack_table.specs.Hashes.{field_hash, name_hash, position_among}
+use Rattle.qpack_table.specs.Hashes.{field_hash, name_hash}
 use Rattle.qpack_table.specs.declared.dynamic.comparing.Part.{Part}
 use Rattle.qpack_table.specs.declared.dynamic.comparing.Part.TheVariants.{Name, Whole}
 use Rattle.qpack_table.specs.declared.dynamic.index.row.Row.{Row}
@@ -28,10 +28,6 @@ index_of dropped s = dropped + (s.low + (2 ^ 32 - 1) - dropped % 2 ^ 32) % 2 ^ 3
 -- the slot of an absolute index
 abbrev pub slot_of : (hash index : ℕ) → Slot
 slot_of hash index = record { hash = hash; low = index % 2 ^ 32 }
-
--- how many slots a row has on average, where one more row is made
-abbrev pub slots_a_row : ℕ
-slots_a_row = 8
 
 -- the field of a live entry's absolute index
 abbrev pub field_at : ℕ → List Field → ℕ → Field
@@ -75,9 +71,9 @@ grown_slots row = grown 4 (length row.slots.items)
 abbrev pub GrowsSlots : (old new : Row) → Type 0
 GrowsSlots old new = vec_capacity new.slots ≤ max (vec_capacity old.slots) (grown_slots old)
 
--- a row has no more room than one that grew just now
-abbrev pub HasFewSpareSlots : Row → Type 0
-HasFewSpareSlots row = vec_capacity row.slots ≤ grown_slots row
+-- a row has no more room than one that grew at that many slots
+abbrev pub HasFewSpareSlots : ℕ → Row → Type 0
+HasFewSpareSlots most row = vec_capacity row.slots ≤ grown 4 most
 
 -- what is sought
 abbrev pub field_of_sought : Sought → Field
@@ -100,9 +96,17 @@ pub record IsRow (part : Part) (dropped : ℕ) (live : List Field) (row : List S
   pub slots : (s : Slot) → Contains row s → IsSlot part dropped live s
   pub rises : AllPairs (λ a b. key_cmp (key_at part dropped live a) (key_at part dropped live b) ≡ Less) row
 
--- whether a slot belongs to the new row, if there is one row more than `count`
-abbrev pub goes_to : ℕ → Slot → Bool
-goes_to count s = position_among (count + 1) s.hash == count
+-- a row has the slot of an index, or of a newer one with the same part
+abbrev pub HasSlotOf : Part → ℕ → List Field → List Slot → ℕ → Type 0
+HasSlotOf part dropped live row index =
+    (s : Slot) × Contains row s × (index ≤ index_of dropped s) × (index_of dropped s ≤ dropped + length live)
+    × (part_at part dropped live (index_of dropped s) ≡ part_at part dropped live index)
+
+-- of the oldest live entries, `entered` of them, the newest of each part is in the row, and nothing else is
+pub record IsRowOf (part : Part) (dropped : ℕ) (live : List Field) (entered : ℕ) (row : List Slot) : Type 0 where
+  pub is_row : IsRow part dropped live row
+  pub only : (s : Slot) → Contains row s → index_of dropped s ≤ dropped + entered
+  pub complete : (index : ℕ) → dropped < index → index ≤ dropped + entered → HasSlotOf part dropped live row index
 
 -- the slot at a position has what is sought
 pub record IsMatch (part : Part) (dropped : ℕ) (live : List Field) (row : List Slot) (k : Key) (position : ℕ) : Type 0

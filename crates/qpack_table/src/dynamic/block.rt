@@ -47,7 +47,7 @@ impl<I: EntryIndex, F: StoredField> DynamicTable<I, F> {
     }
 
     /// Gives up the block in progress: what it references is referenced no more. It takes no memory.
-    pub(super) fn release_references(&mut self)
+    pub fn release_references(&mut self)
         ensures { self.new ≡ without_references self.old }
     {
         let dropped = self.vas.total_dropped();

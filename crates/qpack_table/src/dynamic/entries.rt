@@ -151,7 +151,7 @@ pub(super) fn give_back_room<I: EntryIndex, F: StoredField>(entries: &mut Entrie
     ensures items { entries.new.items ≡ entries.old.items }
     ensures given { length entries.old.items ≡ 0 → deque_capacity entries.new ≡ 0 }
     ensures kept { 0 < length entries.old.items → deque_capacity entries.new ≡ deque_capacity entries.old }
-    ensures index_given { length entries.old.items ≡ 0 → I.has_no_rows index.new }
+    ensures index_given { length entries.old.items ≡ 0 → I.has_no_room index.new }
     ensures index_kept { 0 < length entries.old.items → index.new ≡ index.old }
     ensures own { (key : I.Key) → I.is_own key index.old → I.is_own key index.new }
     ensures index { (dropped : ℕ) → I.is_index_of index.old dropped entries.old.items
@@ -200,11 +200,13 @@ pub(super) fn replace_oldest<I: EntryIndex, F: StoredField>(
         → deque_capacity entries.new ≡ grown 8 (length entries.old.items)) }
     ensures capacity { deque_capacity entries.new
         ≤ max (deque_capacity entries.old) (grown 8 (length entries.old.items)) }
+    ensures spare { (most : ℕ) → length entries.old.items ≤ most → I.has_few_spare most index.old
+        → I.has_few_spare most index.new }
 {
     let size = entry.mem_size();
     let key = index.own_key(key, &entry.as_line());
     make_room(entries, ENTRIES)?;
-    index.reserve(entries, vas.total_dropped(), key)?;
+    index.reserve(entries, vas.total_dropped())?;
     let freed = index.drop_oldest(entries, vas, evicted);
     *mem_size = *mem_size - freed + size;
     vas.add();

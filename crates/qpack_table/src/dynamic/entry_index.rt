@@ -35,11 +35,14 @@ pub trait EntryIndex: Drop {
     // The key is one that it finds entries by.
     ghost is_own: { Self.Key → Self → Type 0 };
 
-    // It has no entries, and no memory for any.
-    ghost has_no_rows: { Self → Type 0 };
+    // It has no memory.
+    ghost has_no_room: { Self → Type 0 };
 
-    // There is room for one more entry, with this key.
-    ghost has_room: { Self.Key → Self → Type 0 };
+    // There is room for one more entry.
+    ghost has_room: { Self → Type 0 };
+
+    // There is no more room than one makes that grows at that many entries: for a quarter more.
+    ghost has_few_spare: { ℕ → Self → Type 0 };
 
     /// Returns the key of a field, by which it finds entries.
     fn key_of(&self, field: &FieldLine<'_>) -> Self::Key
@@ -55,21 +58,22 @@ pub trait EntryIndex: Drop {
     /// Returns what is kept beside no entries, which finds them by the same keys. It takes no memory.
     fn emptied(&self) -> Self
         ensures index { (dropped : ℕ) → is_index_of result dropped [] }
-        ensures no_rows { has_no_rows result }
+        ensures room { has_no_room result }
+        ensures spare { (most : ℕ) → has_few_spare most result }
         ensures own { (key : Self.Key) → is_own key self.now → is_own key result };
 
-    /// Makes room for one more entry, with this key. On error the same entries are in.
+    /// Makes room for one more entry. On error the same entries are in.
     fn reserve<F: StoredField>(
         &mut self,
         entries: &Entries<F>,
         dropped: usize,
-        key: Self::Key,
     ) -> Result<(), AllocError>
         requires index { is_index_of self.old dropped entries.now.items }
-        requires few { dropped + length entries.now.items ≤ 2 ^ 62 }
         ensures index { is_index_of self.new dropped entries.now.items }
-        ensures own { (other : Self.Key) → is_own other self.old → is_own other self.new }
-        ensures room { OnOk result (has_room key self.new) };
+        ensures own { (key : Self.Key) → is_own key self.old → is_own key self.new }
+        ensures room { OnOk result (has_room self.new) }
+        ensures spare { (most : ℕ) → length entries.now.items ≤ most → has_few_spare most self.old
+            → has_few_spare most self.new };
 
     /// Adds the newest entry, which was pushed after those that are in. There is room.
     fn enter<F: StoredField>(&mut self, entries: &Entries<F>, dropped: usize, key: Self::Key)
@@ -78,9 +82,10 @@ pub trait EntryIndex: Drop {
         requires pushed { (front : List EntryView) × (newest : EntryView) × (entries.now.items ≡ front ++ newest ∷ [])
             × is_index_of self.old dropped front × is_key_of key newest.field }
         requires own { is_own key self.old }
-        requires room { has_room key self.old }
+        requires room { has_room self.old }
         ensures index { is_index_of self.new dropped entries.now.items }
-        ensures own { (other : Self.Key) → is_own other self.old → is_own other self.new };
+        ensures own { (other : Self.Key) → is_own other self.old → is_own other self.new }
+        ensures spare { (most : ℕ) → has_few_spare most self.old → has_few_spare most self.new };
 
     /// Drops the oldest entries, of the list too, and returns the sum of their sizes. It takes no memory, and the room that
     /// was made stays.
@@ -97,7 +102,8 @@ pub trait EntryIndex: Drop {
         ensures left { entries.new.items ≡ drop evicted entries.old.items }
         ensures capacity { deque_capacity entries.new ≡ deque_capacity entries.old }
         ensures index { is_index_of self.new vas.new.dropped entries.new.items }
-        ensures room { (key : Self.Key) → has_room key self.old → has_room key self.new }
+        ensures room { has_room self.old → has_room self.new }
+        ensures spare { (most : ℕ) → has_few_spare most self.old → has_few_spare most self.new }
         ensures own { (key : Self.Key) → is_own key self.old → is_own key self.new }
         ensures dropped { vas.new ≡ record vas.old { dropped = vas.old.dropped + evicted } }
         ensures freed { result + total_size (drop evicted (fields_in (entries_of entries.old.items))) ≡
@@ -161,9 +167,11 @@ impl EntryIndex for NoIndex {
 
     ghost is_own = { λ _ _. ⊤ };
 
-    ghost has_no_rows = { λ _. ⊤ };
+    ghost has_no_room = { λ _. ⊤ };
 
-    ghost has_room = { λ _ _. ⊤ };
+    ghost has_room = { λ _. ⊤ };
+
+    ghost has_few_spare = { λ _ _. ⊤ };
 
     ghost same_fields = { λ _ _ _ _ _ _. tt };
 
@@ -179,7 +187,6 @@ impl EntryIndex for NoIndex {
         &mut self,
         _entries: &Entries<F>,
         _dropped: usize,
-        _key: (),
     ) -> Result<(), AllocError> {
         Ok(())
     }

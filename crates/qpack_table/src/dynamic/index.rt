@@ -1,42 +1,36 @@
 //! The index of the live entries, by which the newest entry with a field, or with a name, is found. It keeps only
 //! hashes and absolute indexes: pass each call the entries, and how many were dropped before them.
 
-ghost use Rattle.std.specs.Prelude.{◌≡◌, ◌+◌, ◌-◌, ◌/◌, ◌^◌, ◌<◌, ◌≤◌, ℕ, [], OnOk, OnErr, length, drop};
+ghost use Rattle.std.specs.Prelude.{◌≡◌, ℕ, ◌+◌, ◌-◌, ◌^◌, ◌<◌, ◌≤◌, [], OnOk, OnErr, length, drop};
 ghost use Rattle.std.specs.Prelude.{vec_capacity};
 ghost use Rattle.qpack_base.specs.HeaderFields.{line_of};
 ghost use Rattle.qpack_spec.specs.Field.{is_field, has_name};
-ghost use Rattle.qpack_table.specs.Rows.{field_at, Counts, slots_a_row};
+ghost use Rattle.qpack_table.specs.Rows.{field_at, Counts, GrowsSlots};
 ghost use Rattle.qpack_table.specs.Tables.{IsIndexOfEntries, entries_of, live_fields};
 ghost use Rattle.qpack_table.specs.SameFields.{with_same_fields};
-ghost use Rattle.qpack_table.specs.declared.dynamic.index.hash.Hashes.{Hashes};
 ghost use Rattle.qpack_table.specs.Hashes.{name_hash};
-ghost use Rattle.qpack_table.specs.Indexes.{AreHashesOf, AreSeededHashesOf, IsIndexOf, HasRoomForEntry, IsNewestIn};
-ghost use Rattle.qpack_table.specs.Indexes.{IsIndex, KeepsIndexed, HasNoRows, NeedsRowOfNames};
-ghost use Rattle.qpack_table.specs.Indexes.{GrowsRows, GrowsNames, one_row_more, HasFewSpare};
+ghost use Rattle.qpack_table.specs.Indexes.{AreHashesOf, AreSeededHashesOf, IsIndexOf, IsNewestIn};
+ghost use Rattle.qpack_table.specs.Indexes.{KeepsSlots, HasNoSlots, HasRoomForEntry, HasFewSpare};
 
 mod hash;
 mod row;
-mod rows;
 
 use crate::dynamic::comparing::{Part, Steps};
 use crate::dynamic::entries::Entries;
 use crate::dynamic::entry_index::{EntryIndex, FindsEntries};
-use crate::dynamic::growth::{ROWS, ROWS_OF_NAMES, SLOTS_A_ROW};
 use crate::dynamic::index::hash::hash_name;
 pub(super) use crate::dynamic::index::hash::{Hashes, SeededHashes};
-use crate::dynamic::index::row::Sought;
-use crate::dynamic::index::rows::Rows;
+use crate::dynamic::index::row::{Row, Sought};
 use crate::vas::VirtualAddressSpace;
 use qpack_base::field::FieldLine;
 use qpack_base::stored_field::StoredField;
 use std::alloc::{AllocError, Global};
 
-/// The newest live entry of each different field, and of each different name. A row of either has eight of them on
-/// average, or fewer.
+/// The newest live entry of each different field, and of each different name.
 #[derive(Debug, Drop)]
 pub struct Index {
-    fields: Rows,
-    names: Rows,
+    fields: Row,
+    names: Row,
     /// What the hashes are computed under.
     seed: u64,
     alloc: Global,
@@ -46,12 +40,12 @@ impl Index {
     /// Returns the index of no entry, with a seed. It takes no memory.
     pub(super) fn new(alloc: Global, seed: u64) -> Index
         ensures index { (dropped : ℕ) → IsIndexOf dropped [] 0 result }
-        ensures no_rows { HasNoRows result }
+        ensures room { HasNoSlots result }
         ensures seed { result.seed ≡ seed }
     {
         Index {
-            fields: Rows::new(alloc),
-            names: Rows::new(alloc),
+            fields: Row::new(alloc),
+            names: Row::new(alloc),
             seed,
             alloc,
         }
@@ -67,7 +61,7 @@ impl Index {
     /// Returns another index of no entry, with the same seed.
     pub(super) fn emptied(&self) -> Index
         ensures index { (dropped : ℕ) → IsIndexOf dropped [] 0 result }
-        ensures no_rows { HasNoRows result }
+        ensures room { HasNoSlots result }
         ensures seed { result.seed ≡ self.now.seed }
     {
         Index::new(self.alloc, self.seed)
@@ -160,100 +154,17 @@ impl Index {
         self.names.newest(entries, dropped, &sought, steps)
     }
 
-    /// Makes room for one more entry, with these hashes. If there are eight entries or more for each row of fields, it
-    /// makes one more row, or the first ones. On error the same entries are in, in as many rows of fields.
+    /// Makes room for one more entry. It fails only if there is none. On error the same entries are in.
     #[inline(always)]
-    pub(super) fn reserve<F: StoredField>(
-        &mut self,
-        entries: &Entries<F>,
-        dropped: usize,
-        hashes: Hashes,
-    ) -> Result<(), AllocError>
-        requires index { IsIndexOf dropped (live_fields entries.now.items) (length entries.now.items) self.old }
-        requires few { dropped + length entries.now.items ≤ 2 ^ 62 }
-        ensures index { IsIndexOf dropped (live_fields entries.now.items) (length entries.now.items) self.new }
-        ensures rows { OnOk result (GrowsRows (length entries.now.items) (length self.old.fields.rows.items)
-            (length self.new.fields.rows.items)) }
-        ensures rows_of_names { OnOk result (GrowsNames hashes self.old self.new) }
-        ensures err { OnErr result (length self.new.fields.rows.items ≡ length self.old.fields.rows.items) }
-        ensures room { OnOk result (HasRoomForEntry hashes self.new) }
-        ensures full { OnErr result (length entries.now.items / slots_a_row < length self.old.fields.rows.items
-            → HasRoomForEntry hashes self.old → NeedsRowOfNames hashes self.old) }
-        ensures fields { HasFewSpare self.old.fields → HasFewSpare self.new.fields }
-        ensures names { HasFewSpare self.old.names → HasFewSpare self.new.names }
-        ensures seed { self.new.seed ≡ self.old.seed }
+    pub(super) fn reserve(&mut self) -> Result<(), AllocError>
+        ensures slots { KeepsSlots self.old self.new }
+        ensures room { OnOk result (HasRoomForEntry self.new) }
+        ensures full { OnErr result (HasRoomForEntry self.old → ⊥) }
+        ensures fields { GrowsSlots self.old.fields self.new.fields }
+        ensures names { GrowsSlots self.old.names self.new.names }
     {
-        if entries.len() / SLOTS_A_ROW < self.fields.count() {
-            return self.make_room(hashes);
-        }
-        self.grow(hashes)
-    }
-
-    /// Makes room for one more entry in its rows. If the row of its name is crowded, it makes one more row of names.
-    /// Otherwise it fails only if there is no room.
-    fn make_room(&mut self, hashes: Hashes) -> Result<(), AllocError>
-        requires some { 0 < length self.old.fields.rows.items }
-        requires index { IsIndex self.old }
-        ensures index { KeepsIndexed self.old self.new }
-        ensures rows { length self.new.fields.rows.items ≡ length self.old.fields.rows.items }
-        ensures rows_of_names { OnOk result (GrowsNames hashes self.old self.new) }
-        ensures room { OnOk result (HasRoomForEntry hashes self.new) }
-        ensures full { OnErr result (HasRoomForEntry hashes self.old → NeedsRowOfNames hashes self.old) }
-        ensures fields { HasFewSpare self.old.fields → HasFewSpare self.new.fields }
-        ensures names { HasFewSpare self.old.names → HasFewSpare self.new.names }
-        ensures seed { self.new.seed ≡ self.old.seed }
-    {
-        self.names
-            .reserve_within(self.alloc, self.fields.count(), hashes.name)?;
-        self.fields.reserve(hashes.field)
-    }
-
-    /// Makes one more row of fields, and one of names if the row of this name is crowded, or the first ones; and room
-    /// for one more entry. It hashes nothing again. What can fail comes first.
-    #[inline(never)]
-    fn grow(&mut self, hashes: Hashes) -> Result<(), AllocError>
-        requires index { IsIndex self.old }
-        ensures index { KeepsIndexed self.old self.new }
-        ensures rows { OnOk result (length self.new.fields.rows.items
-            ≡ one_row_more (length self.old.fields.rows.items)) }
-        ensures rows_of_names { OnOk result (GrowsNames hashes self.old self.new) }
-        ensures err { OnErr result (length self.new.fields.rows.items ≡ length self.old.fields.rows.items) }
-        ensures room { OnOk result (HasRoomForEntry hashes self.new) }
-        ensures fields { HasFewSpare self.old.fields → HasFewSpare self.new.fields }
-        ensures names { HasFewSpare self.old.names → HasFewSpare self.new.names }
-        ensures seed { self.new.seed ≡ self.old.seed }
-    {
-        if self.fields.count() == 0 {
-            return self.make_first_rows(hashes);
-        }
-        let fields = self.fields.split(self.alloc, hashes.field)?;
-        self.names
-            .reserve_within(self.alloc, self.fields.count(), hashes.name)?;
-        self.fields.put_split(fields);
-        Ok(())
-    }
-
-    /// Makes the first rows of either kind, and room for one entry. On error there are none.
-    fn make_first_rows(&mut self, hashes: Hashes) -> Result<(), AllocError>
-        requires none { length self.old.fields.rows.items ≡ 0 }
-        ensures index { KeepsIndexed self.old self.new }
-        ensures rows { OnOk result (length self.new.fields.rows.items ≡ 8) }
-        ensures rows_of_names { OnOk result (length self.new.names.rows.items ≡ 4) }
-        ensures made { OnOk result
-            ((vec_capacity self.new.fields.rows ≡ 8) × (vec_capacity self.new.names.rows ≡ 4)) }
-        ensures err { OnErr result (length self.new.fields.rows.items ≡ 0) }
-        ensures room { OnOk result (HasRoomForEntry hashes self.new) }
-        ensures fields { HasFewSpare self.old.fields → HasFewSpare self.new.fields }
-        ensures names { HasFewSpare self.old.names → HasFewSpare self.new.names }
-        ensures seed { self.new.seed ≡ self.old.seed }
-    {
-        let mut fields = Rows::with_count(self.alloc, ROWS)?;
-        let mut names = Rows::with_count(self.alloc, ROWS_OF_NAMES)?;
-        fields.reserve(hashes.field)?;
-        names.reserve(hashes.name)?;
-        self.fields = fields;
-        self.names = names;
-        Ok(())
+        self.fields.reserve()?;
+        self.names.reserve()
     }
 
     /// Adds the next newer entry after those that are in. There is room.
@@ -269,9 +180,10 @@ impl Index {
         requires live { (dropped < index) × (index ≤ dropped + length entries.now.items) }
         requires index { IsIndexOf dropped (live_fields entries.now.items) (index - dropped - 1) self.old }
         requires hashes { AreHashesOf self.old.seed hashes (field_at dropped (live_fields entries.now.items) index) }
-        requires room { HasRoomForEntry hashes self.old }
+        requires room { HasRoomForEntry self.old }
         ensures index { IsIndexOf dropped (live_fields entries.now.items) (index - dropped) self.new }
-        ensures rows { length self.new.fields.rows.items ≡ length self.old.fields.rows.items }
+        ensures fields { vec_capacity self.new.fields.slots ≡ vec_capacity self.old.fields.slots }
+        ensures names { vec_capacity self.new.names.slots ≡ vec_capacity self.old.names.slots }
         ensures seed { self.new.seed ≡ self.old.seed }
     {
         let line = entries[index - dropped - 1].as_line();
@@ -295,7 +207,9 @@ impl Index {
         requires index { IsIndexOf dropped (live_fields entries.now.items) (length entries.now.items) self.old }
         ensures index { IsIndexOf (dropped + 1) (drop 1 (live_fields entries.now.items))
             (length entries.now.items - 1) self.new }
-        ensures room { (hashes : Hashes) → HasRoomForEntry hashes self.old → HasRoomForEntry hashes self.new }
+        ensures room { HasRoomForEntry self.old → HasRoomForEntry self.new }
+        ensures fields { vec_capacity self.new.fields.slots ≡ vec_capacity self.old.fields.slots }
+        ensures names { vec_capacity self.new.names.slots ≡ vec_capacity self.old.names.slots }
         ensures seed { self.new.seed ≡ self.old.seed }
     {
         let line = entries[0].as_line();
@@ -324,9 +238,11 @@ impl EntryIndex for Index {
 
     ghost is_own = { λ known index. known.seed ≡ index.seed };
 
-    ghost has_no_rows = { λ index. HasNoRows index };
+    ghost has_no_room = { λ index. HasNoSlots index };
 
-    ghost has_room = { λ known index. HasRoomForEntry known.hashes index };
+    ghost has_room = { λ index. HasRoomForEntry index };
+
+    ghost has_few_spare = { λ most index. HasFewSpare most index };
 
     ghost same_fields = { λ index dropped old new same is.
         with_same_fields (λ live count. IsIndexOf dropped live count index) old new same is };
@@ -347,11 +263,10 @@ impl EntryIndex for Index {
     #[inline(always)]
     fn reserve<F: StoredField>(
         &mut self,
-        entries: &Entries<F>,
-        dropped: usize,
-        key: SeededHashes,
+        _entries: &Entries<F>,
+        _dropped: usize,
     ) -> Result<(), AllocError> {
-        Index::reserve(self, entries, dropped, key.hashes)
+        Index::reserve(self)
     }
 
     #[inline(always)]

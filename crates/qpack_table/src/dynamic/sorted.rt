@@ -2,9 +2,11 @@
 //! index of their entries, and searched by halving. It keeps no hash. Pass each call the entries, and how many were
 //! dropped before them.
 
-ghost use Rattle.std.specs.Prelude.{◌≡◌, ℕ, ◌+◌, ◌-◌, ◌*◌, ◌<◌, ◌≤◌, ⊤, OnOk, [], length, drop, take, vec_capacity};
+ghost use Rattle.std.specs.Prelude.{◌≡◌, ℕ, ◌+◌, ◌-◌, ◌*◌, ◌<◌, ◌≤◌, ⊤, OnOk, [], length, max, drop, take};
+ghost use Rattle.std.specs.Prelude.{vec_capacity};
 ghost use Rattle.qpack_base.specs.HeaderFields.{line_of};
 ghost use Rattle.qpack_spec.specs.Reading.{greatest_of};
+ghost use Rattle.qpack_table.specs.Growth.{grown};
 ghost use Rattle.qpack_table.specs.Rows.{Counts};
 ghost use Rattle.qpack_table.specs.Tables.{live_fields};
 ghost use Rattle.qpack_table.specs.SortedIndexes.{IsSortedIndexOf, IsEnd};
@@ -99,6 +101,8 @@ impl SortedIndex {
         requires full { vec_capacity self.old.sorted ≤ length self.old.sorted.items }
         ensures items { self.new.sorted.items ≡ self.old.sorted.items }
         ensures room { OnOk result (length self.new.sorted.items < vec_capacity self.new.sorted) }
+        ensures capacity { vec_capacity self.new.sorted
+            ≤ max (vec_capacity self.old.sorted) (grown 8 (length self.old.sorted.items)) }
     {
         self.sorted
             .reserve_exact(growth(self.sorted.len(), ENTRIES))
@@ -115,9 +119,11 @@ impl EntryIndex for SortedIndex {
 
     ghost is_own = { λ _ _. ⊤ };
 
-    ghost has_no_rows = { λ index. vec_capacity index.sorted ≡ 0 };
+    ghost has_no_room = { λ index. vec_capacity index.sorted ≡ 0 };
 
-    ghost has_room = { λ _ index. length index.sorted.items < vec_capacity index.sorted };
+    ghost has_room = { λ index. length index.sorted.items < vec_capacity index.sorted };
+
+    ghost has_few_spare = { λ most index. vec_capacity index.sorted ≤ grown 8 most };
 
     ghost same_fields = { λ index dropped old new same is.
         with_same_fields (λ live count. IsSortedIndexOf dropped live count index.sorted.items) old new same is };
@@ -134,7 +140,6 @@ impl EntryIndex for SortedIndex {
         &mut self,
         _entries: &Entries<F>,
         _dropped: usize,
-        _key: (),
     ) -> Result<(), AllocError> {
         if self.sorted.len() < self.sorted.capacity() {
             return Ok(());

@@ -208,11 +208,19 @@ impl<I: EntryIndex, F: StoredField> DynamicTable<I, F> {
         self.vas.total_dropped()
     }
 
-    /// Returns the sum of the live fields' sizes in bytes.
-    pub(super) fn used(&self) -> usize
+    /// Returns the size of the table in bytes: the sum of its entries' sizes (RFC 9204, section 3.2.1). It is at most the
+    /// capacity.
+    pub fn used(&self) -> usize
         ensures { result ≡ total_size (fields_in self.now.live) }
     {
         self.mem_size
+    }
+
+    /// Returns how many entries the table has.
+    pub fn count(&self) -> usize
+        ensures { result ≡ length self.now.live }
+    {
+        self.entries.len()
     }
 
     /// Returns the size in bytes of the live entry with an absolute index.

@@ -1,8 +1,8 @@
 //! The hashes of fields and of names, under a seed. How well they spread is not promised: a bad one costs time.
 
-ghost use Rattle.std.specs.Prelude.{◌≡◌, ◌^◌, ◌<◌, ◌≤◌};
+ghost use Rattle.std.specs.Prelude.{◌≡◌};
 ghost use Rattle.qpack_base.specs.HeaderFields.{line_of};
-ghost use Rattle.qpack_table.specs.Hashes.{bytes_hash, name_hash, field_hash, position_among, start_of, factor_of};
+ghost use Rattle.qpack_table.specs.Hashes.{bytes_hash, name_hash, field_hash, start_of, factor_of, length_under};
 ghost use Rattle.qpack_table.specs.Hashes.{words_hash, piece_hash, rest_hash, short_hash, few_bytes, folded_product};
 ghost use Rattle.qpack_table.specs.Indexes.{AreSeededHashesOf};
 
@@ -11,9 +11,12 @@ use qpack_base::field::FieldLine;
 /// Where a hash begins. Any number will do: this and the next are of `wyhash`.
 const START: u64 = 0xA076_1D64_78BD_642F;
 
-/// A factor of each product of a hash. The seed goes into this too: if the factor is known, bytes can be chosen that
+/// A factor of each product of a hash. A second key goes into this: if the factor is known, bytes can be chosen that
 /// make the product 0 whatever came before them.
 const FACTOR: u64 = 0xE703_7ED1_A0B4_28DB;
+
+/// What makes the second key of a seed. If both keys were the seed, two words could be exchanged under every seed.
+const SPREAD: u64 = 0x8EBC_6AF0_9C88_C6E3;
 
 /// The low half of 128 bits.
 const LOW_HALF: u128 = (1 << 64) - 1;
@@ -110,46 +113,16 @@ fn start_of(seed: u64) -> u64
 fn factor_of(seed: u64) -> u64
     ensures { result ≡ factor_of seed }
 {
-    FACTOR ^ seed
+    FACTOR ^ fold_product(seed, SPREAD)
 }
 
-/// Returns the position of a hash among a number of rows, by linear hashing. It is the remainder of the hash by the
-/// width, the least power of two that is at least the number; or half the width below, if there is no such row yet. So
-/// one more row takes hashes of one other row alone, that of [`split_among`].
-pub(super) fn position_of(hash: u32, count: usize) -> usize
-    requires some { 0 < count }
-    requires few { count ≤ 2 ^ 63 }
-    ensures position { result ≡ position_among count hash }
-    ensures within { result < count }
-{
-    position_below(hash as usize, count)
-}
-
-/// Returns the position of the row that one more row takes hashes of.
-pub(super) fn split_among(count: usize) -> usize
-    requires some { 0 < count }
-    requires few { count ≤ 2 ^ 63 }
-    ensures position { result ≡ position_among count count }
-    ensures within { result < count }
-{
-    position_below(count, count)
-}
-
-/// Returns the position of any number among a number of rows.
+/// Returns the number that a hash begins with for a number of bytes: its product with the second key. What is read of two
+/// strings of different lengths may be the same, so a known number could be outweighed by a byte.
 #[inline(always)]
-fn position_below(number: usize, count: usize) -> usize
-    requires some { 0 < count }
-    requires few { count ≤ 2 ^ 63 }
-    ensures position { result ≡ position_among count number }
-    ensures within { result < count }
+fn length_under(factor: u64, len: usize) -> u64
+    ensures { result ≡ length_under factor len }
 {
-    let width = count.next_power_of_two();
-    let position = number & (width - 1);
-    if position < count {
-        position
-    } else {
-        position - width / 2
-    }
+    (len as u64).wrapping_mul((factor ^ FACTOR) | 1)
 }
 
 /// Returns the hash of a name under a seed.
@@ -163,7 +136,7 @@ pub(super) fn hash_name(seed: u64, name: &[u8]) -> u32
 fn hash_bytes(factor: u64, start: u64, bytes: &[u8]) -> u64
     ensures { result ≡ bytes_hash factor start bytes.now }
 {
-    let mut hash = start ^ bytes.len() as u64;
+    let mut hash = start ^ length_under(factor, bytes.len());
     let mut rest = bytes;
     while let Some((piece, more)) = rest.split_first_chunk::<16>() {
         hash = hash_piece(factor, hash, *piece);

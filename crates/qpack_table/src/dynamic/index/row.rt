@@ -1,20 +1,17 @@
-//! A row of the index: slots that rise by the hash of a part of their entries' fields, then by that part. A search
-//! halves them.
+//! A row of the index: slots that rise by the hash of a part of their entries' fields, then by that part, one for each
+//! different part. A search halves them, whatever their hashes are.
 
-ghost use Rattle.std.specs.Prelude.{◌≡◌, ◌+◌, ◌-◌, ◌^◌, ◌<◌, ◌≤◌, [], ◌∷◌, ◌++◌, length, IfSome};
-ghost use Rattle.std.specs.Prelude.{IfNone, IfOk, OnOk, OnErr, not, nat_le, vec_capacity};
-ghost use Rattle.std.specs.List.{All, filter};
-ghost use Rattle.qpack_base.specs.HeaderFields.{field_of};
+ghost use Rattle.std.specs.Prelude.{◌≡◌, ℕ, ◌+◌, ◌-◌, ◌^◌, ◌<◌, ◌≤◌, [], length, drop, IfSome, IfNone, OnOk, OnErr};
+ghost use Rattle.std.specs.Prelude.{vec_capacity};
 ghost use Rattle.qpack_table.specs.Rows.{part_at, key_cmp, key_at, key_of, field_of_sought, IsHashed, IsSlot};
-ghost use Rattle.qpack_table.specs.Rows.{HasRoom, IsRow, IsPlace, FindsSlot, Enters, Leaves, HasIndexAt, HasNoIndex};
-ghost use Rattle.qpack_table.specs.Rows.{Counts, GrowsSlots, HasFewSpareSlots, goes_to, grown_slots, index_of, slot_of};
-ghost use Rattle.qpack_table.specs.Rows.{slots_a_row};
+ghost use Rattle.qpack_table.specs.Rows.{HasRoom, IsRow, IsRowOf, IsPlace, HasIndexAt, HasNoIndex};
+ghost use Rattle.qpack_table.specs.Rows.{Counts, GrowsSlots, grown_slots, index_of};
+ghost use Rattle.qpack_table.specs.Indexes.{FindsNewest};
 ghost use Rattle.qpack_table.specs.Tables.{live_fields};
 
 use crate::dynamic::comparing::{Part, Steps, compare_entry};
 use crate::dynamic::entries::Entries;
-use crate::dynamic::growth::{SLOTS, SLOTS_A_ROW, growth};
-use crate::dynamic::index::hash::position_of;
+use crate::dynamic::growth::{SLOTS, growth};
 use qpack_base::field::FieldLine;
 use qpack_base::stored_field::StoredField;
 use std::alloc::{AllocError, Global};
@@ -91,15 +88,6 @@ pub(super) struct Row {
     slots: Vec<Slot>,
 }
 
-/// The slots of a row in two.
-#[derive(Debug, Drop)]
-pub(super) struct Split {
-    /// Those that stay where they were.
-    pub(super) stays: Row,
-    /// Those that go to a new row.
-    pub(super) goes: Row,
-}
-
 impl Row {
     /// Returns an empty row. It takes no memory.
     pub(super) fn new(alloc: Global) -> Row
@@ -137,47 +125,6 @@ impl Row {
         self.slots.reserve_exact(growth(self.slots.len(), SLOTS))
     }
 
-    /// Returns whether it has as many slots as a row has on average, or more.
-    pub(super) fn is_crowded(&self) -> bool
-        ensures { result ≡ nat_le slots_a_row (length self.now.slots.items) }
-    {
-        self.slots.len() >= SLOTS_A_ROW
-    }
-
-    /// Splits its slots, if there is one row more than `count`: into those that stay, and those whose hashes belong to
-    /// the new row. Both are in order, since the slots are.
-    pub(super) fn split(&self, alloc: Global, count: usize) -> Result<Split, AllocError>
-        requires few { count < 2 ^ 63 }
-        ensures stays { IfOk result (λ split. split.stays.slots.items
-            ≡ filter (λ s. not (goes_to count s)) self.now.slots.items) }
-        ensures goes { IfOk result (λ split. split.goes.slots.items ≡ filter (goes_to count) self.now.slots.items) }
-        ensures capacity { IfOk result (λ split. HasFewSpareSlots split.stays × HasFewSpareSlots split.goes) }
-    {
-        let mut split = Split {
-            stays: Row::new(alloc),
-            goes: Row::new(alloc),
-        };
-        for slot in &self.slots {
-            if position_of(slot.hash, count + 1) == count {
-                split.goes.push(*slot)?;
-            } else {
-                split.stays.push(*slot)?;
-            }
-        }
-        Ok(split)
-    }
-
-    /// Adds a slot after the others. On error the row is as before.
-    fn push(&mut self, slot: Slot) -> Result<(), AllocError>
-        ensures ok { OnOk result (self.new.slots.items ≡ self.old.slots.items ++ slot ∷ []) }
-        ensures err { OnErr result (self.new.slots.items ≡ self.old.slots.items) }
-        ensures capacity { GrowsSlots self.old self.new }
-    {
-        self.reserve()?;
-        self.slots.push_reserved(slot);
-        Ok(())
-    }
-
     /// Returns where the slot with what is sought is, or where it would be. Each comparison leaves at most half of the
     /// slots.
     fn search<F: StoredField>(
@@ -205,9 +152,9 @@ impl Row {
         Err(low)
     }
 
-    /// Returns the index whose entry has what is sought.
+    /// Returns the newest index whose entry has what is sought. All entries are in.
     #[inline(always)]
-    pub(super) fn find<F: StoredField>(
+    pub(super) fn newest<F: StoredField>(
         &self,
         entries: &Entries<F>,
         dropped: usize,
@@ -215,11 +162,12 @@ impl Row {
         steps: &mut Steps,
     ) -> Option<usize>
         requires few { dropped + length entries.now.items < 2 ^ 64 }
-        requires row { IsRow sought.now.part dropped (live_fields entries.now.items) self.now.slots.items }
+        requires row { IsRowOf sought.now.part dropped (live_fields entries.now.items) (length entries.now.items)
+            self.now.slots.items }
         requires hashed { IsHashed sought.now }
-        ensures found { FindsSlot sought.now.part dropped (live_fields entries.now.items) self.now.slots.items
+        ensures found { FindsNewest sought.now.part dropped (live_fields entries.now.items)
             (field_of_sought sought.now) result }
-        ensures steps { Counts (length self.now.slots.items) steps.old.count steps.new.count }
+        ensures steps { Counts (length entries.now.items) steps.old.count steps.new.count }
     {
         match self.search(entries, dropped, sought, steps) {
             Ok(position) => Some(dropped + self.slots[position].position(dropped) + 1),
@@ -227,7 +175,7 @@ impl Row {
         }
     }
 
-    /// Adds a live index, for which there is room: in the slot of the same part, if there is one.
+    /// Adds the next newer entry after those that are in: in the slot of the same part, if there is one. There is room.
     pub(super) fn enter<F: StoredField>(
         &mut self,
         entries: &Entries<F>,
@@ -236,15 +184,16 @@ impl Row {
         sought: &Sought<'_>,
     )
         requires few { length entries.now.items < 2 ^ 32 }
-        requires row { IsRow sought.now.part dropped (live_fields entries.now.items) self.old.slots.items }
         requires live { (dropped < index) × (index ≤ dropped + length entries.now.items) }
+        requires row { IsRowOf sought.now.part dropped (live_fields entries.now.items) (index - dropped - 1)
+            self.old.slots.items }
         requires field { field_of_sought sought.now
             ≡ part_at sought.now.part dropped (live_fields entries.now.items) index }
         requires hashed { IsHashed sought.now }
         requires room { HasRoom self.old }
-        ensures row { IsRow sought.now.part dropped (live_fields entries.now.items) self.new.slots.items }
-        ensures slots { Enters sought.now.part dropped (live_fields entries.now.items) self.old.slots.items
-            self.new.slots.items (slot_of sought.now.hash index) }
+        ensures row { IsRowOf sought.now.part dropped (live_fields entries.now.items) (index - dropped)
+            self.new.slots.items }
+        ensures capacity { vec_capacity self.new.slots ≡ vec_capacity self.old.slots }
     {
         let slot = Slot {
             hash: sought.hash,
@@ -257,20 +206,23 @@ impl Row {
         }
     }
 
-    /// Removes the slot of the oldest entry, if it is there.
+    /// Removes the oldest entry, which is about to be popped: its slot, if no newer entry has the same part.
     pub(super) fn leave<F: StoredField>(
         &mut self,
         entries: &Entries<F>,
         dropped: usize,
         sought: &Sought<'_>,
     )
-        requires row { IsRow sought.now.part dropped (live_fields entries.now.items) self.old.slots.items }
+        requires some { 0 < length entries.now.items }
+        requires row { IsRowOf sought.now.part dropped (live_fields entries.now.items) (length entries.now.items)
+            self.old.slots.items }
         requires field { field_of_sought sought.now
             ≡ part_at sought.now.part dropped (live_fields entries.now.items) (dropped + 1) }
         requires hashed { IsHashed sought.now }
-        ensures row { IsRow sought.now.part dropped (live_fields entries.now.items) self.new.slots.items }
-        ensures slots { Leaves dropped self.old.slots.items self.new.slots.items (dropped + 1) }
+        ensures row { IsRowOf sought.now.part (dropped + 1) (drop 1 (live_fields entries.now.items))
+            (length entries.now.items - 1) self.new.slots.items }
         ensures room { HasRoom self.old → HasRoom self.new }
+        ensures capacity { vec_capacity self.new.slots ≡ vec_capacity self.old.slots }
     {
         if let Some(position) = self.position_of_oldest(entries, dropped, sought) {
             self.slots.remove(position);

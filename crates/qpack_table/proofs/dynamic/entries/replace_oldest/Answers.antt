@@ -46,7 +46,7 @@ enter-requires-clause-own g c =
     c.drop_oldest-freed.ensures.own _ (c.in_ok-reserve.ensures.own _ c.own_key-key.ensures.own)
 
 pub enter-requires-clause-room : goal.enter-requires-clause-room
-enter-requires-clause-room g c = c.drop_oldest-freed.ensures.room _ c.in_ok-reserve.ensures.room
+enter-requires-clause-room g c = c.drop_oldest-freed.ensures.room c.in_ok-reserve.ensures.room
 
 pub returns-clause-entered : goal.returns-clause-entered
 returns-clause-entered g c =

@@ -1,4 +1,4 @@
-use Rattle.std.proofs.Common.{sym, ap, ◌∙◌, arith}
+use Rattle.std.proofs.Common.{sym, ap, ◌∙◌}
 use Rattle.qpack_base.specs.HeaderFields.{line_of}
 use Rattle.qpack_spec.specs.Field.{Field}
 use Rattle.qpack_table.specs.Hashes.{field_hash, name_hash}
@@ -29,16 +29,3 @@ enter-requires-2-clause-hashed g c =
     ∙ ap (λ (f : Field). name_hash c.args.self.now.seed f.name)
     (sym (line_read (Whole c.args.self.now.seed) c.args.dropped c.args.entries.now.items
     c.args.index _ (line_of c.as_line-line.result) c.requires.live c.index.ensures c.as_line-line.ensures))
-
-pub returns-clause-index : goal.returns-clause-index
-returns-clause-index g c =
-    record {
-      fields = c.enter.ensures.rows;
-      names = c.enter-2.ensures.rows;
-      some = λ some. omega (
-        arith,
-        c.enter-2.ensures.count,
-        c.requires.index.some (omega (arith, some, c.enter.ensures.count)),
-      );
-      few = omega (arith, c.enter-2.ensures.count, c.requires.index.few, c.enter.ensures.count);
-    }

@@ -33,7 +33,11 @@ loop-preserved g c =
           c.loop.entries.items c.pop_front.new.self.items c.in-Some.entry (index_left _ _ _ c.leave.ensures.index)
           c.in-Some.ensures.items
           (ap (λ (p : Positions). p.dropped) c.drop.ensures ∙ ap (λ (n : ℕ). n + 1) (sym at.is));
-      room = λ key has. c.leave.ensures.room key.hashes (i.room key has);
+      room = λ has. c.leave.ensures.room (i.room has);
+      spare = λ most has. let few = i.spare most has in record {
+        fields = omega (arith, c.leave.ensures.fields, few.fields);
+        names = omega (arith, c.leave.ensures.names, few.names);
+      };
       own = λ key is. i.own key is ∙ sym c.leave.ensures.seed;
       freed = omega (arith, exact, one.sum, one.fits, i.freed);
       dropped = omega (arith, i.dropped, ap (λ (p : Positions). p.dropped) c.drop.ensures);
@@ -62,3 +66,6 @@ returns-after-loop-clause-room g c = c.loop.invariant.room
 
 pub returns-after-loop-clause-own : goal.returns-after-loop-clause-own
 returns-after-loop-clause-own g c = c.loop.invariant.own
+
+pub returns-after-loop-clause-spare : goal.returns-after-loop-clause-spare
+returns-after-loop-clause-spare g c = c.loop.invariant.spare

@@ -1,7 +1,7 @@
-use Rattle.std.proofs.Common.{◌≡◌, ◌+◌, ◌≤◌, length, drop, deque_capacity}
+use Rattle.std.proofs.Common.{◌≡◌, ℕ, ◌+◌, ◌≤◌, length, drop, deque_capacity}
 use Rattle.qpack_spec.specs.Field.{total_size}
 use Rattle.qpack_spec.specs.Table.{fields_in}
-use Rattle.qpack_table.specs.Indexes.{HasRoomForEntry}
+use Rattle.qpack_table.specs.Indexes.{HasRoomForEntry, HasFewSpare}
 use Rattle.qpack_table.specs.Tables.{entries_of, IsIndexOfEntries}
 use Rattle.qpack_table.specs.declared.dynamic.index.hash.SeededHashes.{SeededHashes}
 use Rattle.qpack_table.proofs.dynamic.index.IndexEntryIndex.drop_oldest.Given as goal
@@ -14,7 +14,8 @@ invariant-loop g l = let then = l.initial.entries in record {
   freed : l.freed + total_size (drop l.counter (fields_in (entries_of then.items)))
       ≡ total_size (fields_in (entries_of then.items));
   index : IsIndexOfEntries l.self l.vas.dropped l.entries.items;
-  room : (key : SeededHashes) → HasRoomForEntry key.hashes l.initial.self → HasRoomForEntry key.hashes l.self;
+  room : HasRoomForEntry l.initial.self → HasRoomForEntry l.self;
+  spare : (most : ℕ) → HasFewSpare most l.initial.self → HasFewSpare most l.self;
   own : (key : SeededHashes) → key.seed ≡ l.initial.self.seed → key.seed ≡ l.self.seed;
   dropped : l.vas.dropped ≡ l.initial.vas.dropped + l.counter;
   total : l.vas.total ≡ l.initial.vas.total;
