@@ -197,11 +197,6 @@ pub none_begins : (old begun : Table) → begun ≡ without_references old → b
 unfolding without_references
 none_begins old begun is = ap (λ (t : Table). t.referenced) is
 
-pub released_again : (old begun new : Table) → begun ≡ without_references old → new ≡ without_references begun
-    → new ≡ without_references old
-unfolding without_references
-released_again old begun new begins is = is ∙ ap (λ (t : Table). without_references t) begins
-
 -- ---- over the items that were gathered
 
 -- before anything was gathered

@@ -81,7 +81,7 @@ impl<I: FindsEntries, F: StoredField> EncoderTable<I, F> {
     pub fn give_up(&mut self)
         ensures { self.new.table ≡ without_references self.old.table }
     {
-        self.table.encoder(0).release();
+        self.table.release_references();
     }
 }
 
