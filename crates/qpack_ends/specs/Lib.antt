@@ -1,6 +1,7 @@
 pub mod FieldSections
 pub mod Lines
 pub mod Sections
+pub mod SectionPrefixes
 pub mod Receiving
 pub mod Places
 pub mod Blocked

@@ -14,7 +14,6 @@ use qpack_base::field::FieldLine;
 use qpack_base::stored_field::PackedField;
 use qpack_codec::encoder::{Choice, Chooses, Wish};
 use qpack_table::dynamic::{DynamicTableEncoder, Index, SoughtField};
-use std::alloc::Global;
 
 /// After an insertion found no room, draining entries are not referenced for this many sections.
 const SECTIONS_WITHOUT_ROOM: u8 = 16;
@@ -32,11 +31,11 @@ pub(crate) struct Chooser {
 
 impl Chooser {
     /// Returns the chooser of a new connection.
-    pub(crate) fn new(alloc: Global) -> Chooser {
+    pub(crate) fn new() -> Chooser {
         Chooser {
             draining: Draining::new(),
             copies: Copies::new(),
-            history: History::new(alloc),
+            history: History::new(),
             names: NameCredit::new(),
             sections_since: u8::MAX,
         }
@@ -365,30 +364,36 @@ const MOST_SETS: usize = 64;
 ///
 /// Tags of 16 bits of the fields that were seen lately, in sets of four, each set from the latest to the oldest. A field
 /// that was not seen may have the tag of one that was.
+///
+/// Its room is there from the start, so no allocation that is refused changes what is chosen.
 #[derive(Debug, Drop)]
 struct History {
-    tags: Vec<u16>,
+    tags: [u16; MOST_SETS * WAYS],
+    /// How many sets are in use, none before the first section. The tags behind these are 0.
+    sets: usize,
 }
 
 impl History {
     /// Returns a history that keeps nothing yet.
-    fn new(alloc: Global) -> History {
+    fn new() -> History {
         History {
-            tags: Vec::new(alloc),
+            tags: [0; MOST_SETS * WAYS],
+            sets: 0,
         }
     }
 
-    /// Makes it as large as a capacity asks for. If memory is refused it does not change.
+    /// Makes it as large as a capacity asks for.
     fn fit(&mut self, capacity: usize) {
         let sets = (capacity / (BYTES_A_TAG * WAYS)).clamp(LEAST_SETS, MOST_SETS);
-        if self.tags.len() != sets * WAYS {
-            let _ = self.tags.resize(sets * WAYS, 0);
+        if self.sets != sets {
+            self.tags[sets * WAYS..].fill(0);
+            self.sets = sets;
         }
     }
 
     /// Returns whether a field of this hash was seen lately, and keeps that it was seen.
     fn see(&mut self, hash: u32) -> bool {
-        let sets = self.tags.len() / WAYS;
+        let sets = self.sets.min(MOST_SETS);
         if sets == 0 {
             return false;
         }

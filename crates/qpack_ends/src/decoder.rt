@@ -7,6 +7,7 @@ ghost use Rattle.qpack_spec.specs.Table.{Table, empty_table, insert_count, windo
 ghost use Rattle.qpack_ends.specs.Blocked.{ready};
 ghost use Rattle.qpack_ends.specs.FieldSections.{GrowsWithin, IsRoomWithin};
 ghost use Rattle.qpack_ends.specs.Receiving.{Receives};
+ghost use Rattle.qpack_ends.specs.SectionPrefixes.{GivesPrefix, strict_prefix};
 ghost use Rattle.qpack_ends.specs.Decoders.{end_of, Begins, FailsSettings, Checks, Reports, Acknowledges};
 ghost use Rattle.qpack_ends.specs.Decoders.{BlocksStream, DecodesInto, Decodes, Cancels, refused};
 ghost use Rattle.qpack_ends.specs.Decoders.{code_of, stream_failure, ReceivesBytes, blocked_streams};
@@ -20,7 +21,9 @@ ghost use Rattle.qpack_ends.specs.declared.decoder.SettingsError.TheVariants.{Ca
 use crate::blocked::{BlockedStream, BlockedStreams, NotBlocked};
 use crate::encoder_stream::{ENCODER_STREAM_ERROR, EncoderStream, EncoderStreamError, Place};
 use crate::field_section::FieldSection;
-use crate::section::{DECOMPRESSION_FAILED, Reading, SectionError, read_section};
+use crate::section::{
+    DECOMPRESSION_FAILED, Reading, SectionError, SectionPrefix, read_prefix, read_section,
+};
 use crate::unsent::Unsent;
 use qpack_base::coding::{Cursor, NoMemory};
 use qpack_codec::DecoderError;
@@ -248,6 +251,15 @@ impl ConnectionDecoder {
         ensures { result ≡ ready (insert_count self.now.table) self.now.blocked }
     {
         self.blocked.ready(self.table.total_inserted())
+    }
+
+    /// Returns what the prefix of a field section says, as `read_prefix` reads it: with more insertions required than
+    /// `table().total_inserted()`, `decode` returns `Reading::Blocked`. It changes nothing, and the rest of the section may
+    /// be missing.
+    pub fn prefix(&self, section: &[u8]) -> Result<SectionPrefix, SectionError>
+        ensures { GivesPrefix result (strict_prefix (window self.now.table) section.now) }
+    {
+        read_prefix(&self.table, section)
     }
 
     /// Decodes a field section that came on a stream (RFC 9204, section 2.2), as `read_section` reads it, with the

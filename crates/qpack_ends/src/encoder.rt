@@ -249,7 +249,7 @@ impl ConnectionEncoder {
             settings,
             table: EncoderTable { table },
             at_risk: StreamsAtRisk::new(alloc),
-            chooser: Chooser::new(alloc),
+            chooser: Chooser::new(),
             wanted: settings.first_capacity(),
             stream: DecoderStream::new(),
             unsent: Unsent::new(alloc),

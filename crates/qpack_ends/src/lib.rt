@@ -10,7 +10,7 @@ pub mod decoder_stream;
 pub mod encoder;
 pub mod encoder_stream;
 pub mod field_section;
-mod room;
+pub mod room;
 pub mod section;
 mod unsent;
 
@@ -24,5 +24,6 @@ pub use qpack_base::coding::Cursor;
 pub use qpack_base::field::FieldLine;
 pub use qpack_codec::encoder::{AsField, Wish, WishedField};
 pub use section::{
-    DECOMPRESSION_FAILED, LineError, Reading, SectionError, longest_section, read_section,
+    DECOMPRESSION_FAILED, LineError, Reading, SectionError, SectionPrefix, longest_section,
+    read_prefix, read_section,
 };

@@ -3,7 +3,7 @@
 ghost use Rattle.std.specs.Prelude.{◌≡◌, ◌≤◌, [], vec_capacity};
 
 /// Gives back the memory of an empty vector that has room for more than `most` elements; any other keeps its memory.
-pub(crate) fn shrink_within<T>(vec: &mut Vec<T>, most: usize)
+pub fn shrink_within<T>(vec: &mut Vec<T>, most: usize)
     requires { vec.old.items ≡ [] }
     ensures items { vec.new.items ≡ [] }
     ensures room { vec_capacity vec.new ≤ most }

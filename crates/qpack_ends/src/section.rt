@@ -10,6 +10,8 @@ ghost use Rattle.qpack_wire.specs.Prefixes.{prefix_of};
 ghost use Rattle.qpack_ends.specs.FieldSections.{GrowsWithin, IsRoomWithin, LacksRoomWithin};
 ghost use Rattle.qpack_ends.specs.Lines.{line_error_of};
 ghost use Rattle.qpack_ends.specs.Sections.{ReadsSection, ReadsInto, section_error_of, code_of, line_code_of};
+ghost use Rattle.qpack_ends.specs.SectionPrefixes.{GivesNumbers, GivesPrefix, PrefixSaysWhatWaits};
+ghost use Rattle.qpack_ends.specs.SectionPrefixes.{strict_numbers, strict_prefix};
 ghost use Rattle.qpack_ends.specs.declared.section.SectionError.TheVariants.{Memory};
 
 use crate::field_section::FieldSection;
@@ -38,6 +40,18 @@ pub enum Reading {
         /// How many insertions must be received.
         required: usize,
     },
+}
+
+/// What the prefix of a section says (RFC 9204, section 4.5.1).
+#[derive(Clone, Copy, Debug, PartialEq, Eq)]
+pub struct SectionPrefix {
+    /// The required insert count: how many insertions must be received before the section can be read, 0 if it
+    /// references no entry.
+    pub required: usize,
+    /// The base, from which its lines count the entries that they reference.
+    pub base: usize,
+    /// How many bytes the prefix takes.
+    pub length: usize,
 }
 
 /// Why a line gives no field.
@@ -217,13 +231,8 @@ fn read_behind<I: EntryIndex, F: StoredField>(
     ensures lacks { result ≡ Err Memory → LacksRoomWithin limit fields.old }
     ensures room { GrowsWithin limit fields.old fields.new }
 {
-    let maximum = table.agreed_max();
-    if counts_at_zero(&prefix, maximum) {
-        return Err(SectionError::CountAtZero);
-    }
-    let inserted = table.total_inserted();
-    let (required, base) = prefix.get_strict(inserted, maximum)?;
-    if required > inserted {
+    let (required, base) = read_numbers(table, prefix)?;
+    if required > table.total_inserted() {
         return Ok(Reading::Blocked { required });
     }
     let lines = Lines {
@@ -234,6 +243,50 @@ fn read_behind<I: EntryIndex, F: StoredField>(
     };
     fields.read_lines(&lines, buf)?;
     Ok(Reading::Fields { required })
+}
+
+/// Returns what the prefix of a section says under a table, read strictly. The rest of the section may be missing. It
+/// takes no memory.
+///
+/// # Errors
+///
+/// Rejects bytes that are no prefix (`Prefix`), a count if the maximum capacity is 0 (`CountAtZero`), and a prefix that
+/// is out of range, or a base below 0 (`Prefix`).
+#[tactic(auto, unfolding(crate::specs::SectionPrefixes::strict_prefix))]
+pub fn read_prefix<I: EntryIndex, F: StoredField>(
+    table: &DynamicTable<I, F>,
+    section: &[u8],
+) -> Result<SectionPrefix, SectionError>
+    ensures { GivesPrefix result (strict_prefix (window table.now) section.now) }
+{
+    let mut buf = Cursor::new(section);
+    let prefix = HeaderPrefix::decode(&mut buf)?;
+    let (required, base) = read_numbers(table, prefix)?;
+    Ok(SectionPrefix {
+        required,
+        base,
+        length: buf.position(),
+    })
+}
+
+/// The prefix alone says whether a section waits, and for how many insertions: so `read_section` reads each section that
+/// is not too long.
+pub fn prefix_says_what_waits()
+    ensures { PrefixSaysWhatWaits }
+{}
+
+/// Returns the required insert count and the base of a prefix under a table.
+fn read_numbers<I: EntryIndex, F: StoredField>(
+    table: &DynamicTable<I, F>,
+    prefix: HeaderPrefix,
+) -> Result<(usize, usize), SectionError>
+    ensures { GivesNumbers result (strict_numbers (window table.now) (prefix_of prefix)) }
+{
+    let maximum = table.agreed_max();
+    if counts_at_zero(&prefix, maximum) {
+        return Err(SectionError::CountAtZero);
+    }
+    Ok(prefix.get_strict(table.total_inserted(), maximum)?)
 }
 
 /// Returns whether a prefix has a count if the maximum capacity is 0 (RFC 9204, section 4.5.1.1).
