@@ -1,3 +1,2 @@
-mod Entries
 mod Sizes
 mod Told

@@ -1,5 +1,5 @@
 -- What the calls of a decoding end do in C.
-use Rattle.std.specs.Prelude.{◌≡◌, ◌<◌, ◌^◌, ◌-◌, ℕ, ℤ, ⊤, min}
+use Rattle.std.specs.Prelude.{◌≡◌, ◌<◌, ◌^◌, ◌-◌, ℕ, ℤ, ⊤, min, if◌then◌else◌, nat_lt}
 use Rattle.std.specs.Prelude.{List, [], length, take, drop, Option, None, Some, Result, Ok, Err}
 use Rattle.qpack_codec.specs.Receiving.{written_report}
 use Rattle.std.specs.Option.{IfSome}
@@ -8,7 +8,10 @@ use Rattle.qpack_spec.specs.StrictReading.{strict_reading}
 use Rattle.qpack_spec.specs.Table.{Table, window, insert_count}
 use Rattle.qpack_ends.specs.declared.decoder.DecodingError.{DecodingError}
 use Rattle.qpack_ends.specs.declared.decoder.DecodingError.TheVariants.{EncoderStream, Section, Memory}
+use Rattle.qpack_ends.specs.SectionPrefixes.{GivesPrefix, strict_prefix}
+use Rattle.qpack_ends.specs.declared.section.SectionError.{SectionError}
 use Rattle.qpack_ends.specs.declared.section.SectionError.TheVariants.{Line}
+use Rattle.qpack_ends.specs.declared.section.SectionPrefix.{SectionPrefix}
 use Rattle.qpack_ends.specs.declared.section.Reading.{Reading}
 use Rattle.qpack_ends.specs.declared.section.Reading.TheVariants.{Fields, Blocked}
 use Rattle.qpack_ends.specs.declared.decoder.DecoderSettings.{DecoderSettings}
@@ -18,10 +21,11 @@ use Rattle.qpack_ends.specs.FieldSections.{IsRoomWithin, text_of}
 use Rattle.qpack_ends.specs.Receiving.{Receives}
 use Rattle.qpack_ends.specs.Unsent.{LacksRoom, KeepsRoom, Drops}
 use Rattle.h3_qpack_c.specs.declared.answers.Decoding.{Decoding}
+use Rattle.h3_qpack_c.specs.declared.answers.Prefixed.{Prefixed}
 use Rattle.h3_qpack_c.specs.declared.answers.Received.{Received}
 use Rattle.h3_qpack_c.specs.declared.decoder.State.{State}
 use Rattle.h3_qpack_c.specs.Crossing.{written_over}
-use Rattle.h3_qpack_c.specs.Statuses.{done, blocked, of_decoding, of_decoding_call}
+use Rattle.h3_qpack_c.specs.Statuses.{done, blocked, of_decoding, of_decoding_call, of_section}
 
 -- the settings that an end takes
 abbrev pub InRange : ℕ → ℕ → Type 0
@@ -36,6 +40,22 @@ pub record IsNew (settings : DecoderSettings) (s : State) : Type 0 where
 -- such an end is kept
 abbrev pub KeepsNew : DecoderSettings → Option State → Type 0
 KeepsNew settings kept = (s : State) × (kept ≡ Some s) × IsNew settings s
+
+-- whether a section waits that requires this many insertions, where that many were received
+abbrev pub of_waiting : ℕ → ℕ → ℤ
+of_waiting required received = if nat_lt received required then blocked else done
+
+-- the result for what a prefix says, where this many insertions were received
+abbrev pub told_of_prefix : ℕ → Result SectionPrefix SectionError → Prefixed
+told_of_prefix received (Ok p) =
+    record { status = of_waiting p.required received; required = p.required; base = p.base; len = p.length }
+told_of_prefix received (Err e) = record { status = of_section e; required = 0; base = 0; len = 0 }
+
+-- what the prefix that bytes begin with says is reported, under the table of an end
+pub record SaysPrefix (t : Table) (bytes : List ℕ) (told : Prefixed) : Type 0 where
+  pub answer : Result SectionPrefix SectionError
+  pub gives : GivesPrefix answer (strict_prefix (window t) bytes)
+  pub told_is : told ≡ told_of_prefix (insert_count t) answer
 
 -- the result for a section that is rejected: the status, and where a line was rejected
 abbrev pub told_of_refusal : DecodingError → Decoding

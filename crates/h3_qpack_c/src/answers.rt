@@ -53,6 +53,19 @@ pub struct Decoding {
     pub offset: u64,
 }
 
+/// The result of reading the prefix of a section.
+#[repr(C)]
+#[derive(Drop)]
+pub struct Prefixed {
+    pub status: i32,
+    /// The required insert count, 0 if the section references no entry.
+    pub required: usize,
+    /// The base of its indexes.
+    pub base: usize,
+    /// How many bytes the prefix takes.
+    pub len: usize,
+}
+
 /// The result for one field.
 #[repr(C)]
 #[derive(Drop)]

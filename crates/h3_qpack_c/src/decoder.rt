@@ -8,13 +8,13 @@ ghost use Rattle.qpack_ends.specs.Decoders.{end_of, FailsSettings, blocked_strea
 ghost use Rattle.qpack_ends.specs.declared.decoder.DecoderSettings.{DecoderSettings};
 ghost use Rattle.h3_qpack_c.specs.Crossing.{Makes, Gives, GivesAll};
 ghost use Rattle.h3_qpack_c.specs.Decoding.{DecodesTo, ReceivesTo, CancelsTo, TakesStream, TellsReady, InRange};
-ghost use Rattle.h3_qpack_c.specs.Decoding.{taken_of};
+ghost use Rattle.h3_qpack_c.specs.Decoding.{SaysPrefix, of_waiting, taken_of};
 ghost use Rattle.h3_qpack_c.specs.Decoding.{told_of_refusal, told_of_receiving, IsNew, KeepsNew};
 
-use crate::answers::{Decoding, Given, Received, Written};
+use crate::answers::{Decoding, Given, Prefixed, Received, Written};
 use crate::fields::{copy_front, give, give_all, no_field};
 use crate::statuses::{
-    BLOCKED, DONE, ENCODER_STREAM_ERROR, INVALID, NO_MEMORY, status_of_decoding,
+    BLOCKED, DONE, ENCODER_STREAM_ERROR, INVALID, NO_MEMORY, status_of_decoding, status_of_section,
 };
 use qpack_base::coding::Cursor;
 use qpack_ends::{
@@ -112,6 +112,44 @@ pub extern "C" fn h3q_decoder_new(
 #[unsafe(no_mangle)]
 pub extern "C" fn h3q_decoder_free(alloc: Global, handle: Handle) {
     let _end = handle.into_box(alloc);
+}
+
+/// Reads the prefix of a section, of which the rest may be missing, and changes nothing.
+#[unsafe(no_mangle)]
+pub extern "C" fn h3q_decoder_prefix(handle: &mut Handle, section: &[u8]) -> Prefixed
+    ensures same { handle.new.value ≡ handle.old.value }
+    ensures says { SaysPrefix handle.old.value.end.table section.now result }
+{
+    let state = state(handle);
+    let answer = read_prefix(&state.end, section);
+    answer
+}
+
+/// Reads as `h3q_decoder_prefix` does, given the end that the handle keeps.
+fn read_prefix(end: &ConnectionDecoder, section: &[u8]) -> Prefixed
+    ensures { SaysPrefix end.now.table section.now result }
+{
+    match end.prefix(section) {
+        Ok(prefix) => Prefixed {
+            status: status_of_waiting(prefix.required, end.table().total_inserted()),
+            required: prefix.required,
+            base: prefix.base,
+            len: prefix.length,
+        },
+        Err(error) => Prefixed {
+            status: status_of_section(&error),
+            required: 0,
+            base: 0,
+            len: 0,
+        },
+    }
+}
+
+/// Returns whether a section waits that requires this many insertions, where that many were received.
+fn status_of_waiting(required: usize, received: usize) -> i32
+    ensures { result ≡ of_waiting required received }
+{
+    if required > received { BLOCKED } else { DONE }
 }
 
 /// Decodes a section that came on a stream. Its fields are kept until the next call that decodes.

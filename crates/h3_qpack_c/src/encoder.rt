@@ -1,7 +1,7 @@
 //! The encoding end of a handle.
 
 ghost use Rattle.h3_qpack_c.specs.declared.encoder.State.{State};
-ghost use Rattle.std.specs.Prelude.{◌≡◌, ◌<◌, ◌≤◌, ◌^◌, [], pos, length, map, IfOk, IfErr, vec_capacity, ℤ};
+ghost use Rattle.std.specs.Prelude.{◌≡◌, ◌<◌, ◌≤◌, ◌^◌, [], pos, length, map, IfOk, IfErr, ℤ};
 ghost use Rattle.qpack_ends.specs.declared.decoder.SettingsError.TheVariants.{CapacityTooLarge};
 ghost use Rattle.h3_qpack_c.specs.Crossing.{line_of_lent, wish_of_lent, copied, told_of_copy, Makes};
 ghost use Rattle.h3_qpack_c.specs.Encoding.{EncodesTo, HearsTo, SetsCapacityTo, TakesStream, told_of_hearing};
@@ -13,6 +13,7 @@ use crate::answers::{Encoded, Received, Written};
 use crate::fields::{Field, copy_front, list_size, write};
 use crate::statuses::{DECODER_STREAM_ERROR, DONE, INVALID, NO_MEMORY, status_of_encoding};
 use qpack_base::coding::Cursor;
+use qpack_ends::room::shrink_within;
 use qpack_ends::{ConnectionEncoder, EncoderSettings, EncodingError, SettingsError};
 use std::alloc::Global;
 use std::marker::Model;
@@ -136,7 +137,8 @@ fn encode(state: &mut State, stream: u64, fields: &[Field], section: &mut [u8]) 
     ensures { EncodesTo state.old state.new stream (map line_of_lent fields.now) (map wish_of_lent fields.now) section.old
         section.new result }
 {
-    clear_section(&mut state.section);
+    state.section.clear();
+    shrink_within(&mut state.section, KEPT_ROOM);
     match state.end.encode(stream, fields, &mut state.section) {
         Ok(required) => {
             let Written { status, len } = write(&state.section, section);
@@ -158,17 +160,6 @@ fn encode(state: &mut State, stream: u64, fields: &[Field], section: &mut [u8]) 
 
 /// How much memory is kept for the next section, in bytes.
 const KEPT_ROOM: usize = 4096;
-
-/// Empties the section that was encoded last, and gives back memory of more than `KEPT_ROOM` bytes.
-fn clear_section(section: &mut Vec<u8>)
-    ensures items { section.new.items ≡ [] }
-    ensures given_back { vec_capacity section.new ≤ 4096 }
-{
-    section.clear();
-    if section.capacity() > KEPT_ROOM {
-        section.shrink_to_fit();
-    }
-}
 
 /// Copies the section that was encoded last to the caller's memory, if it fits.
 #[unsafe(no_mangle)]

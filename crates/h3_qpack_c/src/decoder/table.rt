@@ -9,7 +9,7 @@ ghost use Rattle.h3_qpack_c.specs.Tables.{entry_at};
 use crate::answers::Given;
 use crate::decoder::Handle;
 use crate::decoder::lend::state;
-use crate::tables::{count_entries, give_entry, sum_sizes};
+use crate::tables::give_entry;
 
 /// Returns the capacity of the table, in bytes.
 #[unsafe(no_mangle)]
@@ -29,7 +29,7 @@ pub extern "C" fn h3q_decoder_table_size(handle: &mut Handle) -> usize
     ensures exact { result ≡ total_size (fields_in handle.old.value.end.table.live) }
 {
     let state = state(handle);
-    let size = sum_sizes(state.end.table());
+    let size = state.end.table().used();
     size
 }
 
@@ -40,7 +40,7 @@ pub extern "C" fn h3q_decoder_entries(handle: &mut Handle) -> usize
     ensures exact { result ≡ length handle.old.value.end.table.live }
 {
     let state = state(handle);
-    let count = count_entries(state.end.table());
+    let count = state.end.table().count();
     count
 }
 
