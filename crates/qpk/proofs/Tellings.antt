@@ -2,12 +2,12 @@
 use Rattle.std.proofs.Common.{◌≡◌, ◌≢◌, ℕ, Bool, List, Option, Some, None, Result, Ok, Err, refl, sym, subst, inl, inr}
 use Rattle.std.specs.Io.KnownBytes.{Appends}
 use Rattle.std.specs.Prelude.{String, codes, IfSome, OnOk, OnErr}
-use Rattle.qpk.specs.Refusals.{AppendsPart, AppendsPartOfSome, AppendsSome, AppendsFront, MayWantMemory, TellsBy}
+use Rattle.qpk.specs.Refusals.{AppendsPart, AppendsPartOfSome, AppendsSome, AppendsFront, MayWantMemory, Says, TellsBy}
 use Rattle.qpk.specs.Refusals.{refusal_line}
 use Rattle.qpack_codec.specs.declared.error.DecoderError.{DecoderError}
 use Rattle.qpk.specs.Serving.{HasStatus, TellsFound, HasFault, EndsFor, EndsForCommand, Stops, IsInspection, input_of}
 use Rattle.qpk.specs.Serving.{Answers, AnswersInput, IsBeyond, IsShow, MayFind, MayHaveFound, Prints, StopsReply}
-use Rattle.qpk.specs.Serving.{StopsShowing, StopsWhole, WritesPart, WritesReply}
+use Rattle.qpk.specs.Serving.{SaysNote, StopsShowing, StopsWhole, WritesPart, WritesReply}
 use Rattle.qpk.specs.declared.serve.Output.{Output}
 use Rattle.qpk.specs.declared.serve.Reply.{Reply}
 use Rattle.qpk.specs.declared.serve.Reply.TheVariants.{Whole, Shown}
@@ -27,6 +27,17 @@ pub front_of : {A E : Type 0} (r : Result A E) (old new : Option (List ℕ)) (li
     → OnOk r (Appends old new line) → OnErr r (AppendsPart old new line) → AppendsFront old new line
 front_of (Ok x) old new line all part = inl all
 front_of (Err e) old new line all part = inr part
+
+-- what was said of a remark is all of it, or a part
+pub note_front : {A E : Type 0} (r : Result A E) (old new : Option (List ℕ)) (note : Option (List ℕ))
+    → SaysNote (Says r old new) old new note → SaysNote (AppendsFront old new) old new note
+note_front r old new None says = says
+note_front r old new (Some line) says = front_of r old new line says.0 says.1
+
+-- the same of a refusal
+pub told_front : {A E : Type 0} (r : Result A E) (old new : Option (List ℕ)) (refused : Refusal)
+    → TellsBy refused (Says r old new) → TellsBy refused (AppendsFront old new)
+told_front r old new refused told = (told.0, told.1, front_of r old new (refusal_line told.0) told.2.0 told.2.1)
 
 pub told_as : (r : Refusal) (P : List ℕ → Type 0) (written : List ℕ) → written ≡ refusal_line r → P written
     → TellsBy r P

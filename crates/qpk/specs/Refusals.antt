@@ -1,5 +1,6 @@
 -- Why the program prints no output, and how that is reported.
 use Rattle.std.specs.Prelude.{◌≡◌, ℕ, ◌<◌, List, [], ◌++◌, codes, length, take, Option, ◌⊎◌, string_bytes}
+use Rattle.std.specs.Prelude.{Result, OnOk, OnErr}
 use Rattle.std.specs.Fmt.{decimal}
 use Rattle.std.specs.Io.KnownBytes.{Appends}
 use Rattle.qpk.specs.ErrorWords.{decoder_words, recording_words}
@@ -86,6 +87,10 @@ AppendsPart old new bytes = (n : ℕ) × (n < length bytes) × Appends old new (
 -- a writer gained a line, or a part of it if a write failed
 abbrev pub AppendsFront : Option (List ℕ) → Option (List ℕ) → List ℕ → Type 0
 AppendsFront old new line = Appends old new line ⊎ AppendsPart old new line
+
+-- a writer gained a line, or a part of it, not all, and then a write failed
+abbrev pub Says : {A E : Type 0} → Result A E → Option (List ℕ) → Option (List ℕ) → List ℕ → Type 0
+Says said old new line = OnOk said (Appends old new line) × OnErr said (AppendsPart old new line)
 
 -- a refusal is reported as itself, or as out of memory if its line may ask for memory
 abbrev pub TellsAs : Refusal → Refusal → Type 0

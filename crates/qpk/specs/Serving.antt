@@ -15,7 +15,7 @@ use Rattle.qpk.specs.declared.command.Command.TheVariants.{DecodeJson, EncodeLis
 use Rattle.qpk.specs.declared.command.Command.TheVariants.{ExplainWords, ExplainInput}
 use Rattle.qpk.specs.Json.{section_json}
 use Rattle.qpk.specs.Notes.{IsNoteOf}
-use Rattle.qpk.specs.Refusals.{AppendsPart, AppendsFront, AppendsSome, AppendsPartOfSome}
+use Rattle.qpk.specs.Refusals.{AppendsPart, AppendsSome, AppendsPartOfSome}
 use Rattle.qpk.specs.Usage.{help_text, version_line}
 use Rattle.qpk.specs.declared.refusal.Refusal.{Refusal}
 use Rattle.qpk.specs.declared.refusal.Refusal.TheVariants as refusal
@@ -224,17 +224,17 @@ abbrev pub EndsWell : {Z : Type 0} → List (String Z) → Option (List ℕ) →
 EndsWell words input old new note status =
     (command : Command) × AsksFor words command × IsAnsweredBy command input old new note × HasStatus command status
 
--- the remark was written: all of it, or a part if a write failed
-abbrev pub SaysNote : Option (List ℕ) → Option (List ℕ) → Option (List ℕ) → Type 0
-SaysNote old new None = new ≡ old
-SaysNote old new (Some line) = AppendsFront old new line
+-- the remark was written, as `says` has it of a line; without one, nothing was
+abbrev pub SaysNote : (List ℕ → Type 0) → Option (List ℕ) → Option (List ℕ) → Option (List ℕ) → Type 0
+SaysNote says old new None = new ≡ old
+SaysNote says old new (Some line) = says line
 
 -- the command that the words give is done, and the status says that something was refused or found
 abbrev pub IsFound : {Z : Type 0} → List (String Z) → Option (List ℕ) → Option (List ℕ) → Option (List ℕ)
-    → Option (List ℕ) → Option (List ℕ) → ℕ → Type 0
-IsFound words input old new said saying status =
+    → (List ℕ → Type 0) → Option (List ℕ) → Option (List ℕ) → ℕ → Type 0
+IsFound words input old new says said saying status =
     (note : Option (List ℕ)) × (command : Command) × AsksFor words command × IsAnsweredBy command input old new note
-    × TellsFound command status × SaysNote said saying note
+    × TellsFound command status × SaysNote says said saying note
 
 -- it ended for its words, which the refusal reports, and nothing was written
 abbrev pub EndsForWords : {Z : Type 0} → List (String Z) → Option (List ℕ) → Option (List ℕ) → Refusal → Type 0

@@ -7,7 +7,7 @@ ghost use Rattle.std.specs.Option.{option_map};
 ghost use Rattle.qpack_spec.specs.Field.{total_size};
 ghost use Rattle.qpack_spec.specs.Stateless.{saturated_size};
 ghost use Rattle.qpack_codec.specs.Stateless.{fields_in};
-ghost use Rattle.qpk.specs.Refusals.{AppendsFront, AppendsSome, TellsBy, refusal_line};
+ghost use Rattle.qpk.specs.Refusals.{AppendsFront, AppendsSome, Says, TellsBy, refusal_line};
 ghost use Rattle.qpk.specs.Usage.{help_text};
 ghost use Rattle.qpk.specs.Serving.{AsksForNone, AsksForNothing, AnswersInput, EndsFor, EndsForCommand, EndsWell};
 ghost use Rattle.qpk.specs.Serving.{FailsToRead, HasStatus, IsAnswered, IsAnsweredBy, IsFound, IsUnwritten, MayFind};
@@ -62,6 +62,15 @@ struct Ending {
     status: u8,
 }
 
+/// How a run ended.
+#[derive(Drop)]
+pub struct Ended {
+    /// The exit status.
+    pub status: u8,
+    /// Why what it says was not written whole to the faults, if a write of it failed.
+    pub said: io::Result<()>,
+}
+
 /// Runs the program on its words, without its name, and its three streams, and returns the exit status. It is 0 if the
 /// output was written. It is 2 if it was, and `show` or `explain` has something in it that is refused. It is 1 if it
 /// was, and `check` found something; and 1 in every other case, with the line of the refusal written to the faults. A
@@ -76,7 +85,8 @@ pub fn serve<R: Read, W: Write, E: Write>(
     // At status 0 the output for the input was written, and on the faults only a remark on header lists in QIF.
     ensures answered { result ≡ 0 → (note : Option (List ℕ))
         × IsAnswered words.now (R.remaining input.old) (W.contents output.old) (W.contents output.new) note
-        × SaysNote (E.contents faults.old) (E.contents faults.new) note }
+        × SaysNote (AppendsFront (E.contents faults.old) (E.contents faults.new))
+        (E.contents faults.old) (E.contents faults.new) note }
     // Otherwise why: other words, an input that can't be read or has a fault, a refusal further on, before which all is
     // written, memory that ends while a connection is shown, or an output that can't be written, which then has a part
     // of what is asked for. The line of it is written to the faults, as far as they take it; it is empty if nobody
@@ -86,47 +96,84 @@ pub fn serve<R: Read, W: Write, E: Write>(
         × EndsFor words.now (R.remaining input.old) (W.contents output.old) (W.contents output.new) refusal
         × AppendsFront (E.contents faults.old) (E.contents faults.new) (refusal_line refusal))
         ⊎ IsFound words.now (R.remaining input.old) (W.contents output.old) (W.contents output.new)
+        (AppendsFront (E.contents faults.old) (E.contents faults.new))
         (E.contents faults.old) (E.contents faults.new) result }
     // Help reads no input, nor do words that ask for nothing or have the bytes.
     ensures unread { AsksForNone words.now ⊎ AsksForNothing words.now → input.new ≡ input.old }
 {
+    serve_and_say(alloc, words, input, output, faults).status
+}
+
+/// Runs the program as `serve` does, and returns also whether what it says was written whole to the faults: all of it
+/// was, unless a write failed.
+pub fn serve_and_say<R: Read, W: Write, E: Write>(
+    alloc: Global,
+    words: &[String],
+    input: &mut R,
+    output: &mut W,
+    faults: &mut E,
+) -> Ended
+    ensures answered { result.status ≡ 0 → (note : Option (List ℕ))
+        × IsAnswered words.now (R.remaining input.old) (W.contents output.old) (W.contents output.new) note
+        × SaysNote (Says result.said (E.contents faults.old) (E.contents faults.new))
+        (E.contents faults.old) (E.contents faults.new) note }
+    ensures refused { result.status ≢ 0 → ((result.status ≡ 1) × (refusal : Refusal)
+        × EndsFor words.now (R.remaining input.old) (W.contents output.old) (W.contents output.new) refusal
+        × Says result.said (E.contents faults.old) (E.contents faults.new) (refusal_line refusal))
+        ⊎ IsFound words.now (R.remaining input.old) (W.contents output.old) (W.contents output.new)
+        (Says result.said (E.contents faults.old) (E.contents faults.new))
+        (E.contents faults.old) (E.contents faults.new) result.status }
+    ensures unread { AsksForNone words.now ⊎ AsksForNothing words.now → input.new ≡ input.old }
+{
     match run(alloc, words, input, output) {
-        Ok(ending) => {
-            say_note(ending.note, faults);
-            ending.status
-        }
-        Err(refusal) => refuse(alloc, &refusal, faults),
+        Ok(ending) => Ended {
+            said: say_note(ending.note, faults),
+            status: ending.status,
+        },
+        Err(refusal) => Ended {
+            said: say_refusal(alloc, &refusal, faults),
+            status: 1,
+        },
     }
 }
 
 /// Writes the remark on an input to the faults, if there is one.
-fn say_note<E: Write>(note: Option<String>, faults: &mut E)
-    ensures { SaysNote (E.contents faults.old) (E.contents faults.new) (option_map string_bytes note) }
+fn say_note<E: Write>(note: Option<String>, faults: &mut E) -> io::Result<()>
+    ensures { SaysNote (Says result (E.contents faults.old) (E.contents faults.new))
+        (E.contents faults.old) (E.contents faults.new) (option_map string_bytes note) }
 {
-    if let Some(line) = note {
-        say(line.as_str(), faults);
+    match note {
+        Some(line) => say(line.as_str(), faults),
+        None => Ok(()),
     }
 }
 
-/// Writes a line to the faults. A write that fails is ignored.
-fn say<E: Write>(line: &str, faults: &mut E)
-    ensures { AppendsFront (E.contents faults.old) (E.contents faults.new) line.now }
+/// Writes a line to the faults: all of it, or a part if a write fails.
+fn say<E: Write>(line: &str, faults: &mut E) -> io::Result<()>
+    ensures { Says result (E.contents faults.old) (E.contents faults.new) line.now }
 {
-    let _ = write_bytes(faults, line.as_bytes());
+    write_bytes(faults, line.as_bytes())
 }
 
 /// Writes the line of a refusal to the faults, or that of out of memory if there is none left to make it, and returns
-/// the exit status 1.
+/// the exit status 1. A write that fails is ignored.
 pub fn refuse<E: Write>(alloc: Global, refusal: &Refusal, faults: &mut E) -> u8
     ensures status { result ≡ 1 }
     ensures told { TellsBy refusal.now (AppendsFront (E.contents faults.old) (E.contents faults.new)) }
+{
+    let _ = say_refusal(alloc, refusal, faults);
+    1
+}
+
+/// Writes the line of a refusal to the faults, or that of out of memory if there is none left to make it.
+fn say_refusal<E: Write>(alloc: Global, refusal: &Refusal, faults: &mut E) -> io::Result<()>
+    ensures { TellsBy refusal.now (Says result (E.contents faults.old) (E.contents faults.new)) }
 {
     let line = match refusal.line(alloc) {
         Ok(line) => line,
         Err(_) => CowStr::Borrowed("qpk: refused: memory\n"),
     };
-    say(line.as_str(), faults);
-    1
+    say(line.as_str(), faults)
 }
 
 /// Writes the output for the words and the input, and returns the remark on the input, and the status.

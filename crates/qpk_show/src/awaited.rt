@@ -56,6 +56,13 @@ impl Awaited {
         }
     }
 
+    /// Returns how many insertions are known to be received.
+    pub(crate) fn known(&self) -> usize
+        ensures { result ≡ self.now.known }
+    {
+        self.known
+    }
+
     /// Adds a section of a stream.
     pub(crate) fn add(&mut self, stream: u64, required: usize) -> Result<(), AllocError>
         ensures { OnOk result (self.new ≡ with_sent self.old stream required) }

@@ -131,6 +131,27 @@ impl Observer {
         &self.table
     }
 
+    /// Returns how many streams may be blocked.
+    pub fn limit(&self) -> usize
+        ensures { result ≡ self.now.limit }
+    {
+        self.limit
+    }
+
+    /// Returns how many insertions the decoder is known to have received (RFC 9204, section 2.1.4).
+    pub fn known_received(&self) -> usize
+        ensures { result ≡ self.now.awaited.known }
+    {
+        self.awaited.known()
+    }
+
+    /// Returns how many bytes of the decoder stream were taken.
+    pub fn decoder_taken(&self) -> usize
+        ensures { result ≡ self.now.decoder_stream.taken }
+    {
+        self.decoder_stream.taken()
+    }
+
     /// Returns the front of an encoder instruction that is not whole, once there is nothing to show.
     pub fn encoder_cut(&self) -> Option<Cut>
         ensures { result ≡ cut_of self.now.encoder_stream }

@@ -199,7 +199,7 @@ fn field_of_literal_with_name_ref(
 
 /// Returns the greatest absolute index that a line references under a base, 0 if it references no entry. It saturates.
 #[tactic(auto, unfolding(qpack_spec::specs::Reading::references_of_line, qpack_spec::specs::Reading::greatest_of))]
-fn reference_of(base: usize, line: &BlockLine) -> usize
+pub fn reference_of(base: usize, line: &BlockLine) -> usize
     ensures { result ≡ min (reference_of base (line_of line.now)) (2 ^ 64 - 1) }
 {
     match line {

@@ -1,2 +1,3 @@
+pub mod Duties
 pub mod Findings
 pub mod Texts

@@ -1,4 +1,4 @@
-//! What makes a finding likely: a sentence each, as the table in docs/QPK.md has them.
+//! What makes a finding likely: a sentence each, as docs/CAUSES.md lists them.
 
 /// The encoder relies on a capacity that no instruction set.
 pub(crate) const NO_CAPACITY: &str =
@@ -32,6 +32,15 @@ pub(crate) const CUT_SECTION: &str =
 /// The required insert count is too low.
 pub(crate) const PAST_REQUIRED: &str =
     "the encoder writes a required insert count that is too low, or takes the base for it";
+/// The base is above the required insert count, and an entry between them is referenced.
+pub(crate) const BASE_TOO_HIGH: &str =
+    "its base is too high, or the encoder writes a required insert count that is too low";
+/// An index counts back past the first entry.
+pub(crate) const BASE_TOO_LOW: &str =
+    "its base is too low; or the encoder wrote a required insert count that is too large, which was read modulo 2 * MaxEntries";
+/// A string is coded otherwise.
+pub(crate) const HUFFMAN: &str =
+    "the encoder fills the last byte of a string with other padding than ones, or with 8 bits and more (RFC 7541, section 5.2); or bytes before it are missing";
 /// The required insert count is 0.
 pub(crate) const NOTHING_REQUIRED: &str =
     "the encoder writes a required insert count of 0 for a section that references the dynamic table";
@@ -56,15 +65,51 @@ pub(crate) const NOTHING_TO_ACKNOWLEDGE: &str =
 /// A section is acknowledged twice.
 pub(crate) const ACKNOWLEDGED_TWICE: &str =
     "each section of the stream was acknowledged or cancelled before";
+/// A section of a stream that was cancelled is acknowledged.
+pub(crate) const ACKNOWLEDGED_AFTER_CANCEL: &str =
+    "the stream was cancelled, so that no section of it is acknowledged (section 2.2.2.2)";
 /// Nothing came since the last increment.
 pub(crate) const NOTHING_CAME: &str =
     "the decoder writes an increment though nothing was inserted since the last one";
 /// Insertions are counted twice.
 pub(crate) const COUNTED_TWICE: &str =
-    "the decoder also counts insertions that an acknowledgment told of, or counts other instructions";
+    "insertions are missing in the recording; or the decoder also counts insertions that an acknowledgment told of, or counts other instructions";
 /// More bytes follow.
 pub(crate) const MORE_FOLLOWS: &str =
     "the recording ends early, or a length in the instruction is wrong";
 /// The insertions never come.
 pub(crate) const NEVER_COMES: &str =
     "the recording ends early, or the encoder never sent that insertion";
+/// An entry is evicted that a section references.
+pub(crate) const EVICTED_WHILE_REFERENCED: &str =
+    "the encoder lets go of the entries of a section once it is sent, and not once it is acknowledged or cancelled";
+/// An entry is evicted whose insertion is not acknowledged.
+pub(crate) const EVICTED_UNACKNOWLEDGED: &str =
+    "the encoder evicts entries that nothing references, and does not wait until the decoder acknowledges their insertion";
+/// More streams could be blocked than may be.
+pub(crate) const TOO_MANY_AT_RISK: &str =
+    "the encoder counts the streams that are blocked, and not all that could be, whose insertions are not acknowledged";
+/// No section is acknowledged.
+pub(crate) const NO_ACKNOWLEDGMENT: &str =
+    "the decoder acknowledges no section, so that the encoder can evict nothing that one references; or its stream is not in the recording";
+/// A field comes of an entry that was not meant.
+pub(crate) const WRONG_ENTRY: &str =
+    "an index hits another entry, since the base is wrong or an insertion is missing; or the message is so";
+/// A name is not in small letters.
+pub(crate) const CAPITALS: &str =
+    "names go to the encoder as the application wrote them: write them in small letters before";
+/// A field is about the connection.
+pub(crate) const OF_CONNECTION: &str = "fields of HTTP/1.1 are passed on: leave this one out";
+/// A pseudo-field is late.
+pub(crate) const LATE_PSEUDO: &str = "pseudo-fields go before all other fields: sort the list";
+/// A pseudo-field is not defined.
+pub(crate) const UNDEFINED_PSEUDO: &str =
+    "its name is wrong, or an extension has it that the ends agreed on";
+/// Trailers have a pseudo-field.
+pub(crate) const PSEUDO_IN_TRAILERS: &str =
+    "a second header section is sent on the stream, or trailers with fields of the first";
+/// A pseudo-field comes twice.
+pub(crate) const PSEUDO_TWICE: &str = "the list has it from two places: keep one";
+/// A pseudo-field is missing.
+pub(crate) const NO_PSEUDO: &str =
+    "the list has no such field, or the header section of the stream is not in the recording";

@@ -1,31 +1,32 @@
 //! A recorded connection, judged: a finding for each thing that a strict end refuses, and for what its end leaves open.
 
-ghost use Rattle.std.specs.Prelude.{◌≡◌, false, true, IfOk, IsUtf8, string_bytes};
-ghost use Rattle.qpk_view.specs.Findings.{AreVerdict, finding_front, nothing_front};
-ghost use Rattle.qpk_view.specs.Texts.{BeginsWith, Extends};
+ghost use Rattle.std.specs.Prelude.{◌≡◌, false, IfOk, IsUtf8, string_bytes};
+ghost use Rattle.qpk_view.specs.Findings.{AreVerdict};
 
 use crate::events::{End, Settings};
 use crate::fault::Fault;
 use crate::findings::{
-    self, Code, Rule, Subject, push_finding, push_finding_object, push_rule, push_rule_members,
-    rule_of_bytes, rule_of_hearing, rule_of_instruction, rule_of_line, rule_of_prefix,
+    self, Code, Released, Subject, rule_of_bytes, rule_of_hearing, rule_of_instruction,
+    rule_of_line, rule_of_prefix,
 };
+use crate::judged::{Judged, Waiting};
+use crate::keeping::{judge_applied, judge_list, judge_risk, judge_silence, judge_told};
 use crate::place::Place;
 use crate::reasons;
 use crate::recording::Recording;
-use crate::text::Text;
+use crate::report::{Counts, Report};
 use crate::view::View;
 use crate::watch::{Sight, Watch, Watcher};
 use qpack_base::parse_error::ParseError;
 use qpack_codec::DecoderError;
 use qpack_table::dynamic::ReceivedTable;
-use qpack_wire::stream::{DecoderLine, EncoderLine, HeaderAck, StreamCancel};
+use qpack_wire::stream::{DecoderLine, EncoderLine, HeaderAck};
 use qpk_show::awaited::HearingFault;
+use qpk_show::observer::Observer;
 use qpk_show::section::{Reading, Stop};
 use qpk_show::shown::Shown;
 use qpk_show::stream::Cut;
-use std::alloc::{AllocError, Global};
-use std::marker::Model;
+use std::alloc::Global;
 
 /// How a recording is read, and how findings are printed.
 #[derive(Clone, Copy)]
@@ -48,235 +49,11 @@ pub fn check(alloc: Global, options: CheckOptions, input: &[u8]) -> Result<View,
     let mut watch = Watch::new(alloc, recording, options.settings)?;
     let mut judge = Judge {
         report: Report::new(alloc, options.json),
-        client: Judged::new(alloc),
-        server: Judged::new(alloc),
+        client: Judged::new(alloc, watch.outline().tells(End::Client)),
+        server: Judged::new(alloc, watch.outline().tells(End::Server)),
     };
     watch.finish(&mut judge)?;
     judge.end()
-}
-
-/// The findings so far.
-#[derive(Drop)]
-struct Report {
-    text: Text,
-    json: bool,
-    has_found: bool,
-}
-
-impl Model for Report {
-    ghost use Rattle.std.specs.Prelude.{◌≡◌, false};
-    ghost use Rattle.qpk_view.specs.Findings.{AreFindings, Findings};
-
-    ghost Value = { Findings };
-
-    ghost view = { λ r. record { text = r.text; json = r.json; has_found = r.has_found } };
-
-    ghost invariant = { λ r. r.text.lacks_memory ≡ false → AreFindings r.json r.has_found r.text.bytes };
-}
-
-impl Report {
-    /// Returns a report without a finding.
-    fn new(alloc: Global, json: bool) -> Report
-        ensures { result.json ≡ json }
-    {
-        Report {
-            text: Text::new(alloc),
-            json,
-            has_found: false,
-        }
-    }
-
-    /// Begins a finding. Its reason comes next.
-    #[tactic(auto, using(crate::proofs::Reports::begun))]
-    fn begin(&mut self, place: Place<'_>, subject: Subject)
-        ensures json { self.new.json ≡ self.old.json }
-        ensures found { self.new.has_found ≡ true }
-    {
-        push_front(&mut self.text, self.json, place, subject);
-        self.has_found = true;
-    }
-
-    /// Ends a finding, after its reason.
-    fn end(&mut self, rule: Rule)
-        requires { self.old.has_found ≡ true }
-        ensures json { self.new.json ≡ self.old.json }
-        ensures found { self.new.has_found ≡ true }
-    {
-        if self.json {
-            push_rule_members(&mut self.text, rule);
-        } else {
-            push_rule(&mut self.text, rule);
-        }
-    }
-
-    /// Returns what is printed. Where nothing was found, that is how many sections and instructions there were.
-    fn finish(self, counts: Counts) -> Result<View, Fault>
-        ensures { IfOk result (λ view. AreVerdict self.json view.has_found (string_bytes view.text)) }
-    {
-        let Report {
-            mut text,
-            json,
-            has_found,
-        } = self;
-        if !has_found {
-            push_nothing_found(&mut text, json, counts);
-        }
-        View::new(text, has_found)
-    }
-}
-
-/// Appends the front of a finding, before the reason, as a line or as an object of JSON.
-fn push_front(text: &mut Text, json: bool, place: Place<'_>, subject: Subject)
-    ensures { BeginsWith (finding_front json) text.old text.new }
-{
-    if json {
-        return push_finding_object(text, place, subject);
-    }
-    push_finding(text, place, subject);
-}
-
-/// How many sections and instructions there were.
-#[derive(Clone, Copy)]
-struct Counts {
-    sections: usize,
-    encoder: usize,
-    decoder: usize,
-}
-
-/// Appends that nothing was found.
-fn push_nothing_found(text: &mut Text, json: bool, counts: Counts)
-    ensures { BeginsWith (nothing_front json) text.old text.new }
-{
-    if json {
-        return push_counts_object(text, counts);
-    }
-    push_counts(text, counts);
-}
-
-/// Appends that nothing was found, as an object of JSON.
-fn push_counts_object(text: &mut Text, counts: Counts)
-    ensures { BeginsWith (nothing_front true) text.old text.new }
-{
-    text.push_str("{\"findings\":0,");
-    push_members(text, counts);
-}
-
-/// Appends how many sections and instructions there were, and the end of their object of JSON.
-fn push_members(text: &mut Text, counts: Counts)
-    ensures { Extends text.old text.new }
-{
-    text.push_between(
-        "\"sections\":",
-        &counts.sections,
-        ",\"encoder_instructions\":",
-    );
-    text.push_between("", &counts.encoder, ",\"decoder_instructions\":");
-    text.push_between("", &counts.decoder, "}\n");
-}
-
-/// Appends that nothing was found, as a line.
-fn push_counts(text: &mut Text, counts: Counts)
-    ensures { BeginsWith (nothing_front false) text.old text.new }
-{
-    text.push_str("nothing found: ");
-    push_numbers(text, counts);
-}
-
-/// Appends how many sections and instructions there were, and the end of their line.
-fn push_numbers(text: &mut Text, counts: Counts)
-    ensures { Extends text.old text.new }
-{
-    text.push_between("sections ", &counts.sections, ", encoder instructions ");
-    text.push_between("", &counts.encoder, ", decoder instructions ");
-    text.push_between("", &counts.decoder, "\n");
-}
-
-/// A section that waits.
-#[derive(Clone, Copy)]
-struct Waiting {
-    stream: u64,
-    required: usize,
-    /// The line that it came in.
-    line: usize,
-    /// The end that sent it, if the recording says so.
-    end: Option<End>,
-}
-
-/// What was seen of one encoder and of its decoder.
-#[derive(Drop)]
-struct Judged {
-    encoder_instructions: usize,
-    decoder_instructions: usize,
-    sections: usize,
-    /// Whether the encoder stream was refused: what later things say of insertions follows from that alone.
-    is_broken: bool,
-    waiting: Vec<Waiting>,
-    /// The streams that had a section with a required insert count.
-    referencing: Vec<u64>,
-}
-
-impl Judged {
-    /// Nothing was seen.
-    fn new(alloc: Global) -> Judged {
-        Judged {
-            encoder_instructions: 0,
-            decoder_instructions: 0,
-            sections: 0,
-            is_broken: false,
-            waiting: Vec::new(alloc),
-            referencing: Vec::new(alloc),
-        }
-    }
-
-    /// Counts an encoder instruction, and returns its number.
-    fn count_encoder(&mut self) -> usize {
-        self.encoder_instructions = self.encoder_instructions.saturating_add(1);
-        self.encoder_instructions
-    }
-
-    /// Counts a decoder instruction, and returns its number.
-    fn count_decoder(&mut self) -> usize {
-        self.decoder_instructions = self.decoder_instructions.saturating_add(1);
-        self.decoder_instructions
-    }
-
-    /// Counts a section of a stream, or one that waited and waits no more.
-    fn count_section(&mut self, stream: u64, was_blocked: bool) {
-        if was_blocked {
-            self.end_wait(stream);
-        } else {
-            self.sections = self.sections.saturating_add(1);
-        }
-    }
-
-    /// Notes that a section begins to wait.
-    fn wait(&mut self, waiting: Waiting) -> Result<(), AllocError> {
-        self.waiting.push(waiting)?;
-        self.refer(waiting.stream)
-    }
-
-    /// Notes that a stream had a section with a required insert count.
-    fn refer(&mut self, stream: u64) -> Result<(), AllocError> {
-        self.referencing.push(stream)?;
-        Ok(())
-    }
-
-    /// Notes that the first section of a stream that waits no longer does.
-    fn end_wait(&mut self, stream: u64) {
-        if let Some(index) = self.waiting.iter().position(|w| w.stream == stream) {
-            self.waiting.remove(index);
-        }
-    }
-
-    /// Notes that no section of a stream waits any more.
-    fn give_up(&mut self, stream: u64) {
-        self.waiting.retain(|w| w.stream != stream);
-    }
-
-    /// Returns whether a stream had a section with a required insert count.
-    fn had_section(&self, stream: u64) -> bool {
-        self.referencing.contains(&stream)
-    }
 }
 
 /// A watcher that judges a recording.
@@ -295,6 +72,20 @@ impl Watcher for Judge {
             End::Client => judge_sight(&mut self.client, &mut self.report, place, sight),
             End::Server => judge_sight(&mut self.server, &mut self.report, place, sight),
         }
+        match encoder_of_speaker(place, encoder, sight) {
+            Some(End::Client) => judge_silence(&mut self.client, &mut self.report, place),
+            Some(End::Server) => judge_silence(&mut self.server, &mut self.report, place),
+            None => {}
+        }
+    }
+}
+
+/// Returns the end whose decoder sent something in a place, or another stream of the decoder's end has it.
+fn encoder_of_speaker(place: Place<'_>, encoder: End, sight: Sight<'_>) -> Option<End> {
+    match (place.end, sight) {
+        (Some(end), _) => Some(end.other()),
+        (None, Sight::Shown(Shown::Told { .. }, _)) => Some(encoder),
+        _ => None,
     }
 }
 
@@ -332,11 +123,20 @@ fn judge_sight(judged: &mut Judged, report: &mut Report, place: Place<'_>, sight
     ensures { report.new.json ≡ report.old.json }
 {
     match sight {
-        Sight::Shown(shown, table) => judge_shown(judged, report, place, shown, table),
-        Sight::GivenUp(stream) => judged.give_up(stream),
+        Sight::Shown(shown, observer) => judge_shown(judged, report, place, shown, observer),
+        Sight::GivenUp(stream) => judge_given_up(judged, report, stream),
         Sight::Cut(name, cut) => judge_cut(judged, report, place, name, cut),
         Sight::Settings(_) | Sight::HalfByte => {}
     }
+}
+
+/// Notes that a stream is read no further.
+fn judge_given_up(judged: &mut Judged, report: &mut Report, stream: u64)
+    ensures { report.new.json ≡ report.old.json }
+{
+    report.text.note(judged.give_up(stream));
+    judged.silence.end();
+    report.text.note(judged.messages.skip(stream));
 }
 
 /// Judges an instruction or a section.
@@ -345,14 +145,13 @@ fn judge_shown(
     report: &mut Report,
     place: Place<'_>,
     shown: &Shown,
-    table: &ReceivedTable,
+    observer: &Observer,
 )
     ensures { report.new.json ≡ report.old.json }
 {
+    let table = observer.table();
     match shown {
-        Shown::Applied { .. } => {
-            judged.count_encoder();
-        }
+        Shown::Applied { offset, .. } => judge_applied(judged, report, place, *offset, observer),
         Shown::NotApplied {
             offset,
             line,
@@ -361,7 +160,7 @@ fn judge_shown(
         Shown::NoEncoderInstruction { offset, error } => {
             judge_encoder_bytes(judged, report, place, *offset, *error)
         }
-        Shown::Told { line, .. } => judge_told(judged, line),
+        Shown::Told { line, .. } => judge_told(judged, report, place, line, observer),
         Shown::NotTold {
             offset,
             line,
@@ -377,12 +176,21 @@ fn judge_shown(
         } => {
             judged.count_section(*stream, *was_blocked);
             judge_reading(judged, report, place, *stream, reading);
+            judge_list(
+                judged,
+                report,
+                place,
+                *stream,
+                *was_blocked,
+                reading,
+                observer,
+            );
         }
         Shown::BlockedUntil { stream, required } => {
-            judge_blocked(judged, report, place, *stream, *required)
+            judge_blocked(judged, report, place, *stream, *required, observer)
         }
         Shown::TooManyBlocked { stream, required } => {
-            judge_too_many_blocked(judged, report, place, *stream, *required)
+            judge_too_many_blocked(judged, report, place, *stream, *required, observer.limit())
         }
     }
 }
@@ -399,7 +207,7 @@ fn judge_not_applied(
 )
     ensures { report.new.json ≡ report.old.json }
 {
-    judged.is_broken = true;
+    judged.break_off();
     report.begin(place, Subject::Encoder(offset, judged.count_encoder()));
     reasons::push_not_applied(&mut report.text, line, error, table);
     report.end(rule_of_instruction(offset, line, error, table));
@@ -415,7 +223,7 @@ fn judge_encoder_bytes(
 )
     ensures { report.new.json ≡ report.old.json }
 {
-    judged.is_broken = true;
+    judged.break_off();
     let subject = Subject::Encoder(offset, judged.count_encoder());
     judge_bytes(report, place, subject, Code::EncoderStream, error);
 }
@@ -430,6 +238,7 @@ fn judge_decoder_bytes(
 )
     ensures { report.new.json ≡ report.old.json }
 {
+    judged.end_connection();
     let subject = Subject::Decoder(offset, judged.count_decoder());
     judge_bytes(report, place, subject, Code::DecoderStream, error);
 }
@@ -449,14 +258,6 @@ fn judge_bytes(
     report.end(rule_of_bytes(code, error));
 }
 
-/// Judges a decoder instruction that is not refused.
-fn judge_told(judged: &mut Judged, line: &DecoderLine) {
-    judged.count_decoder();
-    if let DecoderLine::StreamCancel(StreamCancel(stream)) = line {
-        judged.give_up(*stream);
-    }
-}
-
 /// Judges a decoder instruction at an offset that is refused for a fault.
 fn judge_hearing(
     judged: &mut Judged,
@@ -469,13 +270,16 @@ fn judge_hearing(
 )
     ensures { report.new.json ≡ report.old.json }
 {
+    judged.end_connection();
     let subject = Subject::Decoder(offset, judged.count_decoder());
     if follows(judged, fault) {
         return;
     }
+    let released = released_of(judged, line);
     report.begin(place, subject);
     reasons::push_hearing(&mut report.text, fault, table);
-    report.end(rule_of_hearing(offset, line, fault, had_section(judged, line)));
+    reasons::push_release(&mut report.text, released);
+    report.end(rule_of_hearing(offset, line, fault, released));
 }
 
 /// Judges a section that is blocked.
@@ -485,6 +289,7 @@ fn judge_blocked(
     place: Place<'_>,
     stream: u64,
     required: usize,
+    observer: &Observer,
 )
     ensures { report.new.json ≡ report.old.json }
 {
@@ -495,6 +300,10 @@ fn judge_blocked(
         line: place.line,
         end: place.end,
     }));
+    report
+        .text
+        .note(judged.duties.add_waiting(stream, place.line));
+    judge_risk(judged, report, place, stream, required, observer);
 }
 
 /// Judges a section that would be blocked if more streams might be.
@@ -504,16 +313,20 @@ fn judge_too_many_blocked(
     place: Place<'_>,
     stream: u64,
     required: usize,
+    limit: usize,
 )
     ensures { report.new.json ≡ report.old.json }
 {
     judged.count_section(stream, false);
     report.text.note(judged.refer(stream));
+    report.text.note(judged.messages.skip(stream));
+    judged.end_connection();
     if judged.is_broken {
         return;
     }
     report.begin(place, Subject::Section(stream, 0));
     reasons::push_too_many_blocked(&mut report.text, required);
+    reasons::push_blocked(&mut report.text, limit, &judged.waiting);
     report.end(findings::TOO_MANY_BLOCKED);
 }
 
@@ -525,11 +338,11 @@ fn follows(judged: &Judged, fault: HearingFault) -> bool {
     }
 }
 
-/// Returns whether the stream that an instruction acknowledges had a section with a required insert count.
-fn had_section(judged: &Judged, line: &DecoderLine) -> bool {
+/// Returns how the sections of the stream that an instruction acknowledges were released.
+fn released_of(judged: &Judged, line: &DecoderLine) -> Released {
     match line {
-        DecoderLine::HeaderAck(HeaderAck(stream)) => judged.had_section(*stream),
-        _ => false,
+        DecoderLine::HeaderAck(HeaderAck(stream)) => judged.released(*stream),
+        _ => Released::Never,
     }
 }
 
@@ -549,9 +362,10 @@ fn judge_reading(
     }
     match reading {
         Reading::Lines {
+            base,
             stop: Some(stop),
             ..
-        } => judge_stop(report, place, stream, required, stop),
+        } => judge_stop(judged, report, place, stream, required, *base, stop),
         Reading::Refused(refusal) => {
             report.begin(place, Subject::Section(stream, 0));
             reasons::push_prefix_refusal(&mut report.text, refusal);
@@ -561,13 +375,22 @@ fn judge_reading(
     }
 }
 
-/// Judges the line at which a section with this required insert count ends early.
-fn judge_stop(report: &mut Report, place: Place<'_>, stream: u64, required: usize, stop: &Stop)
+/// Judges the line at which a section with this required insert count and this base ends early.
+fn judge_stop(
+    judged: &Judged,
+    report: &mut Report,
+    place: Place<'_>,
+    stream: u64,
+    required: usize,
+    base: usize,
+    stop: &Stop,
+)
     ensures { report.new.json ≡ report.old.json }
 {
     report.begin(place, Subject::Section(stream, stop.offset));
     reasons::push_line_fault(&mut report.text, &stop.fault);
-    report.end(rule_of_line(&stop.fault, required));
+    reasons::push_eviction(&mut report.text, &stop.fault, base, &judged.duties);
+    report.end(rule_of_line(&stop.fault, required, base));
 }
 
 /// Judges what the end of the input cuts.

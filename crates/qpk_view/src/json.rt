@@ -31,7 +31,8 @@ pub(crate) fn push_object(text: &mut Text, place: Place<'_>, sight: Sight<'_>, w
 {
     place.push_members(text);
     match sight {
-        Sight::Shown(shown, table) => {
+        Sight::Shown(shown, observer) => {
+            let table = observer.table();
             push_shown(text, shown, table);
             push_table_after(text, place, shown, table, with_table);
         }

@@ -28,7 +28,8 @@ pub(crate) fn push_sight(text: &mut Text, place: Place<'_>, sight: Sight<'_>, wi
 {
     place.push(text);
     match sight {
-        Sight::Shown(shown, table) => {
+        Sight::Shown(shown, observer) => {
+            let table = observer.table();
             push_shown(text, place.line, shown, table);
             push_table_after(text, shown, table, with_table);
         }

@@ -151,6 +151,10 @@ pub(crate) struct Outline {
     client: Option<Settings>,
     /// The SETTINGS that limit the server's encoder.
     server: Option<Settings>,
+    /// Whether it has bytes of the decoder stream that goes to the client's encoder.
+    tells_client: bool,
+    /// Whether it has bytes of the decoder stream that goes to the server's encoder.
+    tells_server: bool,
 }
 
 /// What is said of a line that has the mark of an end, or none, unlike the first.
@@ -167,6 +171,8 @@ impl Outline {
             is_marked: None,
             client: None,
             server: None,
+            tells_client: false,
+            tells_server: false,
         };
         for _ in 0..u64::MAX {
             let Some(event) = recording.next(alloc)? else {
@@ -190,6 +196,14 @@ impl Outline {
         }
     }
 
+    /// Returns whether the recording has bytes of the decoder stream that goes to the encoder of an end.
+    pub(crate) fn tells(&self, encoder: End) -> bool {
+        match encoder {
+            End::Client => self.tells_client,
+            End::Server => self.tells_server,
+        }
+    }
+
     /// Notes an event. Rejects one that says which end it is of and should not, or the other way round.
     fn note(&mut self, alloc: Global, event: &Event<'_>) -> Result<(), Fault> {
         let has_mark = event.end.is_some();
@@ -197,10 +211,22 @@ impl Outline {
             return Err(Fault::of_line(alloc, event.line, MIXED_MARKS));
         }
         self.is_marked = Some(has_mark);
-        if let Act::Settings(settings) = &event.act {
-            return self.note_settings(alloc, event, *settings);
+        match &event.act {
+            Act::Settings(settings) => self.note_settings(alloc, event, *settings),
+            Act::Decoder(bytes) => {
+                self.note_decoder(event.encoder(), !bytes.is_empty());
+                Ok(())
+            }
+            _ => Ok(()),
         }
-        Ok(())
+    }
+
+    /// Notes a piece of the decoder stream that goes to the encoder of an end, which has bytes or not.
+    fn note_decoder(&mut self, encoder: End, has_bytes: bool) {
+        match encoder {
+            End::Client => self.tells_client = self.tells_client || has_bytes,
+            End::Server => self.tells_server = self.tells_server || has_bytes,
+        }
     }
 
     /// Notes SETTINGS. Rejects second ones of an end.

@@ -7,7 +7,6 @@ use crate::fault::Fault;
 use crate::place::Place;
 use crate::recording::{Outline, Recording};
 use qpack_base::coding::NoMemory;
-use qpack_table::dynamic::ReceivedTable;
 use qpk_show::observer::Observer;
 use qpk_show::shown::Shown;
 use qpk_show::stream::Cut;
@@ -16,8 +15,8 @@ use std::alloc::{AllocError, Global};
 /// What is seen.
 #[derive(Clone, Copy)]
 pub(crate) enum Sight<'a> {
-    /// An instruction or a section, and the table after it.
-    Shown(&'a Shown, &'a ReceivedTable),
+    /// An instruction or a section, and the onlooker after it.
+    Shown(&'a Shown, &'a Observer),
     /// SETTINGS.
     Settings(Settings),
     /// A stream is read no further.
@@ -43,7 +42,7 @@ pub(crate) trait Watcher {
 pub(crate) struct Watch<'a> {
     alloc: Global,
     recording: Recording<'a>,
-    is_marked: bool,
+    outline: Outline,
     /// The number of the line that came last.
     line: Option<usize>,
     client: Observer,
@@ -64,11 +63,16 @@ impl<'a> Watch<'a> {
         Ok(Watch {
             alloc,
             recording,
-            is_marked: outline.is_marked(),
+            outline,
             line: None,
             client: onlooker(alloc, client)?,
             server: onlooker(alloc, server)?,
         })
+    }
+
+    /// Returns what the recording says of itself.
+    pub(crate) fn outline(&self) -> Outline {
+        self.outline
     }
 
     /// Takes the next event, and shows all that can be by now. If there is no more, shows what the end of the input
@@ -113,8 +117,9 @@ impl<'a> Watch<'a> {
         ensures { W.json watcher.new ≡ W.json watcher.old }
     {
         if let Some(line) = self.line {
-            show_cuts(&self.client, line, End::Client, self.is_marked, watcher);
-            show_cuts(&self.server, line, End::Server, self.is_marked, watcher);
+            let is_marked = self.outline.is_marked();
+            show_cuts(&self.client, line, End::Client, is_marked, watcher);
+            show_cuts(&self.server, line, End::Server, is_marked, watcher);
         }
         if let Some((line, cut)) = self.recording.cut() {
             let place = place_at_end(line, End::Client, false);
@@ -211,7 +216,7 @@ fn show_all<W: Watcher>(
         let Some(shown) = observer.next()? else {
             break;
         };
-        see_shown(&shown, observer.table(), place, encoder, watcher);
+        see_shown(&shown, observer, place, encoder, watcher);
     }
     Ok(())
 }
@@ -219,7 +224,7 @@ fn show_all<W: Watcher>(
 /// Shows one thing, which the end of the encoder sent or the other one.
 fn see_shown<W: Watcher>(
     shown: &Shown,
-    table: &ReceivedTable,
+    observer: &Observer,
     place: Place<'_>,
     encoder: End,
     watcher: &mut W,
@@ -235,7 +240,7 @@ fn see_shown<W: Watcher>(
         time: place.time,
         end,
     };
-    watcher.see(place, encoder, Sight::Shown(shown, table));
+    watcher.see(place, encoder, Sight::Shown(shown, observer));
 }
 
 /// Shows which instructions an end cuts, after the line of this number.

@@ -1,16 +1,7 @@
-use Rattle.std.proofs.Common.{◌∙◌, ap}
-use Rattle.std.specs.Cow.{cow_str_bytes}
-use Rattle.qpk.specs.Refusals.{AppendsFront, TellsBy}
-use Rattle.qpk.proofs.Tellings.{told_as, told_of_memory}
-use Rattle.qpk.proofs.serve.refuse.Goals.{in-Ok, in-Err}
+use Rattle.qpk.proofs.Tellings.{told_front}
 use Rattle.qpk.proofs.serve.refuse.Goals as goal
 
 pub returns-clause-told : goal.returns-clause-told
 returns-clause-told g c =
-    let front = AppendsFront (g.E.Write.contents c.args.faults.now) (g.E.Write.contents c.say.new.faults) in
-    elim c.match-line.branch as (λ b. TellsBy c.args.refusal.now front) [
-      | in-Ok w ↦ told_as c.args.refusal.now front _
-          (c.as_str.ensures.value ∙ ap cow_str_bytes w.line-is ∙ w.in-Ok.ensures.line) c.say.ensures
-      | in-Err w ↦ told_of_memory c.args.refusal.now front _
-          (c.as_str.ensures.value ∙ ap cow_str_bytes w.line-is) w.in-Err.ensures.memory c.say.ensures
-    ]
+    told_front c.say_refusal.result (g.E.Write.contents c.args.faults.now) (g.E.Write.contents c.say_refusal.new.faults)
+    c.args.refusal.now c.say_refusal.ensures

@@ -1,21 +1,18 @@
 use Rattle.std.proofs.Common.{inl, inr}
-use Rattle.qpk.specs.Refusals.{AppendsFront}
-use Rattle.qpk.proofs.Tellings.{ends_told, found_of}
+use Rattle.qpk.proofs.Tellings.{front_of, note_front}
 use Rattle.qpk.proofs.serve.serve.Goals as goal
 
-pub returns-in-Ok-clause-answered : goal.returns-in-Ok-clause-answered
-returns-in-Ok-clause-answered g c = λ _.
-    let well = c.in-Ok.ensures.answered in (_, (well.0, well.1, well.2), c.say_note.ensures)
+pub returns-clause-answered : goal.returns-clause-answered
+returns-clause-answered g c = λ well.
+    let old = g.E.Write.contents c.args.faults.now in let new = g.E.Write.contents c.serve_and_say.new.faults in
+    let done = c.serve_and_say.ensures.answered well in
+    (done.0, done.1, note_front c.serve_and_say.result.said old new done.0 done.2)
 
-pub returns-in-Ok-clause-refused : goal.returns-in-Ok-clause-refused
-returns-in-Ok-clause-refused g c = λ other.
-    let well = c.in-Ok.ensures.answered in
-    inr (_, well.0, well.1, well.2, found_of well.0 _ well.3 other, c.say_note.ensures)
-
-pub returns-in-Err-clause-refused : goal.returns-in-Err-clause-refused
-returns-in-Err-clause-refused g c = λ _.
-    let told = ends_told c.args.words.now (g.R.Read.remaining c.args.input.now) (g.W.Write.contents c.args.output.now)
-    (g.W.Write.contents c.run.new.output) c.in-Err.refusal
-    (AppendsFront (g.E.Write.contents c.args.faults.now) (g.E.Write.contents c.refuse.new.faults))
-    c.in-Err.ensures.refused c.refuse.ensures.told in
-    inl (c.refuse.ensures.status, told.0, told.1, told.2)
+pub returns-clause-refused : goal.returns-clause-refused
+returns-clause-refused g c = λ other.
+    let old = g.E.Write.contents c.args.faults.now in let new = g.E.Write.contents c.serve_and_say.new.faults in
+    let said = c.serve_and_say.result.said in
+    elim (c.serve_and_say.ensures.refused other) [
+      | inl ended ↦ inl (ended.0, ended.1, ended.2, front_of said old new _ ended.3.0 ended.3.1)
+      | inr found ↦ inr (found.0, found.1, found.2, found.3, found.4, note_front said old new found.0 found.5)
+    ]

@@ -1,5 +1,5 @@
 use Rattle.std.proofs.Common.{append_assoc}
-use Rattle.qpk_view.proofs.check.push_counts.Goals as goal
+use Rattle.qpk_view.proofs.report.push_counts.Goals as goal
 
 pub returns : goal.returns
 returns c = λ h. let e = c.push_numbers.ensures h in let p = c.push_str.ensures e.0 in
