@@ -100,7 +100,7 @@ static void fill_tables(kind k) {
   __real_free(f);
 }
 
-/* ---- Fields whose hashes are equal with the seed 0: then the encoder's index keeps them in one row, in order */
+/* ---- Fields whose hashes are equal with the seed 0: then the encoder's index keeps them in the order of their values */
 
 /* Returns whether the encoder finds the field of a place at this absolute index: else its value is in the section. */
 static int finds(h3_qpack_encoder *e, size_t place, size_t index) {
@@ -112,8 +112,8 @@ static int finds(h3_qpack_encoder *e, size_t place, size_t index) {
   return a.len < sizeof f.value && a.required == index;
 }
 
-/* With the seed 0, each insertion puts a slot in front of its row, and the eviction for it takes one near the front: so
- * either moves nearly all other slots of the row, eight bytes each. */
+/* With the seed 0, each insertion puts a slot in front of the row of fields, and the eviction for it takes one near the
+ * front: so either moves nearly all other slots of that row, eight bytes each. */
 static void move_slots(const char *label, uint64_t encoder_seed) {
   size_t calls = size < 200 ? size / 2 : 100;
   h3_qpack_encoder e;
@@ -476,8 +476,7 @@ static void declare(void) {
 }
 
 static void run_size(void) {
-  for (kind k = 0; k < KINDS; k++)
-    if (k != ONE_ROW || size <= 10000) fill_tables(k); /* names for more are not found in seconds */
+  for (kind k = 0; k < KINDS; k++) fill_tables(k);
   move_slots("each insertion and eviction moves the slots of its row", 0);
   move_slots("the same fields, with another seed", 0x5eed);
   read_strings(&plain);

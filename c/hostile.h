@@ -103,10 +103,9 @@ static inline void put_prefix(bytes *b, size_t required, size_t max_capacity) {
 
 #define FIELD 64
 
-typedef enum { RANDOM, ONE_NAME, EQUAL_FIELDS, EQUAL_NAMES, ONE_ROW, KINDS } kind;
+typedef enum { RANDOM, ONE_NAME, EQUAL_FIELDS, EQUAL_NAMES, KINDS } kind;
 
-static const char *const kinds[] = {"random fields", "one name", "equal hashes of fields", "equal hashes of names",
-                                    "names of letters in one row"};
+static const char *const kinds[] = {"random fields", "one name", "equal hashes of fields", "equal hashes of names"};
 
 typedef struct {
   uint8_t name[16], value[16];
@@ -116,42 +115,20 @@ static inline void write_digits(uint8_t *at, uint64_t number) {
   for (int i = 0; i < 16; i++, number /= 16) at[i] = (uint8_t)"0123456789abcdef"[number % 16];
 }
 
-/* The constants of the table's hash, which is no secret. */
-#define SEED 0xa0761d6478bd642fu
-#define SECRET 0xe7037ed1a0b428dbu
+/* The factor of the table's hash under the seed 0, which is no secret. */
+#define FACTOR 0xe7037ed1a0b428dbu
 
-/* Sixteen bytes that end in the constant, behind which the hash is 0 whatever was before. */
+/* Sixteen bytes that end in the factor, behind which the hash is 0 whatever was before. */
 static inline void write_forgotten(uint8_t *at, uint64_t number) {
-  uint64_t secret = SECRET;
+  uint64_t factor = FACTOR;
   memcpy(at, &number, 8);
-  memcpy(at + 8, &secret, 8);
-}
-
-static inline uint64_t fold_product(uint64_t a, uint64_t b) {
-  unsigned __int128 product = (unsigned __int128)a * b;
-  return (uint64_t)product ^ (uint64_t)(product >> 64);
-}
-
-/* The first number from |number| on whose digits, as a name, stand in the first row of a table of up to so many entries. */
-static inline uint64_t next_in_row(uint64_t number, size_t entries) {
-  uint64_t width = 32;
-  while (width < entries) width *= 2;
-  for (;; number++) {
-    uint8_t name[16];
-    uint64_t low, high;
-    write_digits(name, number);
-    memcpy(&low, name, 8);
-    memcpy(&high, name + 8, 8);
-    uint64_t piece = fold_product((uint64_t)SEED ^ 16 ^ low, (uint64_t)SECRET ^ high);
-    if (!((fold_product(piece, SECRET) >> 32) % width)) return number;
-  }
+  memcpy(at + 8, &factor, 8);
 }
 
 /* So many different fields of a kind. */
 static inline field *make_fields(kind k, size_t count) {
   field *made = __real_malloc(count * sizeof *made);
   CHECK(made);
-  uint64_t number = 0;
   for (size_t i = 0; i < count; i++) {
     field *f = &made[i];
     memcpy(f->name, "x-one-x-one-x-on", 16);
@@ -162,8 +139,6 @@ static inline field *make_fields(kind k, size_t count) {
     if (k == ONE_NAME) write_digits(f->value, scattered);
     if (k == EQUAL_FIELDS) write_forgotten(f->value, i);
     if (k == EQUAL_NAMES) write_forgotten(f->name, i);
-    if (k == ONE_ROW) write_digits(f->name, number = next_in_row(number, count));
-    number++;
   }
   return made;
 }

@@ -71,8 +71,24 @@ static void compare_fields(connection *c, const strict_fields *fields, size_t go
   free(text);
 }
 
+/* The prefix alone says what the strict reader says of the whole: that the section waits, or not, or is refused in it. */
+static void compare_prefix(connection *c, const strict_section *want, const uint8_t *p, size_t len) {
+  h3_qpack_prefix prefix = h3_qpack_decoder_peek_prefix(&c->library, p, len);
+  if (len > h3_qpack_longest_section(c->limit)) return; /* it was not read */
+  if (want->status == STRICT_BLOCKED) {
+    CHECK(prefix.status == H3_QPACK_BLOCKED && prefix.required == want->required && prefix.len >= 2);
+  } else if (want->status == STRICT_OK) {
+    CHECK(prefix.status == H3_QPACK_OK && prefix.required == want->required && prefix.len >= 2);
+  } else if (want->number) {
+    CHECK(prefix.status == H3_QPACK_OK && prefix.len >= 2 && prefix.len <= want->offset);
+  } else {
+    CHECK(prefix.status == H3_QPACK_DECOMPRESSION_FAILED && !prefix.required && !prefix.base && !prefix.len);
+  }
+}
+
 static void decode(connection *c, uint64_t stream, const uint8_t *p, size_t len) {
   strict_section want = strict_decode(&c->strict, p, len, c->limit);
+  compare_prefix(c, &want, p, len);
   h3_qpack_decoded got = h3_qpack_decoder_decode(&c->library, stream, p, len);
   if (len > h3_qpack_longest_section(c->limit)) { /* no section of so many bytes is within the limit */
     CHECK(got.status == H3_QPACK_ERR_TOO_LARGE && !got.number && !got.offset && !got.fields);

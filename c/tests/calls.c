@@ -130,6 +130,7 @@ static void refuse_arguments(void) {
   CHECK(!h3_qpack_encoder_get_capacity(NULL) && !h3_qpack_encoder_get_table_size(&none));
   CHECK(!h3_qpack_encoder_get_num_entries(&none));
   CHECK(h3_qpack_encoder_entry(&none, 0, section, 2).status == H3_QPACK_ERR_INVALID);
+  CHECK(h3_qpack_decoder_peek_prefix(&nothing, section, 2).status == H3_QPACK_ERR_INVALID);
   CHECK(h3_qpack_decoder_decode(&nothing, 0, section, 2).status == H3_QPACK_ERR_INVALID);
   CHECK(h3_qpack_decoder_field(NULL, 0, section, 2).status == H3_QPACK_ERR_INVALID);
   CHECK(h3_qpack_decoder_read_encoder(&nothing, NULL, 0).status == H3_QPACK_ERR_INVALID);
@@ -160,6 +161,7 @@ static void refuse_arguments(void) {
   CHECK(h3_qpack_encoder_set_capacity(&e, 4097) == H3_QPACK_ERR_INVALID);
   CHECK(h3_qpack_encoder_entry(&e, 0, bytes, sizeof bytes).status == H3_QPACK_ERR_INVALID);
   CHECK(h3_qpack_decoder_entry(&d, 0, bytes, sizeof bytes).status == H3_QPACK_ERR_INVALID);
+  CHECK(h3_qpack_decoder_peek_prefix(&d, NULL, 1).status == H3_QPACK_ERR_INVALID);
   CHECK(h3_qpack_decoder_decode(&d, 0, NULL, 1).status == H3_QPACK_ERR_INVALID);
   CHECK(h3_qpack_decoder_decode(&d, (uint64_t)1 << 62, section, 0).status == H3_QPACK_ERR_INVALID);
   CHECK(h3_qpack_decoder_cancel_stream(&d, (uint64_t)1 << 62) == H3_QPACK_ERR_INVALID);
@@ -235,6 +237,46 @@ static void ask_for_room(void) {
   r = h3_qpack_decoder_decode(&d, 8, section, 2);
   CHECK(r.status == H3_QPACK_OK && !r.fields && !r.len);
   h3_qpack_encoder_del(&e);
+  h3_qpack_decoder_del(&d);
+}
+
+/* Whether the bytes have a prefix that says this. */
+static int is_prefix(h3_qpack_decoder *d, const char *bytes, size_t len, int status, size_t required, size_t base,
+                     size_t prefix) {
+  h3_qpack_prefix p = h3_qpack_decoder_peek_prefix(d, (const uint8_t *)bytes, len);
+  return p.status == status && p.required == required && p.base == base && p.len == prefix;
+}
+
+/* What the prefix of a section says before and after the insertion that it requires, and that reading it changes nothing. */
+static void peek_prefixes(void) {
+  h3_qpack_encoder e;
+  h3_qpack_decoder d;
+  CHECK(!new_encoder(&e, 4096, 1) && !new_decoder(&d, 4096, 1, 100));
+  h3_qpack_encoded a = h3_qpack_encoder_encode(&e, 0, &custom, 1, section, sizeof section);
+  CHECK(a.status == H3_QPACK_OK && a.required == 1);
+  h3_qpack_prefix p = h3_qpack_decoder_peek_prefix(&d, section, a.len);
+  CHECK(p.status == H3_QPACK_BLOCKED && p.required == 1 && p.len == 2);
+  CHECK(!h3_qpack_decoder_get_num_blocked(&d) && !h3_qpack_decoder_get_decoder_streamlen(&d));
+  size_t len = h3_qpack_encoder_write_encoder(&e, stream, sizeof stream);
+  CHECK(h3_qpack_decoder_read_encoder(&d, stream, len).status == H3_QPACK_OK);
+  len = h3_qpack_decoder_get_decoder_streamlen(&d);
+  CHECK(h3_qpack_decoder_peek_prefix(&d, section, 2).status == H3_QPACK_OK);
+  CHECK(is_prefix(&d, "\x02\x00", 2, H3_QPACK_OK, 1, 1, 2) && is_prefix(&d, "\x02\x80\xff", 3, H3_QPACK_OK, 1, 0, 2));
+  CHECK(is_prefix(&d, "\x03\x05", 2, H3_QPACK_BLOCKED, 2, 7, 2));
+  CHECK(is_prefix(&d, "\x00\x00\xd1", 3, H3_QPACK_OK, 0, 0, 2));
+  CHECK(is_prefix(&d, "\x02\x7f\x00", 3, H3_QPACK_OK, 1, 128, 3));
+  CHECK(is_prefix(&d, "", 0, H3_QPACK_DECOMPRESSION_FAILED, 0, 0, 0));
+  CHECK(is_prefix(&d, "\x02", 1, H3_QPACK_DECOMPRESSION_FAILED, 0, 0, 0));
+  CHECK(is_prefix(&d, "\x00\x80", 2, H3_QPACK_DECOMPRESSION_FAILED, 0, 0, 0));
+  CHECK(is_prefix(&d, "\xff\xff\xff\xff\xff\x00\x00", 7, H3_QPACK_DECOMPRESSION_FAILED, 0, 0, 0));
+  CHECK(h3_qpack_decoder_get_decoder_streamlen(&d) == len);
+  CHECK(h3_qpack_decoder_decode(&d, 0, section, a.len).status == H3_QPACK_OK);
+  check_fields(&d, &custom, 1);
+  h3_qpack_encoder_del(&e);
+  h3_qpack_decoder_del(&d);
+  CHECK(!new_decoder(&d, 0, 0, 100));
+  CHECK(is_prefix(&d, "\x02\x00", 2, H3_QPACK_DECOMPRESSION_FAILED, 0, 0, 0));
+  CHECK(is_prefix(&d, "\x00\x00", 2, H3_QPACK_OK, 0, 0, 2));
   h3_qpack_decoder_del(&d);
 }
 
@@ -542,6 +584,7 @@ int main(int argc, char **argv) {
   take_null_texts();
   keep_results();
   ask_for_room();
+  peek_prefixes();
   decode_alone();
   end_connections();
   wait_for_insertions();

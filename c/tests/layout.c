@@ -38,6 +38,11 @@ static void print_results(void) {
   FIELD(h3_qpack_received, taken);
   FIELD(h3_qpack_received, number);
   FIELD(h3_qpack_received, offset);
+  SIZE(h3_qpack_prefix);
+  FIELD(h3_qpack_prefix, status);
+  FIELD(h3_qpack_prefix, required);
+  FIELD(h3_qpack_prefix, base);
+  FIELD(h3_qpack_prefix, len);
   SIZE(h3_qpack_decoded_alone);
   FIELD(h3_qpack_decoded_alone, status);
   FIELD(h3_qpack_decoded_alone, fields);

@@ -21,6 +21,7 @@ NAMES = {
     "answers::Decoding": "h3_qpack_decoded",
     "answers::Encoded": "h3_qpack_encoded",
     "answers::Given": "h3_qpack_field",
+    "answers::Prefixed": "h3_qpack_prefix",
     "answers::Received": "h3_qpack_received",
     "answers::Written": "h3_qpack_written",
     "decoder::Handle": "h3_qpack_decoder",
