@@ -120,7 +120,7 @@ typedef struct h3_qpack_encoded {
   size_t len;      /* the length of the section, in bytes */
   size_t required; /* its Required Insert Count; if this is above 0, the peer acknowledges the section */
   size_t size;     /* the size of the fields, in bytes: the sum of name, value and 32 bytes each, at most SIZE_MAX. The
-                      peer may refuse a section above its SETTINGS_MAX_FIELD_SECTION_SIZE (RFC 9114, section 4.2.2) */
+                      peer may reject a section above its SETTINGS_MAX_FIELD_SECTION_SIZE (RFC 9114, section 4.2.2) */
 } h3_qpack_encoded;
 
 typedef struct h3_qpack_written {
@@ -135,6 +135,13 @@ typedef struct h3_qpack_received {
   uint64_t number; /* the number of the invalid instruction, from 1 at the start of its stream; else 0 */
   uint64_t offset; /* the position of its first byte, from 0 after the stream type; else 0 */
 } h3_qpack_received;
+
+typedef struct h3_qpack_prefix {
+  int32_t status;
+  size_t required; /* the section's Required Insert Count, 0 if it references no entry of the dynamic table */
+  size_t base;     /* its Base */
+  size_t len;      /* the length of the prefix, in bytes */
+} h3_qpack_prefix;
 
 typedef struct h3_qpack_decoded_alone {
   int32_t status;
@@ -185,7 +192,7 @@ typedef struct h3_qpack_decoder_settings {
  * system has none, as in WebAssembly. Does nothing if |settings| is NULL.
  *
  * Bindings call h3_qpack_encoder_settings_default_versioned, with the H3_QPACK_VERSION that their struct is of. It does
- * nothing for a version that _new refuses. */
+ * nothing for a version with which _new fails. */
 #define h3_qpack_encoder_settings_default(settings) \
   h3_qpack_encoder_settings_default_versioned(H3_QPACK_VERSION, (settings))
 void h3_qpack_encoder_settings_default_versioned(uint32_t version, h3_qpack_encoder_settings *settings);
@@ -315,7 +322,7 @@ H3_QPACK_INLINE h3_qpack_field h3_qpack_encoder_entry(h3_qpack_encoder *encoder,
  * a |max_section_size| of 65,536, which you must send. Does nothing if |settings| is NULL.
  *
  * Bindings call h3_qpack_decoder_settings_default_versioned, with the H3_QPACK_VERSION that their struct is of. It does
- * nothing for a version that _new refuses. */
+ * nothing for a version with which _new fails. */
 #define h3_qpack_decoder_settings_default(settings) \
   h3_qpack_decoder_settings_default_versioned(H3_QPACK_VERSION, (settings))
 void h3_qpack_decoder_settings_default_versioned(uint32_t version, h3_qpack_decoder_settings *settings);
@@ -348,10 +355,22 @@ H3_QPACK_INLINE h3_qpack_received h3_qpack_decoder_read_encoder(h3_qpack_decoder
                                                                 size_t srclen);
 
 /* Returns the length, in bytes, of the longest section whose fields can be within |max_section_size|; at most SIZE_MAX. A
- * decoder refuses a longer one unread: H3_QPACK_ERR_TOO_LARGE, with |number| 0. So a buffer for a HEADERS frame needs no
+ * decoder rejects a longer one unread: H3_QPACK_ERR_TOO_LARGE, with |number| 0. So a buffer for a HEADERS frame needs no
  * more room. A macro: it evaluates |max_section_size| twice. */
 #define h3_qpack_longest_section(max_section_size) \
   ((uint64_t)(max_section_size) > ((size_t)-1 - 20) / 4 ? (size_t)-1 : 4 * (size_t)(max_section_size) + 20)
+
+/* Reads the prefix of a field section, which begins at |src|: |srclen| bytes, of which the lines may be missing (section
+ * 4.5.1). It changes nothing. Call it to know at once whether the section waits, and for how many insertions.
+ *
+ * Returns the section's Required Insert Count, its Base and the length of the prefix, with a status:
+ *   H3_QPACK_OK                    the section does not wait.
+ *   H3_QPACK_BLOCKED               it waits until h3_qpack_decoder_get_icnt returns |required| or more.
+ *   H3_QPACK_ERR_INVALID           a pointer is NULL, and its length is not 0.
+ *   H3_QPACK_DECOMPRESSION_FAILED  the prefix is invalid, or not whole. Read more of the section, up to 20 bytes, or
+ *                                  close the connection. */
+H3_QPACK_INLINE h3_qpack_prefix h3_qpack_decoder_peek_prefix(h3_qpack_decoder *decoder, const uint8_t *src,
+                                                             size_t srclen);
 
 /* Decodes a field section, |srclen| bytes at |src|, of the stream |stream_id|, below 2^62 (section 2.2). Pass the
  * sections of a stream in order. Get the fields from h3_qpack_decoder_fields or h3_qpack_decoder_field: they are kept
@@ -363,7 +382,7 @@ H3_QPACK_INLINE h3_qpack_received h3_qpack_decoder_read_encoder(h3_qpack_decoder
  *   H3_QPACK_BLOCKED               keep the section. Pass it again when h3_qpack_decoder_next_ready returns its stream
  *                                  (section 2.2.1).
  *   H3_QPACK_ERR_TOO_LARGE         the fields exceed |max_section_size| at the line |number|, or the section is too
- *                                  long to be within it and |number| is 0. Refuse the message (RFC 9114, section
+ *                                  long to be within it and |number| is 0. Reject the message (RFC 9114, section
  *                                  4.2.2), and call h3_qpack_decoder_cancel_stream.
  *   H3_QPACK_ERR_NO_MEMORY         decode the section again later.
  *   H3_QPACK_ERR_INVALID           |stream_id| is 2^62 or more.
@@ -499,6 +518,7 @@ H3_QPACK_CALL size_t h3q_encoder_entries(h3_qpack_encoder *encoder);
 H3_QPACK_CALL h3_qpack_field h3q_encoder_entry(h3_qpack_encoder *encoder, size_t index, uint8_t *out, size_t outlen);
 H3_QPACK_CALL int32_t h3q_decoder_new(size_t max_capacity, size_t max_blocked, uint64_t max_section_size, void **at);
 H3_QPACK_CALL void h3q_decoder_free(h3_qpack_decoder decoder);
+H3_QPACK_CALL h3_qpack_prefix h3q_decoder_prefix(h3_qpack_decoder *decoder, const uint8_t *src, size_t srclen);
 H3_QPACK_CALL h3_qpack_decoded h3q_decoder_decode(h3_qpack_decoder *decoder, uint64_t stream_id, const uint8_t *src,
                                                   size_t srclen);
 H3_QPACK_CALL h3_qpack_field h3q_decoder_field(h3_qpack_decoder *decoder, size_t index, uint8_t *out, size_t outlen);
@@ -655,6 +675,13 @@ H3_QPACK_INLINE h3_qpack_received h3_qpack_decoder_read_encoder(h3_qpack_decoder
   h3_qpack_received invalid = {H3_QPACK_ERR_INVALID, 0, 0, 0};
   if (!H3Q_IS_END(decoder) || !H3Q_IS_MEMORY(src, srclen)) return invalid;
   return h3q_decoder_read(decoder, H3Q_LEND(const uint8_t, src), srclen);
+}
+
+H3_QPACK_INLINE h3_qpack_prefix h3_qpack_decoder_peek_prefix(h3_qpack_decoder *decoder, const uint8_t *src,
+                                                             size_t srclen) {
+  h3_qpack_prefix invalid = {H3_QPACK_ERR_INVALID, 0, 0, 0};
+  if (!H3Q_IS_END(decoder) || !H3Q_IS_MEMORY(src, srclen)) return invalid;
+  return h3q_decoder_prefix(decoder, H3Q_LEND(const uint8_t, src), srclen);
 }
 
 H3_QPACK_INLINE h3_qpack_decoded h3_qpack_decoder_decode(h3_qpack_decoder *decoder, uint64_t stream_id,
