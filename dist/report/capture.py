@@ -15,13 +15,13 @@ class CaptureJudge:
     """Marks what qpk check finds on a connection of a capture, and names its packets."""
 
     def __init__(self, connection: Connection) -> None:
-        self.seen, self.places = connection.seen, Places(connection)
+        self.seen, self.places, self.has_gaps = connection.seen, Places(connection), bool(connection.missing)
 
     def lines(self, printed: Iterable[bytes]) -> Iterator[bytes]:
         """Yields what was seen of the connection, and what qpk check prints, as objects."""
         if self.seen:
             yield to_bytes(self.seen.text(is_json=True))
-        yield from self.places.lines(Marker(self.seen).lines(printed))
+        yield from self.places.lines(Marker(self.seen, self.has_gaps).lines(printed))
 
 
 def recordings_of(source: Source, data: Optional[bytes]) -> Iterator[Recording]:

@@ -6,7 +6,7 @@ import html
 import json
 import zlib
 from pathlib import Path
-from typing import Any, Dict, Iterable, Iterator, List
+from typing import Any, Dict, Iterable, Iterator, List, NamedTuple
 
 from .columns import Columns, Texts
 from .connection import Finder, Reading
@@ -21,6 +21,7 @@ SCRIPTS = (
     "element.js", "connection.js", "words.js", "list.js", "waterfall.js", "requests.js", "timeline.js", "details.js",
     "verdict.js", "overview.js", "report.js",
 )
+OWN_DATA = "begin.js"  # fills a page with its data
 LEVEL = 4  # of the compression: a third of the time of the usual one
 WIDTH = 3 << 18  # bytes that are written at once in base64: three make four characters
 LEGEND = {
@@ -35,7 +36,7 @@ HEAD = """<!doctype html>
 <meta charset="utf-8">
 <meta name="viewport" content="width=device-width, initial-scale=1">
 <meta name="color-scheme" content="light dark">
-<meta http-equiv="content-security-policy" content="default-src 'none'; style-src 'unsafe-inline'; script-src {hashes}">
+<meta http-equiv="content-security-policy" content="default-src 'none'; style-src 'unsafe-inline'; script-src {policy}">
 <title>QPACK of {name}</title>
 <style>
 {style}</style>
@@ -43,9 +44,21 @@ HEAD = """<!doctype html>
 <div id="page"></div>
 <script type="application/octet-stream" id="data">"""
 TAIL = """</script>
-<script>{script}</script>
+{reader}<script>{script}</script>
 </html>
 """
+
+
+class Reader(NamedTuple):
+    """What a page has beside its data that reads files: its script, its look, its parts, and what the policy of the page allows it."""
+
+    script: str = ""
+    style: str = ""
+    parts: str = ""
+    policy: str = ""
+
+
+NO_READER = Reader()
 
 
 class Data:
@@ -86,7 +99,8 @@ def as_json(data: Any) -> str:
 class PageMaker:
     """Makes a page of recordings, one after another."""
 
-    def __init__(self) -> None:
+    def __init__(self, reader: Reader = NO_READER) -> None:
+        self.reader = reader
         self.texts, self.data = Texts(), Data()
         self.names: List[str] = []
         self.is_refused = False  # something in one of them
@@ -115,12 +129,14 @@ class PageMaker:
 
     def parts(self) -> Iterator[str]:
         """Yields the page, once all were added."""
-        script = "\n" + read_all(SCRIPTS)
+        script = "\n" + read_all([*SCRIPTS, *([OWN_DATA] if self.names else [])]) + self.reader.script
         hashed = base64.b64encode(hashlib.sha256(script.encode()).digest()).decode()
-        name = html.escape(", ".join(self.names))
-        yield HEAD.format(name=name, style=read_all(STYLES), hashes=f"'sha256-{hashed}'")
-        yield from self.data.finish(self.texts)
-        yield TAIL.format(script=script)
+        name = html.escape(", ".join(self.names) or "a file")
+        styles = read_all(STYLES) + self.reader.style
+        yield HEAD.format(name=name, style=styles, policy=f"'sha256-{hashed}'{self.reader.policy}")
+        if self.names:
+            yield from self.data.finish(self.texts)
+        yield TAIL.format(script=script, reader=self.reader.parts)
 
 
 def read_all(names: Iterable[str]) -> str:

@@ -3,11 +3,16 @@
 const page = document.getElementById('page');
 const TABS = {requests: 'Requests', timeline: 'Timeline'};
 
-async function readData() {
+// Returns the bytes that a text of base64 has, compressed.
+async function inflated(text) {
   if (typeof DecompressionStream === 'undefined') throw Error('This page needs a browser of 2023 or later.');
-  const signs = atob(document.getElementById('data').textContent), packed = new Uint8Array(signs.length);
+  const signs = atob(text), packed = new Uint8Array(signs.length);
   for (let i = 0; i < signs.length; i++) packed[i] = signs.charCodeAt(i);
-  const data = await new Response(new Blob([packed]).stream().pipeThrough(new DecompressionStream('deflate'))).json();
+  return new Response(new Blob([packed]).stream().pipeThrough(new DecompressionStream('deflate'))).arrayBuffer();
+}
+
+async function readData() {
+  const data = JSON.parse(new TextDecoder().decode(await inflated(document.getElementById('data').textContent)));
   return {...data, kinds: kindsOfFields(data.fields)};
 }
 
@@ -164,7 +169,11 @@ function follow() {
   return true;
 }
 
-function begin() {
+// Shows data in the place of what the page has.
+function fill(found) {
+  data = found;
+  report = undefined;
+  page.replaceChildren();
   const ranked = worstFirst(data.connections);
   if (!ranked.length) {
     page.append(element('p', 'summary', 'There is no connection.'));
@@ -182,21 +191,16 @@ function begin() {
     else report.showEvent(report.connection.events.length - 1);
     history.replaceState(null, '', location.pathname + location.search);
   }
+  document.body.dataset.ready = 'yes';
 }
 
 let data, report, isOwn = '';
 const content = element('div', 'content');
 
-addEventListener('hashchange', () => { if (location.hash !== isOwn) follow(); });
+addEventListener('hashchange', () => { if (report && location.hash !== isOwn) follow(); });
 addEventListener('keydown', event => {
-  if (event.key !== '/' || /^(INPUT|SELECT|TEXTAREA)$/.test(event.target.tagName) && event.target.type !== 'range') return;
+  if (!report || event.key !== '/' || /^(INPUT|SELECT|TEXTAREA)$/.test(event.target.tagName) && event.target.type !== 'range') return;
   event.preventDefault();
   report.choose('requests');
   report.requests.filter.focus();
 });
-readData().then(found => {
-  data = found;
-  begin();
-  document.body.dataset.ready = 'yes';
-  performance.mark('ready');
-}).catch(error => page.append(element('p', 'wrong', String(error))));

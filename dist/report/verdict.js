@@ -23,12 +23,15 @@ function worstFirst(connections) {
     .sort((one, other) => STATES[one.state].rank - STATES[other.state].rank || one.number - other.number);
 }
 
-// The line at the top: what is wrong on all connections together.
+// The line at the top: what is wrong on all connections together, and of several on which one, with its first fault.
 function summary(ranked) {
   const {state, connection} = ranked[0], all = ranked.length;
   if (all === 1) return element('p', 'summary ' + state, sign(state), verdictText(connection) + ' on this connection.');
-  const worse = ranked.filter(it => it.state !== 'right').length;
-  const text = worse ? `Findings on ${worse} of ${all} connections.` : `Nothing is wrong on ${all} connections.`;
+  const worse = ranked.filter(it => it.state !== 'right').length, {certain, explained} = connection.verdict;
+  const worst = connection.faults.find(it => !it.perhaps) ?? connection.faults[0], rest = certain + explained - 1;
+  const more = rest ? `, and ${counted(rest, 'more finding')}` : '';
+  const text = worst ? `${worst.perhaps ? 'Perhaps on' : 'On'} ${connection.name}: ${worst.fault}${more}. Findings on ${worse} of ${all} connections.`
+    : `Nothing is wrong on ${all} connections.`;
   return element('p', 'summary ' + state, sign(state), text);
 }
 

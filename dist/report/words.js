@@ -46,9 +46,10 @@ function placeOf(connection, event) {
   return [`line ${connection.line(event)}`, packet === null ? '' : `packet ${packet}`, time, end].filter(it => it).join(', ');
 }
 
-function textOfFault({fault, rfc9204, code, code_name: name, cause, perhaps}) {
+function textOfFault({fault, rfc9204, rfc9114, code, code_name: name, cause, perhaps}) {
   const ends = code === undefined ? '' : `; 0x0${code.toString(16)} ${name}`;
-  return `${perhaps ? 'perhaps: ' : ''}${fault} [RFC 9204, section ${rfc9204}${ends}]; likely cause: ${cause}`;
+  const rule = rfc9204 === undefined ? `RFC 9114, section ${rfc9114}` : `RFC 9204, section ${rfc9204}`;
+  return `${perhaps ? 'perhaps: ' : ''}${fault} [${rule}${ends}]; likely cause: ${cause}`;
 }
 
 function counted(number, one, more = one + 's') { return `${number.toLocaleString('en')} ${number === 1 ? one : more}`; }

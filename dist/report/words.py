@@ -1,4 +1,4 @@
-"""The words of qpk report, stats and table, and what each does."""
+"""The words of qpk report, open, stats and table, and what each does."""
 
 import argparse
 import gc
@@ -11,9 +11,11 @@ from qpk_main import complain, run
 
 from .again import Lists, load_library, try_capacities
 from .connection import Connection, Event, Reading
+from .opened import open_page, write_page
 from .page import PageMaker
 from .recording import Recording, Source, read_recordings
 from .stats import Count, as_object, print_numbers
+from .tab import make_reader
 from .table import choose, find_entries, life_as_object, life_as_text, tables_as_objects, tables_as_text
 
 REFUSED_PART = 2  # the status where the answer is there, and something in the recording is refused
@@ -30,6 +32,9 @@ OPTIONS = """\
 USAGE = {
     "report": "usage: qpk report FILE [-o PAGE] [--max-capacity N] [--max-blocked N] [--qif]\n"
     "       qpk report CAPTURE --keys KEYLOG [-o PAGE] [--connection N]",
+    "open": "usage: qpk open [-o PAGE]\n"
+    "       qpk open [-o PAGE] [--max-capacity N] [--max-blocked N] [--qif] FILE\n"
+    "       qpk open [-o PAGE] [--connection N] CAPTURE KEYLOG",
     "stats": "usage: qpk stats [--json] [--try CAPACITY,..] [--max-capacity N] [--max-blocked N] [--qif] FILE\n"
     "       qpk stats CAPTURE --keys KEYLOG [--json] [--try CAPACITY,..] [--connection N]",
     "table": "usage: qpk table --at LINE|end [--from END] [--json] [--max-capacity N] [--max-blocked N] [--qif] FILE\n"
@@ -49,10 +54,21 @@ sections and each instruction with their bytes and meaning, both tables at any m
 -o PAGE            the file that is written; else standard output
 {OPTIONS}
 Status 2 says that something in the recording was refused; the page marks it.""",
+    "open": f"""\
+
+Opens a page in your browser, on which files can be dropped: recordings, captures, Chrome's net logs, traces, and key logs. The
+page reads them itself, and can send nothing. It says what reads them. FILE is on it from the start.
+  qpk open capture.pcapng keys.log
+
+{FILE}
+
+-o PAGE            the file that is written, and not opened; a minus is standard output
+{OPTIONS}
+Status 2 says that something in the recording was refused; the page marks it.""",
     "stats": f"""\
 
 Counts what QPACK did in each direction of a recorded connection: bytes, fields by how they came, insertions and blocked
-sections. docs/QPK.md says how each is counted.
+sections. The manual page says how each is counted.
   printf 'e 3fe11f6294e7838c767f\\nb 4 028010\\n' | qpk stats -
 
 {FILE}
@@ -119,13 +135,15 @@ def parser_of(command: str) -> Parser:
     parser = Parser(prog=command, usage=USAGE[command], add_help=False, allow_abbrev=False)
     parser.add_argument("-h", "--help", nargs=0, action=PrintHelp)
     parser.add_argument("file", nargs="?", metavar="FILE")
+    if command == "open":
+        parser.add_argument("keylog", nargs="?", metavar="KEYLOG")
     parser.add_argument("--keys", metavar="KEYLOG")
     parser.add_argument("--by", choices=("libcrypto", "tshark"))
     parser.add_argument("--pdml", metavar="FILE")
     for option in ("--connection", "--max-capacity", "--max-blocked"):
         parser.add_argument(option, type=number, metavar="N")
     parser.add_argument("--qif", action="store_true")
-    if command == "report":
+    if command in ("report", "open"):
         parser.add_argument("-o", "--output", metavar="PAGE")
     else:
         parser.add_argument("--json", action="store_true")
@@ -182,11 +200,19 @@ def run_report(words: argparse.Namespace, recordings: List[Recording]) -> bool:
     page = PageMaker()
     while recordings:
         page.add(recordings.pop(0))
-    if words.output in (None, "-"):
-        sys.stdout.buffer.writelines(it.encode() for it in page.parts())
+    write_page(page, words.output)
+    return page.is_refused
+
+
+def run_open(words: argparse.Namespace, recordings: List[Recording]) -> bool:
+    """Writes the page on which files can be dropped, and opens it unless its place is named. Returns whether something is refused."""
+    page = PageMaker(make_reader())
+    while recordings:
+        page.add(recordings.pop(0))
+    if words.output is None:
+        open_page(page)
     else:
-        with open(words.output, "wb") as file:
-            file.writelines(it.encode() for it in page.parts())
+        write_page(page, words.output)
     return page.is_refused
 
 
@@ -246,6 +272,7 @@ def run_table(words: argparse.Namespace, recordings: List[Recording]) -> bool:
 
 COMMANDS: Dict[str, Callable[[argparse.Namespace, List[Recording]], bool]] = {
     "report": run_report,
+    "open": run_open,
     "stats": run_stats,
     "table": run_table,
 }
@@ -269,7 +296,11 @@ def find_fault(words: argparse.Namespace, rest: List[str]) -> Optional[str]:
     """Returns what is wrong with words that were read, and with the rest, or nothing."""
     if rest:
         return f'"{rest[0]}" is ' + ("not an option here" if rest[0].startswith("-") else "one word too many")
-    if words.file is None and words.pdml is None:
+    if words.command == "open" and words.keylog is not None:
+        if words.keys is not None:
+            return "name the key log once"
+        words.keys = words.keylog
+    if words.command != "open" and words.file is None and words.pdml is None:
         return "FILE is missing"
     if words.file is not None and words.pdml is not None:
         return "name FILE or --pdml, and not both"
@@ -284,7 +315,7 @@ def answer(words: argparse.Namespace) -> int:
     source = Source(
         words.file, words.keys, words.pdml, words.connection, words.max_capacity, words.max_blocked, words.qif, words.by
     )
-    recordings = read_recordings(source)
+    recordings = [] if words.file is None and words.pdml is None else read_recordings(source)
     return REFUSED_PART if COMMANDS[words.command](words, recordings) else 0
 
 
