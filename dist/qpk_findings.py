@@ -9,21 +9,22 @@ import json
 import re
 from typing import Any, Dict, Iterable, Iterator, List, NamedTuple, Optional, Tuple
 
-from qpk_lines import MARKS, PEER
-from qpk_seen import Seen
+from qpk_lines import ENDS, MARKS, PEER
+from qpk_seen import Seen, SeenOfEnd
 from qpk_streams import Connection, to_bytes, to_text
 
 FOUND, PERHAPS = 1, 4  # statuses of check
 WORD_FOUND, WORD_PERHAPS = "found", "perhaps"  # of a finding that is certain, and of one that may be none
 # A finding as qpk check prints it, perhaps marked: its line, whose it is, what it is about, a stream, what is wrong, and the
-# section of RFC 9204. What is added of a packet goes between PLACE and REST.
+# section of its standard. What is added of a packet goes between PLACE and REST.
 PRINTED = re.compile(
     rf"(?P<place>(?P<perhaps>{WORD_PERHAPS}: )?line (?P<line>\d+))"
     r"(?P<rest>: (?:\S+ (?=[<>] ))?(?:(?P<mark>[<>]) )?(?P<subject>encoder|decoder|section|record)\b"
-    r"(?: of stream (?P<stream>\d+))?[^:]*: (?P<fault>.*) \[RFC 9204, section (?P<section>[\d.]+).*)"
+    r"(?: of stream (?P<stream>\d+))?[^:]*: (?P<fault>.*) \[RFC (?P<standard>9204|9114), section (?P<section>[\d.]+).*)"
 )
 NAMED_STREAM = re.compile(r"\bstream (\d+)\b")
 SUBJECTS = ("encoder", "decoder", "section", "record")
+QPACK, HTTP = "9204", "9114"  # the RFCs that findings cite
 CUT, WAITS = "4.2", "to the end"  # the section of what the end of a recording cuts, and how a fault of what waits ends
 CUT_AT_THE_END = "cut at the end"
 BEFORE_LINES = ("4.5.1", "4.5.1.1", "4.5.1.2")  # sections of faults before the field lines
@@ -34,6 +35,10 @@ COUNT_OF_0 = "the encoder writes a required insert count of 0"
 OF_SECTIONS = ("2.1.2", "2.2.3", "4.5.1.1", "4.5.1.2")  # if an insertion is not in the file, about a section
 OF_SETTINGS = ("2.1.2", "2.2.3", "4.3.1", "4.5.1.1", "4.5.1.2")  # with other limits
 OF_DECODERS = ("4.4.1", "4.4.3")  # if a section or an insertion of the peer is not in the file
+OF_ACKNOWLEDGMENTS = ("2.1.1", "2.2.2.1")  # if an acknowledgment is not in the file
+AT_RISK = "streams that could be blocked"  # the first words of a fault that is none with one too
+WRONG_ENTRY = "an index hits another entry"  # the first words of a cause
+OF_CONNECTIONS = "0x02"  # how the codes of errors begin that end the connection
 
 
 # ---- Findings
@@ -50,12 +55,13 @@ class Finding(NamedTuple):
     offset: int  # on the stream of instructions, or in the section
     instruction: int  # its number on that stream, from 1
     fault: str
-    section: str  # of RFC 9204
+    section: str  # of its standard
     code: str  # with its name; empty where no code ends the connection
     cause: str
     is_perhaps: bool = False
     packet: int = 0
     filter: str = ""
+    standard: str = QPACK  # the number of the RFC
 
     @property
     def table(self) -> str:
@@ -65,7 +71,15 @@ class Finding(NamedTuple):
     @property
     def is_of_the_end(self) -> bool:
         """Whether the end of the recording makes it."""
-        return self.section == CUT or self.fault.endswith(WAITS)
+        return self.rfc() == (QPACK, CUT) or self.fault.endswith(WAITS)
+
+    def rfc(self) -> Tuple[str, str]:
+        """Returns the standard that says what is wrong, and its section."""
+        return self.standard, self.section
+
+    def rests_on_acknowledgments(self) -> bool:
+        """Whether it may be none with an acknowledgment that was not read."""
+        return self.section in OF_ACKNOWLEDGMENTS or self.fault.startswith(AT_RISK)
 
     def waits_for(self) -> Optional[int]:
         """Returns the insertion that a section waits for to the end, if it does."""
@@ -74,6 +88,8 @@ class Finding(NamedTuple):
 
     def rests_on_table(self) -> bool:
         """Whether a fault of a section may be none with insertions that were not read."""
+        if self.standard == HTTP:
+            return self.cause.startswith(WRONG_ENTRY)
         if self.section == "2.2.3":
             return NO_ENTRY in self.fault and not self.cause.startswith(COUNT_OF_0)
         return self.section == "4.5.1.2" or self.section == "4.5.1.1" and self.fault.startswith(NO_COUNT)
@@ -86,10 +102,12 @@ def read_finding(it: Dict[str, Any]) -> Optional[Finding]:
     subject = next((name for name in SUBJECTS if name in it), "record")
     code = f"{it['code']:#06x} {it['code_name']}" if "code" in it else ""
     at = int(it.get(subject, 0))
+    standard = HTTP if f"rfc{HTTP}" in it else QPACK
     return Finding(
         *(int(it["line"]), str(it.get("time", "")), MARKS.get(it.get("from", ""), ""), subject, at),
-        *(int(it.get("offset", at)), int(it.get("instruction_number", 0)), it["fault"], it["rfc9204"], code, it["cause"]),
-        *(bool(it.get(WORD_PERHAPS)), int(it.get("packet", 0)), it.get("filter", "")),
+        *(int(it.get("offset", at)), int(it.get("instruction_number", 0)), it["fault"]),
+        *(it[f"rfc{standard}"], code, it["cause"]),
+        *(bool(it.get(WORD_PERHAPS)), int(it.get("packet", 0)), it.get("filter", ""), standard),
     )
 
 
@@ -107,7 +125,7 @@ def read_printed(line: bytes) -> Optional[Finding]:
         return None
     return Finding(
         *(int(it["line"]), "", it["mark"] or "", it["subject"], int(it["stream"] or 0), 0, 0, it["fault"], it["section"]),
-        *("", "", bool(it["perhaps"])),
+        *("", "", bool(it["perhaps"]), 0, "", it["standard"]),
     )
 
 
@@ -124,6 +142,12 @@ def explains(seen: Seen, it: Finding) -> bool:
     own, peer = seen.ends.get(it.mark), seen.ends.get(PEER[it.mark])
     if own is None or peer is None:
         return seen.lacks()
+    if it.rests_on_acknowledgments():
+        is_lacking = own.lacks() or peer.lacks() or seen.is_late
+        has_limit = peer.has_settings or not it.fault.startswith(AT_RISK)
+        return is_lacking or not has_limit or it.line > (peer if it.subject == "decoder" else own).heard_to
+    if it.standard == HTTP:
+        return own.lacks() or seen.is_late or it.line > own.acknowledged_to
     if it.subject == "section":
         is_lacking = own.lacks() or seen.is_late or it.line > own.acknowledged_to
         return it.section in OF_SECTIONS and is_lacking or it.section in OF_SETTINGS and not peer.has_settings
@@ -133,11 +157,15 @@ def explains(seen: Seen, it: Finding) -> bool:
     return it.section in OF_DECODERS and "increment of 0" not in it.fault and is_lacking
 
 
+# What was seen of a connection whose packets are not known, as of a trace, where something is missing.
+WITH_GAPS = Seen({mark: SeenOfEnd(gaps=1, has_settings=False) for mark in ENDS})
+
+
 class Marker:
     """Marks the findings of a connection that what is missing may explain, and counts both kinds."""
 
-    def __init__(self, seen: Optional[Seen]) -> None:
-        self.seen = seen  # nothing of a recording, in which nothing is missing
+    def __init__(self, seen: Optional[Seen], has_gaps: bool = False) -> None:
+        self.seen = seen or (WITH_GAPS if has_gaps else None)  # nothing of a recording, in which nothing is missing
         self.certain = self.explained = 0
 
     def lines(self, printed: Iterable[bytes]) -> Iterator[bytes]:
@@ -223,6 +251,7 @@ class Causes:
     - An error of QPACK ends the connection. So what waits or is cut at the end follows from one about the same table.
     - After an instruction of an encoder that is refused the table is not known. So a fault that rests on it follows.
     - Nobody acknowledges a section whose prefix is refused. So an acknowledgment of its stream follows.
+    - Where an index hits another entry, later ones do so too. So a list follows from one before it.
 
     From a finding that may be none, only one that waits too follows.
     """
@@ -233,6 +262,7 @@ class Causes:
         self.errors: Dict[str, int] = {}  # and the first error
         self.waiting: Dict[str, int] = {}  # and the section that waits for the earliest insertion
         self.refused: Dict[Tuple[str, int], int] = {}  # and the section of a stream whose prefix is refused
+        self.misread: Dict[str, int] = {}  # and the first list that may have other entries
         for number, it in enumerate(findings):
             self.note(number, it)
 
@@ -243,6 +273,10 @@ class Causes:
         if wanted is not None and (before is None or wanted < (self.findings[before].waits_for() or 0)):
             self.waiting[it.table] = number
         if it.is_perhaps or not it.code:
+            return
+        if not it.code.startswith(OF_CONNECTIONS):
+            if it.rests_on_table():
+                self.misread.setdefault(it.table, number)
             return
         first = self.errors.setdefault(it.table, number)
         if it.line < self.findings[first].line:
@@ -258,6 +292,8 @@ class Causes:
         cause: Optional[int] = None
         if it.is_of_the_end:
             cause = self.errors.get(it.table, self.waiting.get(it.table) if it.waits_for() is not None else None)
+        elif it.standard == HTTP:
+            cause = self.misread.get(it.table) if it.rests_on_table() else None
         elif it.subject == "section" and it.rests_on_table():
             cause = self.ended.get(it.table)
         elif it.subject == "decoder" and it.section == "4.4.1":

@@ -1,6 +1,6 @@
 """What a capture is, and the lines of a recording that have bytes. qpk-capture and qpk-report read it.
 
-Which lines there may be (docs/QPK.md, Lines of a recording) is checked by qpk, before they are read here.
+Which lines there may be (qpk.1, RECORDING) is checked by qpk, before they are read here.
 """
 
 import re

@@ -87,7 +87,7 @@ def lines_of(number: int, it: Finding, around: Bytes) -> Iterator[str]:
     yield from textwrap.wrap(f"{number}. {printable(place_of(it))}", WIDTH, subsequent_indent="  ")
     yield from labelled(WORD_PERHAPS if it.is_perhaps else WORD_FOUND, it.fault)
     yield from lines_of_bytes(it, around)
-    yield from labelled("rule", f"RFC 9204, section {it.section}{f': {it.code}' if it.code else ''}")
+    yield from labelled("rule", f"RFC {it.standard}, section {it.section}{f': {it.code}' if it.code else ''}")
     yield from labelled("cause", it.cause)
     if it.filter:
         yield from labelled("filter", it.filter)

@@ -2,7 +2,7 @@
 _qpk() {
     local words='' source='--keys --connection --by --pdml --max-capacity --max-blocked --qif'
     if [ "$COMP_CWORD" = 1 ]; then
-        words='encode decode show check explain report stats table tune strip inspect run help --version'
+        words='encode decode show check explain report open stats table tune strip inspect run help --version'
     else
         case ${COMP_WORDS[COMP_CWORD - 1]} in
         --keys) COMPREPLY=() && return ;;
@@ -26,7 +26,7 @@ _qpk() {
             words='--encoder-stream --decoder-stream --max-capacity --keys --connection --by'
             words+=' --color=always --color=auto --color=never'
             ;;
-        report) words="-o $source" ;;
+        report | open) words="-o $source" ;;
         stats) words="--json --try $source" ;;
         tune) words=$source ;;
         strip) words="--seed ${source/ --pdml/}" words=${words/ --qif/} ;;
