@@ -73,13 +73,15 @@ assemble() {
     esac
 }
 
-# Prints small functions in C: one, and what a module for WebAssembly is linked by, the program's main or the library's own
-# exports. The word is the crate.
+# Prints small functions in C: one, and what a module for WebAssembly is linked by, the program's main, which names an
+# instruction of aarch64, or the library's own exports. The word is the crate.
 write_functions() {
     printf '%s\n' 'void *realloc(void *, unsigned long);' 'char *f(char *p, long n) {' 'if (n == 77) n = 1234;' \
         'p = realloc(p, n);' 'return p ? p + n : 0;' '}'
     if [ "$1" = qpk_program ]; then
-        echo 'int main(void) { return f(0, 1) == 0; }'
+        printf '%s\n' 'typedef char bytes __attribute__((vector_size(16)));' \
+            'bytes addp(bytes, bytes) __asm__("llvm.aarch64.neon.addp.v16i8");' \
+            'int main(void) { char *p = f(0, 1); bytes sums = addp(p[0] - (bytes){}, p[1] - (bytes){}); return sums[0] + sums[8]; }'
     else
         "$kit/toolchain/bin/clang" -E -P -DH3_QPACK_NO_INLINE -isystem "$top/dist/wasm64" "$top/include/h3_qpack.h" |
             tr '\n' ' ' | sed -E 's/h3q_(encode_copy|are_fields)/H3Q_\1/g
@@ -223,7 +225,8 @@ try "another constant in each file of assembly" refuse_constants $texts &&
     try "another byte in each file for WebAssembly" refuse_wasm &&
     try "a blank in each other file" refuse_blanks $heaps $copies &&
     try "another body in heap.c" refuse dist/heap.c 's/malloc(len ? len : align)/malloc(len)/' $heaps &&
-    try "another heap for WebAssembly" refuse dist/heap_wasm64.c 's/HEAD + 16/HEAD + 32/' wasm64.wasm &&
+    try "another heap for WebAssembly" refuse dist/heap_wasm64.c 's/HEAD + 16/HEAD + 32/' wasm64.wasm qpk-wasm64.wasm &&
+    try "another instruction for WebAssembly" refuse dist/neon_wasm64.c 's/2 \* i + 1/2 * i/' qpk-wasm64.wasm &&
     try "os.c that is not there, and heap.c without a sum" refuse_lost os.c heap.c &&
     try "objects that are not there, or older" skip_objects &&
     try "no kit, and another kit" skip_made &&
