@@ -3,8 +3,8 @@
 # generated from the sources as they are, and the package of it, from an empty folder. It needs cargo and rustc, 1.63 or
 # later, make and a C linker (Debian: cargo, rustc, make and gcc), and installs by apt-get what is not there, which only
 # root can; where they can't be had nothing is tested, and that is a failure. No other crate is wanted, and no network.
-# valgrind and clippy are used where they are there, and quic/run.sh is run where it can be. Ends in a line of what passed,
-# with a status that is not 0 if something failed.
+# valgrind and clippy are used where they are there, and quic/run.sh and the tests of bytes/ run where they can. Ends in a
+# line of what passed, with a status that is not 0 if something failed.
 set -euo pipefail
 cd "$(dirname "$0")"
 script=rust/check.sh
@@ -36,19 +36,20 @@ check_memory() {
     [ "$programs" -gt 0 ] || { echo "rust/check.sh: cargo named no program" >&2; exit 1; }
 }
 
-# Runs the tests of the crate in this folder, and adds those that passed to $tests. There must be some.
+# Runs the tests of the crate in this folder, with more words for cargo, and adds those that passed to $tests. There must be
+# some.
 run_tests() {
     local kind before=$tests
     for kind in --all-targets --doc; do
-        run cargo test --offline "$kind"
+        run cargo test --offline "$kind" "$@"
         tests=$((tests + $(awk '/^test result: ok/ { sum += $4 } END { print sum + 0 }' "$room/told")))
     done
     [ "$tests" -gt "$before" ] || { echo "rust/check.sh: cargo ran no test" >&2; exit 1; }
 }
 
-# Has clippy look at the crate, if it is there.
+# Has clippy look at the crate, if it is there, with more words for cargo.
 lint() {
-    ! cargo clippy --version >/dev/null 2>&1 || run cargo clippy --offline --all-targets -- -D warnings
+    ! cargo clippy --version >/dev/null 2>&1 || run cargo clippy --offline "$@" -- -D warnings
 }
 
 # Whether H3_QPACK_LIB has its archive linked, and not the assembly: over an empty archive nothing can be linked.
@@ -57,6 +58,12 @@ check_choice() {
     ar rc "$room/empty/libh3_qpack.a"
     ! H3_QPACK_LIB=$room/empty cargo build --offline --example stateless >"$room/linked" 2>&1 &&
         grep 'undefined .*h3q_' "$room/linked"
+}
+
+# Where there is no assembly for the target, the build ends with a line that says what to do.
+check_target() {
+    ! H3_QPACK_PREFIX='' rustc --edition 2021 --crate-type lib --emit metadata --cfg 'feature="std"' -o "$room/none.rmeta" \
+        src/lib.rs >"$room/none" 2>&1 && grep 'h3_qpack has no assembly for this target. Depend on it' "$room/none"
 }
 
 # The package has the licence.
@@ -74,13 +81,39 @@ check_linked() {
     run "$room/linked"
 }
 
+# The crate without the standard library: it builds, and a program that has none runs over it, whose memory is all of its
+# own allocator. rustc before 1.68 can't build such a program.
+check_no_std() {
+    run cargo build --offline --no-default-features
+    lint --no-default-features
+    [ "$(rustc --version | cut -d . -f 2)" -ge 68 ] || { lacking=", no program without std"; return 0; }
+    (cd ../no_std && run cargo build --offline --release)
+    run "$CARGO_TARGET_DIR/release/no_std"
+    run is_without_malloc "$CARGO_TARGET_DIR/release/no_std"
+}
+
+# Whether a program of this crate's has no call of the C library's functions for memory.
+is_without_malloc() {
+    nm "$1" >"$room/names" && grep -q ' h3_qpack_rs_rattle_alloc$' "$room/names" &&
+        ! grep -wE 'malloc|realloc|free' "$room/names"
+}
+
+# The crate for the types of the crate bytes, where Debian's is there.
+check_bytes() {
+    ls -d /usr/share/cargo/registry/bytes-1.* >/dev/null 2>&1 || return 0
+    (cd ../bytes && run cargo test --offline)
+    with="$with, the crate bytes"
+}
+
 # Tests the crate over the assembly that it includes, with the linker's optimizations too, which put all assembly in one
 # file; and its package, from a folder that has nothing else.
 test_assembly() {
     unset H3_QPACK_LIB
     run_tests
-    lint
+    run_tests --features global-allocator
+    lint --all-targets --features global-allocator
     check_linked
+    check_no_std
     run env CARGO_PROFILE_RELEASE_LTO=fat cargo run --offline -q --release --example connection
     (cd "$room"/h3_qpack-* && CARGO_TARGET_DIR=$room/packaged run cargo test --offline --tests)
 }
@@ -96,9 +129,10 @@ export H3_QPACK_LIB=$room/c
 export CARGO_TARGET_DIR=$room/target
 cd h3_qpack
 run check_choice
+run check_target
 run check_package
 run_tests
-lint
+lint --all-targets
 examples=0
 for example in examples/*.rs; do
     name=$(basename "$example" .rs)
@@ -112,6 +146,7 @@ if command -v valgrind >/dev/null; then
     check_memory
     with=", $programs programs of tests beneath valgrind"
 fi
+check_bytes
 if ../quic/run.sh --can; then
     run ../quic/run.sh
     with="$with, HTTP/3 over quinn"
@@ -119,8 +154,9 @@ fi
 passed="$tests tests and $examples examples passed over $library$with"
 if (cd .. && fits_dist); then
     tests=0
+    lacking=
     test_assembly
-    passed="$passed; $tests tests over the assembly"
+    passed="$passed; $tests tests over the assembly$lacking"
 else
     passed="$passed; the assembly was generated from other sources, and is not tested"
 fi

@@ -25,7 +25,7 @@ fn main() {
         None => {
             if let Some(text) = choose_text() {
                 write_prefixed(&format!("{text}.s"), "library.s");
-                write_prefixed(&format!("heap-{text}.s"), "heap.s");
+                write_heap(text);
                 println!("cargo:rustc-cfg=h3_qpack_assembly");
             }
             PREFIX
@@ -60,6 +60,23 @@ fn choose_text() -> Option<&'static str> {
         ("aarch64", "macos") => Some("aarch64-macho"),
         ("riscv64", "linux") => Some("riscv64-elf"),
         _ => None,
+    }
+}
+
+/// Whether the library takes its memory from the program's global allocator, by src/heap.rs: without the standard library,
+/// and where the feature asks for it. On Windows it takes it from the C library, which is always there.
+fn asks_global_allocator() -> bool {
+    let has = |feature: &str| env::var_os(format!("CARGO_FEATURE_{feature}")).is_some();
+    target("OS") != "windows" && (!has("STD") || has("GLOBAL_ALLOCATOR"))
+}
+
+/// Writes the functions for memory as assembly. The file is empty if src/heap.rs has them.
+fn write_heap(text: &str) {
+    if asks_global_allocator() {
+        std::fs::write(out_folder().join("heap.s"), "").expect("OUT_DIR can be written");
+        println!("cargo:rustc-cfg=h3_qpack_heap");
+    } else {
+        write_prefixed(&format!("heap-{text}.s"), "heap.s");
     }
 }
 

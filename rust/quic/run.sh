@@ -1,7 +1,8 @@
 #!/usr/bin/env bash
-# HTTP/3 GETs over QUIC on the loopback: builds the program and runs it with a certificate of its own. It needs cargo,
-# openssl, and quinn and tokio as Debian 12 has them (librust-quinn-dev, librust-tokio-dev). Ends with status 0 if the GETs
-# were answered; with --can it only tells by its status whether what it needs is there.
+# HTTP/3 GETs over QUIC on the loopback: builds both programs, one of tasks and one that is polled, and runs them with a
+# certificate of their own. It needs cargo, openssl, and quinn and tokio as Debian 12 has them (librust-quinn-dev,
+# librust-tokio-dev). Ends with status 0 if the GETs were answered; with --can it only tells by its status whether what it
+# needs is there.
 set -euo pipefail
 cd "$(dirname "$0")"
 
@@ -31,4 +32,6 @@ openssl req -config "$room/openssl.cnf" -x509 -newkey ec -pkeyopt ec_paramgen_cu
     -subj /CN=localhost -keyout "$room/key.pem" -outform DER -out "$room/certificate.der" 2>"$room/told" ||
     { cat "$room/told" >&2; exit 1; }
 openssl pkcs8 -topk8 -nocrypt -in "$room/key.pem" -outform DER -out "$room/key.der"
-cargo run -q --offline -- "$room/certificate.der" "$room/key.der"
+for program in h3_qpack_quic polled; do
+    cargo run -q --offline --bin "$program" -- "$room/certificate.der" "$room/key.der"
+done

@@ -60,9 +60,9 @@ struct Connection {
 
 impl Connection {
     fn new(capacity: usize) -> Outcome<Connection> {
-        let settings = DecoderSettings { max_capacity: capacity, max_blocked: 100, max_section_size: 1 << 20 };
+        let settings = DecoderSettings::new(capacity, 100).with_max_section_size(1 << 20);
         Ok(Connection {
-            encoder: ConnectionEncoder::new(EncoderSettings { capacity, ..EncoderSettings::new(capacity, 100) })?,
+            encoder: ConnectionEncoder::new(EncoderSettings::new(capacity, 100).with_capacity(capacity))?,
             decoder: ConnectionDecoder::new(settings)?,
             section: Vec::new(),
             stream: Vec::new(),

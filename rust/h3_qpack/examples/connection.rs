@@ -6,7 +6,7 @@ use h3_qpack::connection::{
 use std::error::Error;
 
 /// What the decoding side sends as its settings.
-const SETTINGS: DecoderSettings = DecoderSettings { max_capacity: 4096, max_blocked: 16, max_section_size: 65_536 };
+const SETTINGS: DecoderSettings = DecoderSettings::new(4096, 16);
 
 fn main() -> Result<(), Box<dyn Error>> {
     let mut encoder = ConnectionEncoder::new(EncoderSettings::new(SETTINGS.max_capacity, SETTINGS.max_blocked))?;

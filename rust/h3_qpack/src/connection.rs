@@ -10,8 +10,7 @@
 //!     ConnectionDecoder, ConnectionEncoder, DecoderSettings, EncoderSettings, FieldLine, Reading,
 //! };
 //!
-//! let settings = DecoderSettings { max_capacity: 4096, max_blocked: 16, max_section_size: 65_536 };
-//! let mut decoder = ConnectionDecoder::new(settings)?;
+//! let mut decoder = ConnectionDecoder::new(DecoderSettings::new(4096, 16))?;
 //! let mut encoder = ConnectionEncoder::new(EncoderSettings::new(4096, 16))?;
 //!
 //! // The section comes first, so its stream is blocked until the instructions are there.
@@ -38,7 +37,7 @@ mod error;
 
 pub use crate::copied::Fields;
 pub use crate::field::{FieldLine, Wish, WishedField};
-pub use decoder::{longest_section, ConnectionDecoder, DecoderSettings, Reading};
+pub use decoder::{longest_section, ConnectionDecoder, DecoderSettings, Reading, SectionPrefix};
 pub use encoder::{ConnectionEncoder, EncoderSettings};
 pub use entries::Entries;
 pub use error::{
@@ -49,6 +48,7 @@ pub use error::{
 pub(crate) use error::DECOMPRESSION_FAILED;
 
 use crate::room::make_room;
+use alloc::vec::Vec;
 
 /// Adds all bytes that a stream has to `out`, in room that is made first.
 fn take_all(out: &mut Vec<u8>, many: usize, take: impl FnOnce(&mut [u8]) -> usize) -> Result<usize, NoMemory> {

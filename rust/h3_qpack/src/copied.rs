@@ -4,8 +4,9 @@ use crate::connection::NoMemory;
 use crate::field::FieldLine;
 use crate::room::make_room;
 use crate::sys::Given;
-use std::fmt;
-use std::iter::FusedIterator;
+use alloc::vec::Vec;
+use core::fmt;
+use core::iter::FusedIterator;
 
 /// The lengths and flags of each field, and their names and values one after the other.
 #[derive(Default)]
@@ -36,7 +37,7 @@ impl Copied {
 /// The fields of a section, in order. They are valid until the next call of the decoder.
 #[derive(Clone)]
 pub struct Fields<'a> {
-    told: std::slice::Iter<'a, Given>,
+    told: core::slice::Iter<'a, Given>,
     /// The names and values of the fields that are left.
     bytes: &'a [u8],
 }

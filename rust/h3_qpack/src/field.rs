@@ -1,7 +1,10 @@
 //! Fields, owned and borrowed.
 
-use std::borrow::Cow;
-use std::fmt;
+use alloc::borrow::Cow;
+use alloc::format;
+use alloc::string::String;
+use alloc::vec::Vec;
+use core::fmt;
 
 /// The bytes that a field's size counts besides its name and value (RFC 9204, section 3.2.1).
 pub const ESTIMATED_OVERHEAD_BYTES: usize = 32;
@@ -121,6 +124,7 @@ impl<'a> FieldLine<'a> {
 
 /// What you ask an encoder to do for a field.
 #[derive(Debug, Clone, Copy, PartialEq, Eq, Hash, Default)]
+#[non_exhaustive]
 pub enum Wish {
     /// Nothing: the encoder chooses.
     #[default]

@@ -4,14 +4,14 @@
 //! their names.
 
 #[cfg(all(h3_qpack_assembly, target_arch = "x86_64"))]
-std::arch::global_asm!(
+core::arch::global_asm!(
     include_str!(concat!(env!("OUT_DIR"), "/library.s")),
     include_str!(concat!(env!("OUT_DIR"), "/heap.s")),
     options(att_syntax, raw)
 );
 
 #[cfg(all(h3_qpack_assembly, not(target_arch = "x86_64")))]
-std::arch::global_asm!(
+core::arch::global_asm!(
     include_str!(concat!(env!("OUT_DIR"), "/library.s")),
     include_str!(concat!(env!("OUT_DIR"), "/heap.s")),
     options(raw)
@@ -19,6 +19,6 @@ std::arch::global_asm!(
 
 #[cfg(not(h3_qpack_assembly))]
 compile_error!(
-    "h3_qpack has no assembly for this target: its README has those that it is for; on another, set H3_QPACK_LIB to a \
-     libh3_qpack.a of it"
+    "h3_qpack has no assembly for this target. Depend on it by [target.'cfg(..)'.dependencies] for the targets of its \
+     README alone, or set H3_QPACK_LIB to a libh3_qpack.a of this one"
 );

@@ -1,6 +1,7 @@
 //! Memory of this crate's own, asked for so that a refusal is an error.
 
 use crate::connection::NoMemory;
+use alloc::vec::Vec;
 
 /// Makes room for `many` more items.
 pub(crate) fn make_room<T>(items: &mut Vec<T>, many: usize) -> Result<(), NoMemory> {

@@ -5,7 +5,8 @@ use crate::copied::Copied;
 use crate::room::{copy_of, gather, make_room};
 use crate::sys::{self, Lent};
 use crate::{HeaderField, ESTIMATED_OVERHEAD_BYTES};
-use std::fmt;
+use alloc::vec::Vec;
+use core::fmt;
 
 /// The errors of [`encode_stateless`].
 #[derive(Debug, Clone, Copy, PartialEq, Eq)]
@@ -20,8 +21,6 @@ impl fmt::Display for EncoderError {
         f.write_str("out of memory")
     }
 }
-
-impl std::error::Error for EncoderError {}
 
 impl From<NoMemory> for EncoderError {
     fn from(_: NoMemory) -> EncoderError {
@@ -55,15 +54,13 @@ impl DecoderError {
 impl fmt::Display for DecoderError {
     fn fmt(&self, f: &mut fmt::Formatter<'_>) -> fmt::Result {
         match self {
-            DecoderError::Decompression(None) => f.write_str("the prefix of the section is refused"),
-            DecoderError::Decompression(Some(place)) => write!(f, "the section is refused at line {place}"),
+            DecoderError::Decompression(None) => f.write_str("the prefix of the section is invalid"),
+            DecoderError::Decompression(Some(place)) => write!(f, "the section is invalid at line {place}"),
             DecoderError::HeaderTooLong(size) => write!(f, "the fields are too large: {size} bytes or more"),
             DecoderError::Memory => f.write_str("out of memory"),
         }
     }
 }
-
-impl std::error::Error for DecoderError {}
 
 impl From<NoMemory> for DecoderError {
     fn from(_: NoMemory) -> DecoderError {
@@ -73,6 +70,7 @@ impl From<NoMemory> for DecoderError {
 
 /// An error of [`encode_stateless`] or [`decode_stateless`].
 #[derive(Debug, Clone, Copy, PartialEq, Eq)]
+#[non_exhaustive]
 pub enum Error {
     /// Of [`encode_stateless`].
     Encoder(EncoderError),
@@ -88,8 +86,6 @@ impl fmt::Display for Error {
         }
     }
 }
-
-impl std::error::Error for Error {}
 
 impl From<EncoderError> for Error {
     fn from(error: EncoderError) -> Error {
@@ -190,7 +186,7 @@ pub fn decode_stateless<T: AsRef<[u8]> + ?Sized>(buf: &T, max_size: u64) -> Resu
         match decoded.status {
             sys::OK => return own_fields(copied.fields()),
             sys::NO_ROOM => (fields, bytes) = (decoded.fields, decoded.len),
-            status => return Err(refusal_of(status, Place::told(decoded.number, decoded.offset), max_size)),
+            status => return Err(error_of(status, Place::told(decoded.number, decoded.offset), max_size)),
         }
     }
 }
@@ -218,12 +214,12 @@ fn own_fields(lent: Fields<'_>) -> Result<Decoded, DecoderError> {
     Ok(decoded)
 }
 
-/// Returns the error for a status, the line that was refused and the limit.
-fn refusal_of(status: i32, line: Option<Place>, max_size: u64) -> DecoderError {
+/// Returns the error for a status, the invalid line and the limit.
+fn error_of(status: i32, line: Option<Place>, max_size: u64) -> DecoderError {
     match status {
         sys::TOO_LARGE => DecoderError::HeaderTooLong(max_size.saturating_add(1)),
         sys::NO_MEMORY => DecoderError::Memory,
         DECOMPRESSION_FAILED => DecoderError::Decompression(line),
-        status => unreachable!("a section that is read alone is not refused with {status}"),
+        status => unreachable!("a section that is read alone does not fail with {status}"),
     }
 }

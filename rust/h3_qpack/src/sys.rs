@@ -8,10 +8,11 @@
 //! - One thread at a time uses an end, for the ends are `Send` and not `Sync`.
 
 use crate::field::Wish;
-use std::cell::UnsafeCell;
-use std::ffi::c_void;
-use std::marker::PhantomData;
-use std::ptr;
+use alloc::vec::Vec;
+use core::cell::UnsafeCell;
+use core::ffi::c_void;
+use core::marker::PhantomData;
+use core::ptr;
 
 /// The call did what it was asked to.
 pub(crate) const OK: i32 = 0;
@@ -65,6 +66,14 @@ impl<'a> Lent<'a> {
             lent: PhantomData,
         }
     }
+
+    /// Has the field reference an equal entry, and insert nothing, unless it is never to be indexed.
+    #[cfg(feature = "std")]
+    pub(crate) fn insert_nothing(&mut self) {
+        if self.flags != NEVER_INDEX {
+            self.flags = REUSE;
+        }
+    }
 }
 
 /// What encoding answers: `h3_qpack_encoded`.
@@ -101,6 +110,15 @@ pub(crate) struct Decoded {
     pub(crate) required: usize,
     pub(crate) number: u64,
     pub(crate) offset: u64,
+}
+
+/// What reading a prefix answers: `h3_qpack_prefix`.
+#[repr(C)]
+pub(crate) struct Prefixed {
+    pub(crate) status: i32,
+    pub(crate) required: usize,
+    pub(crate) base: usize,
+    pub(crate) len: usize,
 }
 
 /// What decoding without an end answers: `h3_qpack_decoded_alone`.
@@ -194,6 +212,7 @@ declare! {
     fn h3q_encoder_entry(encoder: *mut Handle, index: usize, out: *mut u8, out_len: usize) -> Given;
     fn h3q_decoder_new(max_capacity: usize, max_blocked: usize, max_section_size: u64, at: *mut *mut c_void) -> i32;
     fn h3q_decoder_free(decoder: Handle);
+    fn h3q_decoder_prefix(decoder: *mut Handle, section: *const u8, section_len: usize) -> Prefixed;
     fn h3q_decoder_decode(decoder: *mut Handle, stream_id: u64, section: *const u8, section_len: usize) -> Decoded;
     fn h3q_decoder_fields(
         decoder: *mut Handle,
@@ -319,7 +338,7 @@ pub(crate) struct Encoder {
 unsafe impl Send for Encoder {}
 
 impl Encoder {
-    /// Makes an end, or answers the status of the refusal.
+    /// Makes an end, or returns the status of the error.
     pub(crate) fn new(
         max_capacity: usize,
         max_blocked: usize,
@@ -455,7 +474,7 @@ pub(crate) struct Decoder {
 unsafe impl Send for Decoder {}
 
 impl Decoder {
-    /// Makes an end, or answers the status of the refusal.
+    /// Makes an end, or returns the status of the error.
     pub(crate) fn new(max_capacity: usize, max_blocked: usize, max_section_size: u64) -> Result<Decoder, i32> {
         let mut at = ptr::null_mut();
         // SAFETY: `at` is there for the call, which writes to it.
@@ -463,6 +482,12 @@ impl Decoder {
             OK => Ok(Decoder { handle: UnsafeCell::new(Handle { at }), fields: 0, fields_len: 0 }),
             status => Err(status),
         }
+    }
+
+    /// Reads the prefix of a section.
+    pub(crate) fn peek_prefix(&self, section: &[u8]) -> Prefixed {
+        // SAFETY: the end is one that `new` made, and the section is lent for the length of the call.
+        unsafe { h3q_decoder_prefix(self.handle.get(), section.as_ptr(), section.len()) }
     }
 
     /// Decodes a section of a stream.
@@ -588,10 +613,13 @@ impl Drop for Decoder {
 
 #[cfg(test)]
 mod tests {
-    use super::{Decoded, DecodedAlone, Encoded, Given, Handle, Lent, Received, Written, OK};
+    use super::{Decoded, DecodedAlone, Encoded, Given, Handle, Lent, Prefixed, Received, Written, OK};
     use crate::field::Wish;
-    use std::mem::size_of_val;
-    use std::ptr;
+    use alloc::format;
+    use alloc::vec;
+    use alloc::vec::Vec;
+    use core::mem::size_of_val;
+    use core::ptr;
 
     /// The structs of the header, as a C compiler lays them out.
     const TABLE: &str = include_str!("../tests/layout.txt");
@@ -645,6 +673,10 @@ mod tests {
             "h3_qpack_decoded", Decoded { status: OK, fields: 0, len: 0, required: 0, number: 0, offset: 0 },
             status is "status", fields is "fields", len is "len", required is "required", number is "number",
             offset is "offset"
+        );
+        assert_laid_out!(
+            "h3_qpack_prefix", Prefixed { status: OK, required: 0, base: 0, len: 0 },
+            status is "status", required is "required", base is "base", len is "len"
         );
         assert_laid_out!(
             "h3_qpack_decoded_alone", DecodedAlone { status: OK, fields: 0, len: 0, number: 0, offset: 0 },

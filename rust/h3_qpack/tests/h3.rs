@@ -63,7 +63,7 @@ fn test_static_table_can_get_field() {
 
 #[test]
 fn invalid_index() {
-    assert_eq!(static_field(99), Err(DecoderError::Decompression(Some(Place { number: 1, offset: 2 }))));
+    assert_eq!(static_field(99), Err(DecoderError::Decompression(Some(Place::new(1, 2)))));
 }
 
 #[test]
@@ -109,7 +109,7 @@ fn encoder() -> ConnectionEncoder {
 
 /// An encoder with a table of this capacity, which was told.
 fn encoder_of(capacity: usize) -> ConnectionEncoder {
-    let settings = EncoderSettings { capacity, ..EncoderSettings::new(TABLE_SIZE, 100) };
+    let settings = EncoderSettings::new(TABLE_SIZE, 100).with_capacity(capacity);
     let mut encoder = ConnectionEncoder::new(settings).unwrap();
     let (_, instructions) = encode(&mut encoder, 0, &[]);
     assert_eq!(instructions.is_empty(), capacity == 0);
@@ -228,7 +228,7 @@ fn encoder_that_waits() -> ConnectionEncoder {
 
 /// The refusal of the instruction of this number and place.
 fn refused_at(number: u64, offset: u64) -> Result<(), EncodingError> {
-    Err(EncodingError::DecoderStream { instruction: Some(Place { number, offset }) })
+    Err(EncodingError::DecoderStream { instruction: Some(Place::new(number, offset)) })
 }
 
 #[test]
@@ -281,7 +281,7 @@ fn test_set_maximum_table_size_to_zero_clear_entries() {
     let mut decoder = decoder_with(2);
     decoder.receive(&[set_capacity(0), set_capacity(TABLE_SIZE)].concat()).unwrap();
     let refused = decoder.decode(0, &[prefix(2, 2, TABLE_SIZE), vec![0x80]].concat());
-    let line = Some(Place { number: 1, offset: 2 });
+    let line = Some(Place::new(1, 2));
     assert_eq!(refused, Err(DecodingError::DecompressionFailed { line }));
 }
 
@@ -299,7 +299,7 @@ fn test_eviction_is_fifo() {
 /// There nothing is inserted; here the entry is not referenced (RFC 9204, section 2.1.2).
 #[test]
 fn no_insert_when_max_blocked_0() {
-    let settings = EncoderSettings { max_blocked: 0, ..EncoderSettings::new(TABLE_SIZE, 0) };
+    let settings = EncoderSettings::new(TABLE_SIZE, 0);
     let (mut encoder, field) = (ConnectionEncoder::new(settings).unwrap(), HeaderField::new("foo", "bar"));
     let (lines, instructions) = encode(&mut encoder, 44, slice::from_ref(&field));
     assert_eq!(lines[0] & 0xe0, 0x20);
@@ -381,7 +381,7 @@ fn test_insert_field_with_name_ref_into_dynamic_table() {
 /// The encoder stream is refused at the instruction behind the capacity.
 fn check_refused(instruction: &[u8]) {
     let mut decoder = decoder_with(0);
-    let place = Some(Place { number: 2, offset: 3 });
+    let place = Some(Place::new(2, 3));
     assert_eq!(decoder.receive(instruction), Err(DecodingError::EncoderStream { instruction: place }));
     assert_eq!(taken(&mut decoder), []);
 }
@@ -477,7 +477,7 @@ fn decode_post_base_name_ref_header_field() {
     let line = [int(0, 3, 0), text(0, 7, "new bar3")].concat();
     check_fields(4, 3, &[prefix(3, 2, TABLE_SIZE), line.clone()], &[field(3).with_value("new bar3")]);
     let refused = decoder_with(4).decode(0, &[prefix(2, 2, TABLE_SIZE), line].concat());
-    let line = Some(Place { number: 1, offset: 2 });
+    let line = Some(Place::new(1, 2));
     assert_eq!(refused, Err(DecodingError::DecompressionFailed { line }));
 }
 

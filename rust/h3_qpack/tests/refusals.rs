@@ -24,7 +24,7 @@ fn settings_out_of_range() {
     let encoder = ConnectionEncoder::new(EncoderSettings::new(too_much, 0));
     assert_eq!(encoder.err(), Some(SettingsError::OutOfRange));
     for (max_capacity, max_blocked) in [(too_much, 0), (0, 65_535)] {
-        let decoder = ConnectionDecoder::new(DecoderSettings { max_capacity, max_blocked, max_section_size: 0 });
+        let decoder = ConnectionDecoder::new(DecoderSettings::new(max_capacity, max_blocked));
         assert_eq!(decoder.err(), Some(SettingsError::OutOfRange));
     }
 }
@@ -45,7 +45,7 @@ fn an_encoder_refuses_and_goes_on() {
 #[test]
 fn an_encoder_is_over_behind_its_decoder_stream() {
     let (mut encoder, mut section) = (encoder(), vec![7]);
-    let instruction = Some(Place { number: 2, offset: 1 });
+    let instruction = Some(Place::new(2, 1));
     let error = encoder.receive(b"\x44\x84").unwrap_err();
     assert_eq!(error, EncodingError::DecoderStream { instruction });
     assert_eq!((error.code(), error.to_string()), (Some(0x202), told("decoder", "2, at byte 1")));
@@ -79,36 +79,36 @@ fn a_peer_changes_a_maximum_that_was_remembered() {
 }
 
 fn told(stream: &str, place: &str) -> String {
-    format!("the {stream} stream is refused at instruction {place}")
+    format!("the {stream} stream is invalid at instruction {place}")
 }
 
 #[test]
 fn a_decoder_is_over_behind_its_encoder_stream() {
     let mut decoder = decoder(4096, 1);
-    let instruction = Some(Place { number: 2, offset: 3 });
+    let instruction = Some(Place::new(2, 3));
     let error = decoder.receive(b"\x3f\xe1\x1f\x02").unwrap_err();
     assert_eq!(error, DecodingError::EncoderStream { instruction });
     assert_eq!((error.code(), error.to_string()), (Some(0x201), told("encoder", "2, at byte 3")));
     let over = DecodingError::EncoderStream { instruction: None };
-    assert_eq!((decoder.decode(0, b"\x00\x00\xd1"), decoder.cancel(0)), (Err(over), Err(over)));
+    assert_eq!((decoder.decode(0, b"\x00\x00\xd1"), decoder.cancel_stream(0)), (Err(over), Err(over)));
     assert_eq!(decoder.receive(b"\x20"), Err(error));
 }
 
 #[test]
 fn a_decoder_is_over_behind_a_section_that_means_nothing() {
     let mut decoder = decoder(4096, 1);
-    let line = Some(Place { number: 2, offset: 3 });
+    let line = Some(Place::new(2, 3));
     let error = decoder.decode(0, b"\x00\x00\xd1\xff\x3f").unwrap_err();
     assert_eq!((error, error.code()), (DecodingError::DecompressionFailed { line }, Some(0x200)));
     assert_eq!(decoder.decode(4, b"\x00\x00\xd1"), Err(error));
     assert_eq!(decoder.fields().unwrap().len(), 0);
-    assert_eq!(decoder.cancel(0).unwrap_err().code(), Some(0x200));
+    assert_eq!(decoder.cancel_stream(0).unwrap_err().code(), Some(0x200));
 }
 
 #[test]
 fn a_decoder_reads_no_section_above_the_longest() {
     assert_eq!([0, 50, u64::MAX].map(longest_section), [20, 220, u64::MAX]);
-    let settings = DecoderSettings { max_capacity: 0, max_blocked: 0, max_section_size: 50 };
+    let settings = DecoderSettings::default().with_max_section_size(50);
     let mut decoder = ConnectionDecoder::new(settings).unwrap();
     let mut section = vec![0; longest_section(50) as usize + 1];
     section[2] = 0xd1;
@@ -120,12 +120,12 @@ fn a_decoder_reads_no_section_above_the_longest() {
 
 #[test]
 fn a_decoder_refuses_a_section_past_its_limit_and_goes_on() {
-    let settings = DecoderSettings { max_capacity: 0, max_blocked: 0, max_section_size: 50 };
+    let settings = DecoderSettings::default().with_max_section_size(50);
     let mut decoder = ConnectionDecoder::new(settings).unwrap();
     let refused = decoder.decode(0, b"\x00\x00\xd1\xd1");
     assert_eq!((refused, DecodingError::TooLarge.code()), (Err(DecodingError::TooLarge), None));
     assert_eq!(decoder.decode(1 << 62, b"\x00\x00\xd1"), Err(DecodingError::StreamId));
-    assert_eq!(decoder.cancel(1 << 62), Err(DecodingError::StreamId));
+    assert_eq!(decoder.cancel_stream(1 << 62), Err(DecodingError::StreamId));
     assert_eq!(decoder.decode(0, b"\x00\x00\xd1"), Ok(Reading::Fields { count: 1, required: 0 }));
     assert!(decoder.fields().unwrap().eq([FieldLine::new(":method", "GET")]));
     assert!(decoder.fields().unwrap().eq([FieldLine::new(":method", "GET")]));
@@ -136,7 +136,7 @@ fn a_stream_that_waits_is_given_up_and_one_too_many_ends_the_decoder() {
     let (mut decoder, section) = (decoder(4096, 1), [prefix(2, 2, 4096), vec![0x80]].concat());
     assert_eq!(decoder.decode(8, &section), Ok(Reading::Blocked { required: 2 }));
     assert_eq!((decoder.blocked(), decoder.next_ready(), decoder.fields().unwrap().len()), (1, None, 0));
-    assert_eq!(decoder.cancel(8), Ok(()));
+    assert_eq!(decoder.cancel_stream(8), Ok(()));
     let mut stream = vec![7];
     assert_eq!(decoder.take_decoder_stream(&mut stream), Ok(1));
     assert_eq!((decoder.blocked(), stream), (0, vec![7, 0x48]));
@@ -146,7 +146,7 @@ fn a_stream_that_waits_is_given_up_and_one_too_many_ends_the_decoder() {
 
 #[test]
 fn sections_that_mean_nothing_without_a_table() {
-    let line = |offset| DecoderError::Decompression(Some(Place { number: 1, offset }));
+    let line = |offset| DecoderError::Decompression(Some(Place::new(1, offset)));
     let refused: [(&[u8], DecoderError); 12] = [
         (b"", DecoderError::Decompression(None)),
         (b"\x00", DecoderError::Decompression(None)),
@@ -164,5 +164,29 @@ fn sections_that_mean_nothing_without_a_table() {
     for (section, error) in refused {
         assert_eq!(decode_stateless(section, 4096), Err(error), "{section:?}");
         assert_eq!(error.code(), Some(0x200));
+    }
+}
+
+#[test]
+fn the_prefix_says_whether_a_section_waits() {
+    let (mut encoder, mut section) = (encoder(), Vec::new());
+    let mut decoder = ConnectionDecoder::new(DecoderSettings::new(4096, 16)).unwrap();
+    let required = encoder.encode(0, [("foo", "bar")], &mut section).unwrap();
+    let waiting = decoder.peek_prefix(&section).unwrap();
+    assert_eq!((waiting.required, waiting.len, waiting.is_blocked), (required, 2, true));
+    assert_eq!(decoder.peek_prefix(&section[..2]), Ok(waiting));
+    assert_eq!((decoder.blocked(), decoder.decoder_stream_len()), (0, 0));
+
+    let mut instructions = Vec::new();
+    encoder.take_encoder_stream(&mut instructions).unwrap();
+    decoder.receive(&instructions).unwrap();
+    let ready = decoder.peek_prefix(&section).unwrap();
+    assert_eq!((ready.required, ready.base, ready.is_blocked), (required, waiting.base, false));
+    let read = |section: &[u8]| decoder.peek_prefix(section).map(|it| (it.required, it.base, it.len, it.is_blocked));
+    assert_eq!(read(&[0x02, 0x80]), Ok((1, 0, 2, false)));
+    assert_eq!(read(&[0x00, 0x00, 0xd1]), Ok((0, 0, 2, false)));
+    assert_eq!(read(&[0x02, 0x7f, 0x00]), Ok((1, 128, 3, false)));
+    for section in [&[][..], &[0x02], &[0x00, 0x80]] {
+        assert_eq!(read(section), Err(DecodingError::DecompressionFailed { line: None }));
     }
 }

@@ -46,7 +46,7 @@ struct Connection<'a> {
 
 impl<'a> Connection<'a> {
     fn new(lists: &'a [List], capacity: usize, max_blocked: usize) -> Connection<'a> {
-        let settings = EncoderSettings { capacity, ..EncoderSettings::new(capacity, max_blocked) };
+        let settings = EncoderSettings::new(capacity, max_blocked).with_capacity(capacity);
         Connection {
             lists,
             encoder: ConnectionEncoder::new(settings).unwrap(),
@@ -64,7 +64,7 @@ impl<'a> Connection<'a> {
         assert_eq!(fields.len(), list.len());
         assert!(fields.eq(list.iter().copied()));
         let len: usize = list.iter().map(|line| line.name.len() + line.value.len()).sum();
-        assert_eq!(self.decoder.fields_len(), len);
+        assert_eq!(self.decoder.decoded_len(), len);
     }
 
     /// Hands in a section; whether it did not wait.
@@ -89,7 +89,7 @@ impl<'a> Connection<'a> {
         let list = list.iter().map(|line| line.wish(WISHES[random.below(WISHES.len())]));
         self.encoder.encode(stream_id, list, &mut section).unwrap();
         let size: usize = self.lists[stream_id as usize / 4].iter().map(|(field, _)| field.mem_size()).sum();
-        assert_eq!(self.encoder.list_size(), size);
+        assert_eq!(self.encoder.encoded_size(), size);
         if !is_late || random.below(4) == 0 {
             self.deliver(random);
         }
@@ -99,7 +99,7 @@ impl<'a> Connection<'a> {
         self.counts.waited += 1;
         if random.below(5) == 0 {
             self.counts.given_up += 1;
-            self.decoder.cancel(stream_id).unwrap();
+            self.decoder.cancel_stream(stream_id).unwrap();
         } else {
             self.waiting.insert(stream_id, section);
         }
@@ -221,13 +221,23 @@ fn an_end_is_moved_to_a_thread_and_dropped_there() {
     assert_eq!(decoder.decode(0, &section), Ok(Reading::Fields { count: 1, required: 1 }));
 }
 
+/// The older names are there until a break.
+#[test]
+#[allow(deprecated)]
+fn older_names() {
+    let mut encoder = ConnectionEncoder::new(EncoderSettings::default()).unwrap();
+    let (mut decoder, mut section) = (decoder(4096, 1), Vec::new());
+    encoder.encode(0, [("a", "bc")], &mut section).unwrap();
+    decoder.decode(0, &section).unwrap();
+    assert_eq!((encoder.list_size(), decoder.fields_len(), decoder.cancel(0)), (35, 3, Ok(())));
+    assert_eq!(decoder.decoder_stream_len(), 1);
+}
+
 #[test]
 fn no_byte_depends_on_the_seed() {
-    let seeds = [Some(0), Some(u64::MAX), None];
-    let mut encoders = seeds.map(|seed| {
-        let settings = EncoderSettings { seed, ..EncoderSettings::new(4096, 100) };
-        ConnectionEncoder::new(settings).unwrap()
-    });
+    let settings = EncoderSettings::new(4096, 100);
+    let mut encoders = [settings.with_seed(0), settings.with_seed(u64::MAX), settings]
+        .map(|settings| ConnectionEncoder::new(settings).unwrap());
     for (list, stream) in lists(&mut Random::new(11)).iter().zip((0..).step_by(4)) {
         let mut encode = |encoder: &mut ConnectionEncoder| {
             let (mut section, mut instructions) = (Vec::new(), Vec::new());

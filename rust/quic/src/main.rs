@@ -2,14 +2,13 @@
 //! the dynamic table on both ways. The framing is that of the example `streams`; the streams have the numbers that QUIC
 //! gives them. The certificate, for the name `localhost`, and its key are files in DER. `run.sh` makes them.
 
+mod endpoints;
 #[path = "../../h3_qpack/examples/framing/mod.rs"]
 mod framing;
 
 use framing::{Outcome, Side};
-use quinn::{ClientConfig, Connection, Endpoint, RecvStream, SendStream, ServerConfig, VarInt};
-use rustls::{Certificate, PrivateKey, RootCertStore};
+use quinn::{Connection, Endpoint, RecvStream, SendStream, VarInt};
 use std::collections::{BTreeMap, BTreeSet};
-use std::sync::Arc;
 use tokio::sync::mpsc::{unbounded_channel, UnboundedReceiver, UnboundedSender};
 
 /// What happens at one end of a connection.
@@ -173,33 +172,9 @@ async fn ask(endpoint: Endpoint, server: std::net::SocketAddr) -> Outcome<()> {
     Ok(())
 }
 
-/// The two endpoints, which speak HTTP/3 under this certificate.
-fn endpoints(certificate: Vec<u8>, key: Vec<u8>) -> Outcome<(Endpoint, Endpoint)> {
-    let certificate = Certificate(certificate);
-    let mut roots = RootCertStore::empty();
-    roots.add(&certificate)?;
-    let mut serving = rustls::ServerConfig::builder()
-        .with_safe_defaults()
-        .with_no_client_auth()
-        .with_single_cert(vec![certificate], PrivateKey(key))?;
-    serving.alpn_protocols = vec![b"h3".to_vec()];
-    let mut asking =
-        rustls::ClientConfig::builder().with_safe_defaults().with_root_certificates(roots).with_no_client_auth();
-    asking.alpn_protocols = vec![b"h3".to_vec()];
-    let server = Endpoint::server(ServerConfig::with_crypto(Arc::new(serving)), "127.0.0.1:0".parse()?)?;
-    let mut client = Endpoint::client("127.0.0.1:0".parse()?)?;
-    client.set_default_client_config(ClientConfig::new(Arc::new(asking)));
-    Ok((server, client))
-}
-
 fn main() -> Outcome<()> {
-    let words: Vec<String> = std::env::args().collect();
-    let [certificate, key] = match &words[1..] {
-        [certificate, key] => [std::fs::read(certificate)?, std::fs::read(key)?],
-        _ => return Err("usage: h3_qpack_quic CERTIFICATE KEY".into()),
-    };
     tokio::runtime::Builder::new_current_thread().enable_all().build()?.block_on(async {
-        let (server, client) = endpoints(certificate, key)?;
+        let (server, client) = endpoints::from_words()?;
         let address = server.local_addr()?;
         let serving = tokio::spawn(serve(server));
         ask(client, address).await?;

@@ -2,63 +2,23 @@
 //! crate for QPACK, the dynamic table on. It moves no bytes: what arrived is handed in, and what is to be sent is
 //! taken.
 
+mod wire;
+
 use h3_qpack::connection::{
     ConnectionDecoder, ConnectionEncoder, DecoderSettings, EncoderSettings, FieldLine, Reading,
 };
 use std::collections::{BTreeMap, BTreeSet};
 use std::error::Error;
+use wire::{
+    add_frame, add_number, take_frame, take_number, BLOCKED_STREAMS, CONTROL_STREAM, DATA, DECODER_STREAM,
+    ENCODER_STREAM, HEADERS, MAX_FIELD_SECTION_SIZE, MAX_TABLE_CAPACITY, SETTINGS,
+};
 
 /// A value, or whatever went wrong.
 pub type Outcome<T> = Result<T, Box<dyn Error + Send + Sync>>;
 
-/// The types of frames (RFC 9114, section 7.2).
-const DATA: u64 = 0x00;
-const HEADERS: u64 = 0x01;
-const SETTINGS: u64 = 0x04;
-/// The types of the streams that a side opens (RFC 9114, section 6.2, and RFC 9204, section 4.2).
-const CONTROL_STREAM: u64 = 0x00;
-const ENCODER_STREAM: u64 = 0x02;
-const DECODER_STREAM: u64 = 0x03;
-/// The settings of QPACK (RFC 9204, section 5), and of HTTP/3 (RFC 9114, section 7.2.4.1).
-const MAX_TABLE_CAPACITY: u64 = 0x01;
-const MAX_FIELD_SECTION_SIZE: u64 = 0x06;
-const BLOCKED_STREAMS: u64 = 0x07;
-
 /// What each side sends as its settings.
-const OWN: DecoderSettings = DecoderSettings { max_capacity: 4096, max_blocked: 16, max_section_size: 16_384 };
-
-/// Adds an integer of QUIC (RFC 9000, section 16).
-fn add_number(out: &mut Vec<u8>, number: u64) {
-    match number {
-        0..=0x3f => out.push(number as u8),
-        0x40..=0x3fff => out.extend((number as u16 | 0x4000).to_be_bytes()),
-        0x4000..=0x3fff_ffff => out.extend((number as u32 | 0x8000_0000).to_be_bytes()),
-        _ => out.extend((number | 0xc000_0000_0000_0000).to_be_bytes()),
-    }
-}
-
-/// Takes an integer of QUIC from the front, if it is whole.
-fn take_number(bytes: &mut &[u8]) -> Option<u64> {
-    let len = 1 << (bytes.first()? >> 6);
-    let (number, rest) = (bytes.get(..len)?, bytes.get(len..)?);
-    *bytes = rest;
-    Some(number[1..].iter().fold(u64::from(number[0] & 0x3f), |sum, byte| sum << 8 | u64::from(*byte)))
-}
-
-fn add_frame(out: &mut Vec<u8>, kind: u64, payload: &[u8]) {
-    add_number(out, kind);
-    add_number(out, payload.len() as u64);
-    out.extend(payload);
-}
-
-/// Takes a frame from the front, if it is whole.
-fn take_frame<'a>(bytes: &mut &'a [u8]) -> Option<(u64, &'a [u8])> {
-    let mut rest = *bytes;
-    let (kind, len) = (take_number(&mut rest)?, take_number(&mut rest)? as usize);
-    let payload = rest.get(..len)?;
-    *bytes = &rest[len..];
-    Some((kind, payload))
-}
+const OWN: DecoderSettings = DecoderSettings::new(4096, 16).with_max_section_size(16_384);
 
 /// A message as it was received.
 #[derive(Default)]

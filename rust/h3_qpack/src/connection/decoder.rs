@@ -5,10 +5,21 @@ use super::error::{DecodingError, NoMemory, Place, SettingsError};
 use super::take_all;
 use crate::copied::{Copied, Fields};
 use crate::sys;
-use std::fmt;
+use alloc::vec::Vec;
+use core::fmt;
 
 /// The settings of a decoder, which this side sends in its SETTINGS frame.
+///
+/// ```
+/// use h3_qpack::connection::DecoderSettings;
+///
+/// let mut settings = DecoderSettings::new(4096, 16);
+/// settings.max_section_size = 16_384;
+/// assert_eq!(settings, DecoderSettings::new(4096, 16).with_max_section_size(16_384));
+/// assert_eq!(DecoderSettings::default(), DecoderSettings::new(0, 0));
+/// ```
 #[derive(Debug, Clone, Copy, PartialEq, Eq)]
+#[non_exhaustive]
 pub struct DecoderSettings {
     /// SETTINGS_QPACK_MAX_TABLE_CAPACITY (RFC 9204, section 5), in bytes, below 2^30.
     pub max_capacity: usize,
@@ -18,8 +29,27 @@ pub struct DecoderSettings {
     pub max_section_size: u64,
 }
 
+impl DecoderSettings {
+    /// Returns the settings with these two, and a `max_section_size` of 65,536 bytes, as in C, Go and Python.
+    pub const fn new(max_capacity: usize, max_blocked: usize) -> DecoderSettings {
+        DecoderSettings { max_capacity, max_blocked, max_section_size: 65_536 }
+    }
+
+    /// Returns the settings with another `max_section_size`, in bytes.
+    pub const fn with_max_section_size(self, max_section_size: u64) -> DecoderSettings {
+        DecoderSettings { max_section_size, ..self }
+    }
+}
+
+impl Default for DecoderSettings {
+    /// Returns the settings of a side without a dynamic table, `new(0, 0)`. It must send its `max_section_size`.
+    fn default() -> DecoderSettings {
+        DecoderSettings::new(0, 0)
+    }
+}
+
 /// Returns the length, in bytes, of the longest section whose fields can be within a `max_section_size`; at most
-/// [`u64::MAX`]. A decoder refuses a longer one unread, with [`DecodingError::TooLarge`], so a buffer for a HEADERS frame
+/// [`u64::MAX`]. A decoder rejects a longer one unread, with [`DecodingError::TooLarge`], so a buffer for a HEADERS frame
 /// needs no more room.
 ///
 /// ```
@@ -45,6 +75,21 @@ pub enum Reading {
         /// The number of insertions that must be received first.
         required: usize,
     },
+}
+
+/// What the prefix of a section says (RFC 9204, section 4.5.1).
+#[derive(Debug, Clone, Copy, PartialEq, Eq)]
+#[non_exhaustive]
+pub struct SectionPrefix {
+    /// The Required Insert Count, 0 if the section references no entry of the dynamic table.
+    pub required: usize,
+    /// The Base, from which its lines count the entries that they reference.
+    pub base: usize,
+    /// The length of the prefix, in bytes.
+    pub len: usize,
+    /// Whether the section waits for insertions: until [`insert_count`](ConnectionDecoder::insert_count) returns
+    /// `required` or more.
+    pub is_blocked: bool,
 }
 
 /// The decoder of a connection (RFC 9204, section 2.2). It is [`Send`] and not [`Sync`]: one thread uses it at a time.
@@ -77,13 +122,40 @@ impl ConnectionDecoder {
         }
     }
 
+    /// Reads the prefix of a section, whose lines may be missing. It changes nothing: call it to know at once whether the
+    /// section waits.
+    ///
+    /// # Errors
+    /// - [`DecodingError::DecompressionFailed`] if the prefix is invalid, or not whole. Read more of the section, up to 20
+    ///   bytes, or close the connection.
+    ///
+    /// ```
+    /// # use h3_qpack::connection::{ConnectionDecoder, DecoderSettings};
+    /// let decoder = ConnectionDecoder::new(DecoderSettings::new(4096, 16))?;
+    /// let prefix = decoder.peek_prefix(&[0x02, 0x00])?;
+    /// assert_eq!((prefix.required, prefix.len, prefix.is_blocked), (1, 2, true));
+    /// # Ok::<(), Box<dyn std::error::Error>>(())
+    /// ```
+    pub fn peek_prefix(&self, section: &[u8]) -> Result<SectionPrefix, DecodingError> {
+        let prefix = self.end.peek_prefix(section);
+        match prefix.status {
+            sys::OK | sys::BLOCKED => Ok(SectionPrefix {
+                required: prefix.required,
+                base: prefix.base,
+                len: prefix.len,
+                is_blocked: prefix.status == sys::BLOCKED,
+            }),
+            status => Err(DecodingError::of(status, None, 0)),
+        }
+    }
+
     /// Decodes a whole section of a stream (RFC 9204, section 4.5). Pass the sections of a stream in order.
     ///
     /// # Errors
     /// - [`DecodingError::DecompressionFailed`] if the section is invalid, or one stream too many is blocked. Close the
     ///   connection.
-    /// - [`DecodingError::TooLarge`] if the fields exceed `max_section_size`. Refuse the message, and
-    ///   [`cancel`](Self::cancel) its stream.
+    /// - [`DecodingError::TooLarge`] if the fields exceed `max_section_size`. Reject the message, and call
+    ///   [`cancel_stream`](Self::cancel_stream).
     /// - [`DecodingError::StreamId`] if `stream_id` is 2^62 or more.
     /// - [`DecodingError::NoMemory`]: decode the section again later.
     /// - [`DecodingError::EncoderStream`] if [`receive`](Self::receive) returned it before.
@@ -108,19 +180,31 @@ impl ConnectionDecoder {
         Ok(self.copied.fields())
     }
 
+    /// Takes the fields of the last decode. Without memory they stay, and can be taken later.
+    #[cfg(feature = "std")]
+    pub(crate) fn take_fields(&mut self) -> Result<Copied, NoMemory> {
+        self.fields()?;
+        Ok(core::mem::take(&mut self.copied))
+    }
+
     /// Returns the length of all names and values of the last decode, in bytes. It is 0 if that did not return
     /// [`Reading::Fields`].
     ///
     /// ```
     /// # use h3_qpack::connection::{ConnectionDecoder, DecoderSettings};
-    /// let settings = DecoderSettings { max_capacity: 0, max_blocked: 0, max_section_size: 65_536 };
-    /// let mut decoder = ConnectionDecoder::new(settings)?;
+    /// let mut decoder = ConnectionDecoder::new(DecoderSettings::default())?;
     /// decoder.decode(0, &[0x00, 0x00, 0xd1])?; // :method GET
-    /// assert_eq!(decoder.fields_len(), 10);
+    /// assert_eq!(decoder.decoded_len(), 10);
     /// # Ok::<(), Box<dyn std::error::Error>>(())
     /// ```
-    pub fn fields_len(&self) -> usize {
+    pub fn decoded_len(&self) -> usize {
         self.end.fields_len()
+    }
+
+    /// The older name of [`decoded_len`](Self::decoded_len), which C returns as `len`.
+    #[deprecated(since = "0.2.0", note = "call `decoded_len`, which does the same")]
+    pub fn fields_len(&self) -> usize {
+        self.decoded_len()
     }
 
     /// Copies the fields of the last decode.
@@ -182,8 +266,7 @@ impl ConnectionDecoder {
     /// ```
     /// # use h3_qpack::connection::{ConnectionDecoder, DecoderSettings};
     /// # use h3_qpack::HeaderField;
-    /// let settings = DecoderSettings { max_capacity: 4096, max_blocked: 16, max_section_size: 65_536 };
-    /// let mut decoder = ConnectionDecoder::new(settings)?;
+    /// let mut decoder = ConnectionDecoder::new(DecoderSettings::new(4096, 16))?;
     /// decoder.receive(&[0x3f, 0x45, 0xc1, 0x01, b'x'])?; // the capacity 100, and an insertion of the name :path
     /// assert_eq!((decoder.capacity(), decoder.table_size()), (100, 38));
     /// assert_eq!(decoder.entries().next(), Some(Ok(HeaderField::new(":path", "x"))));
@@ -218,11 +301,20 @@ impl ConnectionDecoder {
     /// - [`DecodingError::StreamId`] if `stream_id` is 2^62 or more.
     /// - [`DecodingError::NoMemory`]: nothing changed.
     /// - An error with a code that another call returned before.
-    pub fn cancel(&mut self, stream_id: u64) -> Result<(), DecodingError> {
+    pub fn cancel_stream(&mut self, stream_id: u64) -> Result<(), DecodingError> {
         match self.end.cancel(stream_id) {
             sys::OK => Ok(()),
             status => Err(DecodingError::of(status, None, 0)),
         }
+    }
+
+    /// The older name of [`cancel_stream`](Self::cancel_stream), which C, Go and Python have too.
+    ///
+    /// # Errors
+    /// Those of `cancel_stream`.
+    #[deprecated(since = "0.2.0", note = "call `cancel_stream`, which does the same")]
+    pub fn cancel(&mut self, stream_id: u64) -> Result<(), DecodingError> {
+        self.cancel_stream(stream_id)
     }
 }
 

@@ -6,12 +6,21 @@ use super::take_all;
 use crate::field::{FieldLine, Wish, WishedField};
 use crate::room::{gather, make_room};
 use crate::sys::{self, Lent};
-use std::collections::hash_map::RandomState;
-use std::fmt;
-use std::hash::{BuildHasher, Hasher};
+use alloc::vec::Vec;
+use core::fmt;
 
 /// The settings of an encoder.
+///
+/// ```
+/// use h3_qpack::connection::EncoderSettings;
+///
+/// let mut settings = EncoderSettings::new(65_536, 16);
+/// settings.capacity = 16_384;
+/// assert_eq!(settings, EncoderSettings::new(65_536, 16).with_capacity(16_384));
+/// assert_eq!(EncoderSettings::default(), EncoderSettings::new(0, 0));
+/// ```
 #[derive(Debug, Clone, Copy, PartialEq, Eq)]
+#[non_exhaustive]
 pub struct EncoderSettings {
     /// The peer's SETTINGS_QPACK_MAX_TABLE_CAPACITY (RFC 9204, section 5), in bytes, below 2^30.
     pub max_capacity: usize,
@@ -22,16 +31,38 @@ pub struct EncoderSettings {
     /// While this number of sections is unacknowledged (RFC 9204, section 4.4.1), sections reference only the static
     /// table.
     pub most_unacknowledged: usize,
-    /// What the hashes of the table's fields are computed with; `None` for a random number. With one that nobody can
-    /// guess, nobody can choose fields that take long to insert. No byte that is written depends on it.
+    /// The seed of the hashes of the table's fields; `None` for a random one, which needs the feature `std`. With a seed
+    /// that nobody can guess, nobody can choose fields that take long to insert. No byte that is written depends on it.
     pub seed: Option<u64>,
 }
 
 impl EncoderSettings {
     /// Returns the settings for a peer that sent these two, with a capacity of 4,096 bytes, 100 unacknowledged sections
     /// and a random seed.
-    pub fn new(max_capacity: usize, max_blocked: usize) -> EncoderSettings {
+    pub const fn new(max_capacity: usize, max_blocked: usize) -> EncoderSettings {
         EncoderSettings { max_capacity, max_blocked, capacity: 4096, most_unacknowledged: 100, seed: None }
+    }
+
+    /// Returns the settings with another `capacity`, in bytes.
+    pub const fn with_capacity(self, capacity: usize) -> EncoderSettings {
+        EncoderSettings { capacity, ..self }
+    }
+
+    /// Returns the settings with another `most_unacknowledged`, a number of sections.
+    pub const fn with_most_unacknowledged(self, most_unacknowledged: usize) -> EncoderSettings {
+        EncoderSettings { most_unacknowledged, ..self }
+    }
+
+    /// Returns the settings with this `seed`.
+    pub const fn with_seed(self, seed: u64) -> EncoderSettings {
+        EncoderSettings { seed: Some(seed), ..self }
+    }
+}
+
+impl Default for EncoderSettings {
+    /// Returns the settings for a peer that sent neither of the two, or whose SETTINGS did not arrive yet: `new(0, 0)`.
+    fn default() -> EncoderSettings {
+        EncoderSettings::new(0, 0)
     }
 }
 
@@ -48,7 +79,7 @@ impl EncoderSettings {
 pub struct ConnectionEncoder {
     end: sys::Encoder,
     /// The size of the fields of the last section.
-    list_size: usize,
+    encoded_size: usize,
 }
 
 impl ConnectionEncoder {
@@ -57,11 +88,12 @@ impl ConnectionEncoder {
     /// # Errors
     /// - [`SettingsError::OutOfRange`] if `max_capacity` is 2^30 or more: for such a peer pass 0.
     /// - [`SettingsError::NoMemory`].
+    /// - [`SettingsError::NoSeed`] if `seed` is `None` without the feature `std`: pass a random number.
     pub fn new(settings: EncoderSettings) -> Result<ConnectionEncoder, SettingsError> {
         let EncoderSettings { max_capacity, max_blocked, capacity, most_unacknowledged, seed } = settings;
-        let seed = seed.unwrap_or_else(|| RandomState::new().build_hasher().finish());
+        let seed = seed.or_else(random_seed).ok_or(SettingsError::NoSeed)?;
         match sys::Encoder::new(max_capacity, max_blocked, capacity, most_unacknowledged, seed) {
-            Ok(end) => Ok(ConnectionEncoder { end, list_size: 0 }),
+            Ok(end) => Ok(ConnectionEncoder { end, encoded_size: 0 }),
             Err(status) => Err(SettingsError::of(status)),
         }
     }
@@ -90,17 +122,37 @@ impl ConnectionEncoder {
         I: IntoIterator,
         I::Item: Into<WishedField<'f>>,
     {
-        self.list_size = 0;
-        let mut size = SECTION_PREFIX;
+        self.encoded_size = 0;
+        self.encode_lent(stream_id, &ConnectionEncoder::lend(fields)?, section)
+    }
+
+    /// Borrows fields for [`encode_lent`](Self::encode_lent).
+    pub(crate) fn lend<'f, I>(fields: I) -> Result<Lines<'f>, NoMemory>
+    where
+        I: IntoIterator,
+        I::Item: Into<WishedField<'f>>,
+    {
+        let mut most_encoded = SECTION_PREFIX;
         let lent = gather(fields.into_iter().map(|field| {
             let WishedField { line: FieldLine { name, value, never_indexed }, wish } = field.into();
             let text = name.len().saturating_add(value.len());
-            size = size.saturating_add(text.saturating_mul(MOST_CODED)).saturating_add(LINE_LENGTHS);
+            most_encoded = most_encoded.saturating_add(text.saturating_mul(MOST_CODED)).saturating_add(LINE_LENGTHS);
             Lent::new(name, value, if never_indexed { Wish::Never } else { wish })
         }))?;
-        make_room(section, size)?;
-        let encoded = self.end.encode(stream_id, &lent, section);
-        self.list_size = encoded.size;
+        Ok(Lines { lent, most_encoded })
+    }
+
+    /// Does what [`encode`](Self::encode) does, with fields that were borrowed before.
+    pub(crate) fn encode_lent(
+        &mut self,
+        stream_id: u64,
+        lines: &Lines<'_>,
+        section: &mut Vec<u8>,
+    ) -> Result<usize, EncodingError> {
+        self.encoded_size = 0;
+        make_room(section, lines.most_encoded)?;
+        let encoded = self.end.encode(stream_id, &lines.lent, section);
+        self.encoded_size = encoded.size;
         match encoded.status {
             sys::OK => Ok(encoded.required),
             status => Err(EncodingError::of(status, EncodingError::StreamId, None)),
@@ -108,17 +160,23 @@ impl ConnectionEncoder {
     }
 
     /// Returns the size of the fields of the last encode, in bytes: the sum of name, value and 32 bytes each. It is 0 if
-    /// that failed. The peer may refuse a section above its SETTINGS_MAX_FIELD_SECTION_SIZE (RFC 9114, section 4.2.2).
+    /// that failed. The peer may reject a section above its SETTINGS_MAX_FIELD_SECTION_SIZE (RFC 9114, section 4.2.2).
     ///
     /// ```
     /// # use h3_qpack::connection::{ConnectionEncoder, EncoderSettings};
     /// let mut encoder = ConnectionEncoder::new(EncoderSettings::new(4096, 16))?;
     /// encoder.encode(0, [(":method", "GET"), ("foo", "bar")], &mut Vec::new())?;
-    /// assert_eq!(encoder.list_size(), 10 + 32 + 6 + 32);
+    /// assert_eq!(encoder.encoded_size(), 10 + 32 + 6 + 32);
     /// # Ok::<(), Box<dyn std::error::Error>>(())
     /// ```
+    pub fn encoded_size(&self) -> usize {
+        self.encoded_size
+    }
+
+    /// The older name of [`encoded_size`](Self::encoded_size), which C, Go and Python return as `size`.
+    #[deprecated(since = "0.2.0", note = "call `encoded_size`, which does the same")]
     pub fn list_size(&self) -> usize {
-        self.list_size
+        self.encoded_size()
     }
 
     /// Returns the number of bytes to send on the encoder stream.
@@ -264,6 +322,32 @@ impl fmt::Debug for ConnectionEncoder {
     fn fmt(&self, f: &mut fmt::Formatter<'_>) -> fmt::Result {
         f.debug_struct("ConnectionEncoder").finish_non_exhaustive()
     }
+}
+
+/// The fields of a section, borrowed.
+pub(crate) struct Lines<'f> {
+    lent: Vec<Lent<'f>>,
+    /// The length of the longest section that they can take, in bytes.
+    most_encoded: usize,
+}
+
+#[cfg(feature = "std")]
+impl Lines<'_> {
+    /// Asks the encoder to insert nothing for any of the fields.
+    pub(crate) fn insert_nothing(&mut self) {
+        self.lent.iter_mut().for_each(Lent::insert_nothing);
+    }
+}
+
+/// Returns a number that nobody can guess, if the system gives one.
+fn random_seed() -> Option<u64> {
+    #[cfg(feature = "std")]
+    {
+        use std::hash::{BuildHasher, Hasher};
+        Some(std::collections::hash_map::RandomState::new().build_hasher().finish())
+    }
+    #[cfg(not(feature = "std"))]
+    None
 }
 
 /// Room for the prefix of a section, in bytes: two integers of 64 bits.

@@ -4,9 +4,10 @@ use super::error::NoMemory;
 use crate::field::HeaderField;
 use crate::room::{copy_of, make_room};
 use crate::sys::{Table, NO_ROOM, OK};
-use std::fmt;
-use std::iter::FusedIterator;
-use std::ops::Range;
+use alloc::vec::Vec;
+use core::fmt;
+use core::iter::FusedIterator;
+use core::ops::Range;
 
 /// The entries of a table, the newest first; with [`rev`](Iterator::rev), the oldest first. Each is copied when it is
 /// asked for. An item is [`NoMemory`] if there is no memory for its copy.

@@ -1,7 +1,7 @@
-//! Why the ends of a connection refuse.
+//! Why the ends of a connection fail.
 
 use crate::sys;
-use std::fmt;
+use core::fmt;
 
 /// The decoder failed to interpret a section (RFC 9204, section 6).
 pub const QPACK_DECOMPRESSION_FAILED: u64 = 0x200;
@@ -12,8 +12,9 @@ pub const QPACK_DECODER_STREAM_ERROR: u64 = 0x202;
 /// The peer's SETTINGS are not allowed (RFC 9114, section 8.1).
 pub const H3_SETTINGS_ERROR: u64 = 0x109;
 
-/// Where a line of a section, or an instruction of a stream, was refused.
+/// The place of an invalid line of a section, or of an invalid instruction of a stream.
 #[derive(Debug, Clone, Copy, PartialEq, Eq)]
+#[non_exhaustive]
 pub struct Place {
     /// The number of the line or instruction, from 1.
     pub number: u64,
@@ -22,6 +23,11 @@ pub struct Place {
 }
 
 impl Place {
+    /// Makes a place, to compare an error with one that is expected.
+    pub const fn new(number: u64, offset: u64) -> Place {
+        Place { number, offset }
+    }
+
     /// Returns the place that the library reported, if it reported one.
     pub(crate) fn told(number: u64, offset: u64) -> Option<Place> {
         if number == 0 {
@@ -48,8 +54,6 @@ impl fmt::Display for NoMemory {
     }
 }
 
-impl std::error::Error for NoMemory {}
-
 /// Why an end can't be made.
 #[derive(Debug, Clone, Copy, PartialEq, Eq)]
 #[non_exhaustive]
@@ -58,6 +62,8 @@ pub enum SettingsError {
     OutOfRange,
     /// The allocator refused.
     NoMemory,
+    /// An encoder has no seed, and without the feature `std` there is no random one. Set `seed` to a random number.
+    NoSeed,
     /// A status that this crate does not know: the library is of another version.
     Unknown(i32),
 }
@@ -78,14 +84,13 @@ impl fmt::Display for SettingsError {
         match self {
             SettingsError::OutOfRange => f.write_str("a setting is out of its range"),
             SettingsError::NoMemory => f.write_str("out of memory"),
+            SettingsError::NoSeed => f.write_str("the encoder has no seed"),
             SettingsError::Unknown(status) => write!(f, "unknown status {status}"),
         }
     }
 }
 
-impl std::error::Error for SettingsError {}
-
-/// Why an encoder refuses.
+/// Why an encoder fails.
 #[derive(Debug, Clone, Copy, PartialEq, Eq)]
 #[non_exhaustive]
 pub enum EncodingError {
@@ -139,9 +144,9 @@ impl EncodingError {
 impl fmt::Display for EncodingError {
     fn fmt(&self, f: &mut fmt::Formatter<'_>) -> fmt::Result {
         match self {
-            EncodingError::DecoderStream { instruction: None } => f.write_str("the decoder stream was refused"),
+            EncodingError::DecoderStream { instruction: None } => f.write_str("the decoder stream is invalid"),
             EncodingError::DecoderStream { instruction: Some(place) } => {
-                write!(f, "the decoder stream is refused at instruction {place}")
+                write!(f, "the decoder stream is invalid at instruction {place}")
             }
             EncodingError::LimitLowered => f.write_str("the peer lowered its limit of blocked streams"),
             EncodingError::MaximumTooLarge => f.write_str("the peer's maximum capacity is 2^30 or more"),
@@ -154,15 +159,13 @@ impl fmt::Display for EncodingError {
     }
 }
 
-impl std::error::Error for EncodingError {}
-
 impl From<NoMemory> for EncodingError {
     fn from(_: NoMemory) -> EncodingError {
         EncodingError::NoMemory
     }
 }
 
-/// Why a decoder refuses.
+/// Why a decoder rejects its input, or fails.
 #[derive(Debug, Clone, Copy, PartialEq, Eq)]
 #[non_exhaustive]
 pub enum DecodingError {
@@ -180,7 +183,7 @@ pub enum DecodingError {
         instruction: Option<Place>,
     },
     /// The sizes of the section's fields sum to more than `max_section_size` (RFC 9114, section 4.2.2). The connection
-    /// goes on: refuse the message, and cancel its stream.
+    /// goes on: reject the message, and cancel its stream.
     TooLarge,
     /// The number of the stream is 2^62 or more; nothing was done.
     StreamId,
@@ -220,13 +223,15 @@ impl DecodingError {
 impl fmt::Display for DecodingError {
     fn fmt(&self, f: &mut fmt::Formatter<'_>) -> fmt::Result {
         match self {
-            DecodingError::DecompressionFailed { line: None } => f.write_str("a section is refused"),
-            DecodingError::DecompressionFailed { line: Some(place) } => {
-                write!(f, "a section is refused at line {place}")
+            DecodingError::DecompressionFailed { line: None } => {
+                f.write_str("a section is invalid, or too many streams are blocked")
             }
-            DecodingError::EncoderStream { instruction: None } => f.write_str("the encoder stream was refused"),
+            DecodingError::DecompressionFailed { line: Some(place) } => {
+                write!(f, "a section is invalid at line {place}")
+            }
+            DecodingError::EncoderStream { instruction: None } => f.write_str("the encoder stream is invalid"),
             DecodingError::EncoderStream { instruction: Some(place) } => {
-                write!(f, "the encoder stream is refused at instruction {place}")
+                write!(f, "the encoder stream is invalid at instruction {place}")
             }
             DecodingError::TooLarge => f.write_str("the fields of the section are too large"),
             DecodingError::StreamId => f.write_str("no stream has that number"),
@@ -235,8 +240,6 @@ impl fmt::Display for DecodingError {
         }
     }
 }
-
-impl std::error::Error for DecodingError {}
 
 impl From<NoMemory> for DecodingError {
     fn from(_: NoMemory) -> DecodingError {

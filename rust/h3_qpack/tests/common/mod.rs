@@ -89,7 +89,7 @@ pub fn prefix(required: usize, base: usize, max_capacity: usize) -> Vec<u8> {
 
 /// A decoder that sent these settings, and no limit on sizes.
 pub fn decoder(max_capacity: usize, max_blocked: usize) -> ConnectionDecoder {
-    ConnectionDecoder::new(DecoderSettings { max_capacity, max_blocked, max_section_size: u64::MAX })
+    ConnectionDecoder::new(DecoderSettings::new(max_capacity, max_blocked).with_max_section_size(u64::MAX))
         .expect("settings in range")
 }
 
