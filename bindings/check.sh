@@ -1,10 +1,10 @@
 #!/usr/bin/env bash
-# Tests the bindings for Go and Python, and pylsqpack over the latter, over the library that make builds of dist/ and
-# installs in a folder of its own. It needs a C compiler and make; for Go, go 1.19 or later and pkg-config; for Python,
-# python3 3.8 or later, and to install the packages by pip, venv and flit_core (Debian: gcc, make, golang-go, pkg-config,
-# python3, python3-venv and flit). It installs by apt-get what is not there, which only root can. A language whose tools
-# can't be had is left out, and a line says so. Nothing else is needed, and no network. mypy is used where it is there. The
-# last line is 'N passed, M failed'.
+# Tests the bindings for Go and Python, and pylsqpack over the latter. Each has the library in it, and is built without an
+# installed one: Go by cgo, Python by pip and, for its tests, by make of dist/. It needs a C compiler and make; for Go, go
+# 1.19 or later; for Python, python3 3.8 or later, and to install the packages by pip, venv (Debian: gcc, make, golang-go,
+# python3 and python3-venv). It installs by apt-get what is not there, which only root can. A language whose tools can't be
+# had is left out, and a line says so. Nothing else is needed, and no network. mypy is used where it is there. The last line
+# is 'N passed, M failed'.
 set -uo pipefail
 cd "$(dirname "$0")" || exit 1
 script=bindings/check.sh
@@ -67,15 +67,69 @@ check_pointers() {
     fi
 }
 
-# The cache of go is a fresh one: go would take what an earlier pkg-config said from another.
+# A program that imports quic-go's package takes this one by two replace lines, by the older path too.
+replace_qpack() {
+    local program=$room/replaced path
+    for path in github.com/quic-go/qpack github.com/marten-seemann/qpack; do
+        rm -rf "$program" && mkdir "$program" && cat >"$program/main.go" <<PROGRAM || return
+package main
+
+import (
+	"fmt"
+
+	"$path"
+)
+
+func main() {
+	fields, err := qpack.NewDecoder(nil).DecodeFull([]byte{0, 0, 0xd1})
+	fmt.Println(fields, err)
+}
+PROGRAM
+        (cd "$program" && go mod init replaced && go mod edit -require "$path@v0.6.0" -replace "$path=$top/bindings/go/qpack" &&
+            go mod edit -require h3qpack@v0.2.0 -replace "h3qpack=$top/bindings/go" &&
+            [ "$(go run .)" = '[{:method GET}] <nil>' ]) || return
+    done
+}
+
+# The calls of quic-go's package over this one, in a module of their own. bindings/go/qpack/check.sh runs quic-go's tests.
+test_qpack() {
+    cd qpack && try "the licence of the module qpack" is_licence LICENSE && try "go vet of qpack" go vet ./... &&
+        try "go test of qpack" go test -count=1 -v ./... && try "qpack in the place of quic-go's" replace_qpack
+    cd ..
+}
+
+# A program that is linked statically runs, and needs nothing that is installed.
+build_statically() {
+    local program=$room/static
+    mkdir -p "$program" && cat >"$program/main.go" <<'PROGRAM' || return
+package main
+
+import (
+	"fmt"
+
+	"h3qpack"
+)
+
+func main() {
+	section, err := h3qpack.EncodeStateless([]h3qpack.Field{{Name: ":method", Value: "GET"}})
+	fmt.Printf("%x %v\n", section, err)
+}
+PROGRAM
+    printf 'module static\n\ngo 1.19\n\nrequire h3qpack v0.0.0\n\nreplace h3qpack => %s\n' "$PWD" >"$program/go.mod"
+    (cd "$program" && go build -ldflags '-linkmode external -extldflags -static' .) &&
+        ! readelf -d "$program/static" | grep NEEDED && [ "$("$program/static")" = '0000d1 <nil>' ]
+}
+
 test_go() {
-    export PKG_CONFIG_PATH=$room/usr/lib/pkgconfig GOPROXY=off GOTOOLCHAIN=local GOCACHE=$room/cache
+    export GOPROXY=off GOTOOLCHAIN=local
     check_pointers
     try "the licence of the module" is_licence LICENSE
     try "gofmt" check_layout
     try "go vet" go vet ./...
     try "go vet of a program that copies ends" check_copies
     try "go test" run_go
+    try "a static program" build_statically
+    test_qpack
     try "go test -race" run_go -race
     echo "$script: Go: $(grep -c '^--- PASS' "$room/told") tests and examples, with $(go version | cut -d ' ' -f 3)"
 }
@@ -85,41 +139,30 @@ run_python() {
     python3 -W error -m unittest && ! grep -q '^Ran 0 tests' "$room/told"
 }
 
-# Without the variable, the library is found where the linker looks, or an error says how to install it.
+# Without the variable and pip, the library is found where the linker looks, or an error says how to install it.
 find_by_linker() {
     env -u H3_QPACK_LIBRARY -u LD_LIBRARY_PATH python3 -c 'import h3_qpack' 2>"$room/refused" ||
-        grep 'make -C dist install' "$room/refused"
+        grep 'pip install ./bindings/python' "$room/refused"
 }
 
-# Prints the folder of flit_core, which is that of Debian if another python3 comes first in PATH.
-find_flit_core() {
-    local python
-    for python in python3 /usr/bin/python3; do
-        "$python" -c 'import flit_core, os; print(os.path.dirname(flit_core.__file__))' 2>/dev/null && return
-    done
-    return 1
-}
-
-# Prints the packages of Debian that pip needs, without a network, and that are not there.
+# Prints the packages of Debian that pip needs and that are not there.
 list_lacking_for_pip() {
     python3 -c 'import ensurepip' 2>/dev/null || echo python3-venv
-    find_flit_core >"$room/flit_core" || echo flit
 }
 
-# Makes the folder that pip installs in, with flit_core beside it.
-make_venv() {
-    mkdir "$room/packages" && ln -s "$(find_flit_core)" "$room/packages/" && python3 -m venv "$room/venv"
-}
-
-# A package installs by pip in a folder of its own, leaves nothing where its sources are, has what it requires, and finds
-# the library.
+# A package installs by pip in a folder of its own without a network, leaves nothing but compiled Python where its sources
+# are, has what it requires, and brings the library. The wheel is the same when it is made again.
 install_by_pip() {
-    local name=$1 source=$room/source/$1
-    { [ -d "$room/venv" ] || make_venv; } && mkdir -p "$room/source" && cp -r . "$source" || return
+    local name=$1 source=$room/source/$1 wheels=$room/wheels/$1
+    [ -d "$room/venv" ] || python3 -m venv "$room/venv" || return
+    mkdir -p "$room/source" "$wheels/again" && cp -r . "$source" || return
     (cd "$source" && find . | sort) >"$room/before"
-    PYTHONPATH=$room/packages PIP_NO_INDEX=1 PIP_NO_BUILD_ISOLATION=false "$room/venv/bin/pip" install "$source" || return
-    (cd "$source" && find . | sort) | diff "$room/before" - || return
-    (cd "$room" && env -u PYTHONPATH venv/bin/python -c "import $name; print($name.__file__)") | grep "^$room/venv/"
+    "$room/venv/bin/pip" wheel --no-index --no-deps -w "$wheels" "$source" &&
+        "$room/venv/bin/pip" wheel --no-index --no-deps -w "$wheels/again" "$source" &&
+        cmp "$wheels"/*.whl "$wheels"/again/*.whl && "$room/venv/bin/pip" install --no-index "$wheels"/*.whl || return
+    (cd "$source" && find . -name __pycache__ -prune -o -print | sort) | diff "$room/before" - || return
+    (cd "$room" && env -u PYTHONPATH -u H3_QPACK_LIBRARY venv/bin/python -c "import $name; print($name.__file__)") |
+        grep "^$room/venv/"
 }
 
 # What pip installed has the licence, and names it.
@@ -155,8 +198,9 @@ test_python() {
 }
 
 # shellcheck disable=SC2046 # words
-install_packages $(list_lacking cc make go pkg-config python3) $(list_lacking_for_pip) || true
-export LD_LIBRARY_PATH=$room/usr/lib
-if has_tools Go cc make go pkg-config && build_library; then cd go && test_go; cd ..; fi
+install_packages $(list_lacking cc make go python3) $(list_lacking_for_pip) || true
+if has_tools Go cc go; then cd go && test_go; cd ..; fi
 if has_tools Python cc make python3 && build_library; then cd python && test_python; fi
+cd "$top/bindings" && try "the four programs of examples/programs" ../examples/programs/check.sh
+grep "^not shown: " "$room/told"
 tell_count

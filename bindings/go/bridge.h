@@ -3,7 +3,7 @@
 #ifndef H3QPACK_BRIDGE_H
 #define H3QPACK_BRIDGE_H
 
-#include <h3_qpack.h>
+#include "h3_qpack.h"
 #include <stdlib.h>
 
 /* Go can't call a macro. */

@@ -65,11 +65,40 @@ func (d *Decoder) Receive(bytes []byte) error {
 	return checkReceived(C.h3_qpack_decoder_read_encoder(d.end, firstByte(bytes), C.size_t(len(bytes))))
 }
 
+// Prefix is what the prefix of a section says (RFC 9204, section 4.5.1).
+type Prefix struct {
+	Required int  // the Required Insert Count, 0 if the section references no entry of the dynamic table
+	Base     int  // the Base, from which its lines count the entries that they reference
+	Length   int  // the length of the prefix, in bytes
+	Blocked  bool // whether the section waits for insertions: until InsertCount returns Required or more
+}
+
+// PeekPrefix reads the prefix of a section, whose lines may be missing. It changes nothing: call it to know at once
+// whether the section waits.
+//
+// It fails with ErrDecompressionFailed if the prefix is invalid, or not whole: read more of the section, up to 20 bytes,
+// or close the connection.
+func (d *Decoder) PeekPrefix(section []byte) (Prefix, error) {
+	if d.isClosed() {
+		return Prefix{}, ErrClosed
+	}
+	peeked := C.h3_qpack_decoder_peek_prefix(d.end, firstByte(section), C.size_t(len(section)))
+	if peeked.status != C.H3_QPACK_OK && peeked.status != C.H3_QPACK_BLOCKED {
+		return Prefix{}, check("peek prefix", peeked.status)
+	}
+	return Prefix{
+		Required: int(peeked.required),
+		Base:     int(peeked.base),
+		Length:   int(peeked.len),
+		Blocked:  peeked.status == C.H3_QPACK_BLOCKED,
+	}, nil
+}
+
 // Decode decodes a whole section of a stream below 2^62. Pass the sections of a stream in order.
 //
 // It fails with:
 //   - ErrBlocked: keep the section, and decode it again when NextReady returns its stream;
-//   - ErrTooLarge: the fields exceed MaxSectionSize. Refuse the message, and call CancelStream;
+//   - ErrTooLarge: the fields exceed MaxSectionSize. Reject the message, and call CancelStream;
 //   - ErrDecompressionFailed, or ErrEncoderStream if Receive did: close the connection;
 //   - ErrInvalid: the stream is 2^62 or more;
 //   - ErrNoMemory: decode the section again later.

@@ -54,7 +54,7 @@ type Encoded struct {
 	Section []byte
 	// Required is its Required Insert Count. If it is above 0, the peer acknowledges the section.
 	Required int
-	// Size is the sum over the fields of name, value and 32 bytes each. The peer may refuse a section above its
+	// Size is the sum over the fields of name, value and 32 bytes each. The peer may reject a section above its
 	// SETTINGS_MAX_FIELD_SECTION_SIZE.
 	Size int
 }

@@ -36,7 +36,7 @@ const (
 	ErrBlocked Status = C.H3_QPACK_BLOCKED
 	// ErrInvalid: an argument is out of its range, and nothing was done.
 	ErrInvalid Status = C.H3_QPACK_ERR_INVALID
-	// ErrTooLarge: the section exceeds MaxSectionSize. Refuse the message, and call [Decoder.CancelStream].
+	// ErrTooLarge: the section exceeds MaxSectionSize. Reject the message, and call [Decoder.CancelStream].
 	ErrTooLarge Status = C.H3_QPACK_ERR_TOO_LARGE
 	// ErrHeld: the capacity would evict entries that may still be referenced. Set it again after more acknowledgments.
 	ErrHeld Status = C.H3_QPACK_ERR_HELD
@@ -53,7 +53,7 @@ var texts = map[Status]struct{ cause, advice string }{
 	ErrNoMemory:            {"out of memory", "repeat the call later"},
 	ErrBlocked:             {"the section is blocked", "keep it until NextReady returns its stream"},
 	ErrInvalid:             {"an argument is out of its range", "correct the call"},
-	ErrTooLarge:            {"the section is too large", "refuse the message, and cancel its stream"},
+	ErrTooLarge:            {"the section is too large", "reject the message, and cancel its stream"},
 	ErrHeld:                {"entries may still be referenced", "set the capacity after more acknowledgments"},
 	ErrVersion:             {"the library is of another version", "compile the program with its header"},
 }

@@ -1,7 +1,5 @@
-// Package h3qpack is QPACK, the header compression of HTTP/3 (RFC 9204). It calls the C library h3_qpack by cgo, which
-// finds it by pkg-config. Install the library first, in a clone of its repository:
-//
-//	make -C dist install PREFIX=/usr/local && ldconfig
+// Package h3qpack is QPACK, the header compression of HTTP/3 (RFC 9204). It has the C library h3_qpack in it, as the assembly
+// of its proved code, and calls it by cgo. So it needs a C compiler, and nothing that is installed.
 //
 // Each side of a connection has an [Encoder], made from the settings that the peer sent, and a [Decoder], made from the
 // settings that this side sent. The package does no I/O: pass it the bytes that you received, in order and without the
@@ -21,7 +19,7 @@
 // Use an Encoder or a Decoder from one goroutine at a time. Close each: no finalizer does.
 package h3qpack
 
-// #cgo pkg-config: h3_qpack
+// #cgo CFLAGS: -O2 -g0
 // #include "bridge.h"
 import "C"
 
@@ -34,7 +32,7 @@ func Version() (major, minor int) {
 }
 
 // LongestSection returns the length, in bytes, of the longest section whose fields can be within a MaxSectionSize. A
-// decoder refuses a longer one unread, with ErrTooLarge, so a buffer for a HEADERS frame needs no more room.
+// decoder rejects a longer one unread, with ErrTooLarge, so a buffer for a HEADERS frame needs no more room.
 func LongestSection(maxSectionSize uint64) uint64 {
 	return uint64(C.h3qpack_longest_section(C.uint64_t(maxSectionSize)))
 }

@@ -163,6 +163,40 @@ func TestBlocked(t *testing.T) {
 	}
 }
 
+func TestPeekPrefix(t *testing.T) {
+	encoder, decoder := newPair(t, 4096, 16)
+	encoded := encode(t, encoder, 8, request)
+	peek := func(section []byte, want Prefix) {
+		t.Helper()
+		if got, err := decoder.PeekPrefix(section); err != nil || got != want {
+			t.Fatalf("%x: %+v, %v", section, got, err)
+		}
+	}
+	waiting, err := decoder.PeekPrefix(encoded.Section)
+	if err != nil || waiting.Required != encoded.Required || waiting.Length != 2 || !waiting.Blocked {
+		t.Fatalf("%+v, %v", waiting, err)
+	}
+	peek(encoded.Section[:2], waiting)
+	if decoder.Blocked() != 0 || len(decoder.TakeDecoderStream()) != 0 {
+		t.Fatal("a peek changed the decoder")
+	}
+	must(t, decoder.Receive(encoder.TakeEncoderStream()))
+	waiting.Blocked = false
+	peek(encoded.Section, waiting)
+	peek([]byte{0x02, 0x80}, Prefix{Required: 1, Length: 2})
+	peek([]byte{0x00, 0x00, 0xd1}, Prefix{Length: 2})
+	for _, section := range [][]byte{nil, {0x02}, {0x00, 0x80}} {
+		_, err := decoder.PeekPrefix(section)
+		expect(t, err, ErrDecompressionFailed)
+	}
+	got, err := decoder.Decode(8, encoded.Section)
+	expectFields(t, got, err, request)
+	must(t, decoder.Close())
+	if _, err := decoder.PeekPrefix(encoded.Section); err != ErrClosed {
+		t.Fatal(err)
+	}
+}
+
 func TestCancel(t *testing.T) {
 	encoder, decoder := newPair(t, 4096, 16)
 	_, err := decoder.Decode(8, encode(t, encoder, 8, request).Section)
@@ -580,7 +614,7 @@ func TestMessages(t *testing.T) {
 		{&Error{Op: "encode", Status: ErrInvalid},
 			"h3qpack: encode: an argument is out of its range: the stream must be below 2^62"},
 		{&Error{Op: "decode", Status: ErrTooLarge, Number: 2, Offset: 3},
-			"h3qpack: decode: the section is too large, at line 2, byte 3: refuse the message, and cancel its stream"},
+			"h3qpack: decode: the section is too large, at line 2, byte 3: reject the message, and cancel its stream"},
 		{&Error{Op: "decode", Status: ErrBlocked, Required: 7},
 			"h3qpack: decode: the section is blocked until insertion 7: keep it until NextReady returns its stream"},
 		{&Error{Op: "receive", Status: ErrEncoderStream, Number: 2, Offset: 3},

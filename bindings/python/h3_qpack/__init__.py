@@ -22,7 +22,7 @@ b'authorization' b'Basic Og==' True
 An error is a QpackError. If it is a QpackConnectionError, close the connection with its code.
 """
 
-from ._decoder import Decoder, longest_section
+from ._decoder import Decoder, Prefix, longest_section
 from ._encoder import Encoded, Encoder
 from ._errors import (
     DecoderStreamError,
@@ -56,6 +56,7 @@ __all__ = [
     "FieldLike",
     "InvalidArgument",
     "OutOfMemory",
+    "Prefix",
     "QpackConnectionError",
     "QpackError",
     "SectionTooLarge",

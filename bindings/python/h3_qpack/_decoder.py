@@ -1,7 +1,7 @@
 """The decoder of a connection."""
 
 import ctypes
-from typing import List, Optional
+from typing import List, NamedTuple, Optional
 
 from . import _library as lib
 from ._end import End, stream_number
@@ -12,9 +12,22 @@ from ._fields import Bytes, Field, lend_bytes, list_fields, make_places, make_ro
 def longest_section(max_section_size: int) -> int:
     """Returns the length, in bytes, of the longest section whose fields can be within a `max_section_size`.
 
-    A decoder refuses a longer one unread, with SectionTooLarge, so a buffer for a HEADERS frame needs no more room.
+    A decoder rejects a longer one unread, with SectionTooLarge, so a buffer for a HEADERS frame needs no more room.
     """
     return 4 * max_section_size + 20
+
+
+class Prefix(NamedTuple):
+    """What the prefix of a section says (RFC 9204, section 4.5.1)."""
+
+    required: int
+    """The Required Insert Count, 0 if the section references no entry of the dynamic table."""
+    base: int
+    """The Base, from which its lines count the entries that they reference."""
+    length: int
+    """The length of the prefix, in bytes."""
+    blocked: bool
+    """Whether the section waits for insertions: until `insert_count` is `required` or more."""
 
 
 class Decoder(End):
@@ -48,12 +61,26 @@ class Decoder(End):
         received = self._call("read_encoder", lent, len(lent))
         check(received.status, result=received)
 
+    def peek_prefix(self, section: Bytes) -> Prefix:
+        """Reads the prefix of a section, whose lines may be missing.
+
+        It changes nothing: call it to know at once whether the section waits.
+
+        Raises DecompressionFailed if the prefix is invalid, or not whole: read more of the section, up to 20 bytes, or
+        close the connection.
+        """
+        lent = lend_bytes(section)
+        prefix = self._call("peek_prefix", lent, len(lent))
+        if prefix.status != lib.BLOCKED:
+            check(prefix.status)
+        return Prefix(prefix.required, prefix.base, prefix.len, prefix.status == lib.BLOCKED)
+
     def decode(self, stream_id: int, section: Bytes) -> List[Field]:
         """Decodes a whole section of a stream below 2^62. Pass the sections of a stream in order.
 
         Raises:
             StreamBlocked: keep the section, and decode it again when `next_ready` returns its stream.
-            SectionTooLarge: refuse the message, and call `cancel_stream`.
+            SectionTooLarge: reject the message, and call `cancel_stream`.
             DecompressionFailed, or EncoderStreamError if `receive` did: close the connection.
             InvalidArgument: the stream is 2^62 or more.
             OutOfMemory: decode the section again later.

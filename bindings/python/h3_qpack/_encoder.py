@@ -20,7 +20,7 @@ class Encoded(NamedTuple):
     required: int
     """The Required Insert Count. If it is above 0, the peer acknowledges the section."""
     size: int
-    """The sum over the fields of name, value and 32 bytes each. The peer may refuse a section above its
+    """The sum over the fields of name, value and 32 bytes each. The peer may reject a section above its
     SETTINGS_MAX_FIELD_SECTION_SIZE."""
 
 

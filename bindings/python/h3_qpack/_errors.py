@@ -72,14 +72,14 @@ class StreamBlocked(QpackError):
 
 
 class SectionTooLarge(QpackError):
-    """The section exceeds `max_section_size`. Refuse the message, and call `Decoder.cancel_stream`.
+    """The section exceeds `max_section_size`. Reject the message, and call `Decoder.cancel_stream`.
 
     `number` is the line at which it does, or 0 if the section is too long to be within it.
     """
 
     def __init__(self, number: int = 0) -> None:
         place = f" at line {number}" if number else ""
-        super().__init__(f"the section is too large{place}: refuse the message, and cancel its stream")
+        super().__init__(f"the section is too large{place}: reject the message, and cancel its stream")
         self.number = number
 
 

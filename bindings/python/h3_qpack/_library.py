@@ -59,6 +59,10 @@ class DecodedAlone(ctypes.Structure):
     ]
 
 
+class Prefix(ctypes.Structure):
+    _fields_ = [("status", c_int32), ("required", c_size_t), ("base", c_size_t), ("len", c_size_t)]
+
+
 class Decoded(ctypes.Structure):
     _fields_ = [
         ("status", c_int32),
@@ -121,6 +125,7 @@ FUNCTIONS: Dict[str, Tuple[Any, List[Any]]] = {
     "decoder_new_versioned": (c_int, [END, c_uint32, POINTER(DecoderSettings)]),
     "decoder_del": (None, [END]),
     "decoder_read_encoder": (Received, [END, *BYTES]),
+    "decoder_peek_prefix": (Prefix, [END, *BYTES]),
     "decoder_decode": (Decoded, [END, c_uint64, *BYTES]),
     "decoder_fields": (Written, [END, *PLACES, *COPY]),
     "decoder_next_ready": (c_int, [END, POINTER(c_uint64)]),
@@ -140,11 +145,12 @@ FUNCTIONS: Dict[str, Tuple[Any, List[Any]]] = {
 
 def find_library() -> str:
     """Returns the path or the name of the library."""
-    found = os.environ.get(VARIABLE) or ctypes.util.find_library("h3_qpack")
+    own = os.path.join(os.path.dirname(__file__), "libh3_qpack.so.0")
+    found = os.environ.get(VARIABLE) or (own if os.path.exists(own) else ctypes.util.find_library("h3_qpack"))
     if not found:
         raise ImportError(
-            "h3_qpack: the C library is not installed. In a clone of its repository run, as root, "
-            f"'make -C dist install PREFIX=/usr/local && ldconfig'. Or set {VARIABLE} to the path of libh3_qpack.so.0."
+            "h3_qpack: the C library is not here. Install the package, by 'pip install ./bindings/python' at the top of a "
+            f"clone of its repository. Or set {VARIABLE} to the path of libh3_qpack.so.0."
         )
     return found
 

@@ -21,6 +21,7 @@ from h3_qpack import (
     FieldLike,
     InvalidArgument,
     OutOfMemory,
+    Prefix,
     QpackConnectionError,
     QpackError,
     SectionTooLarge,
@@ -149,6 +150,21 @@ class EndsTest(unittest.TestCase):
         self.assertIsNone(decoder.next_ready())
         encoder.receive(decoder.take_decoder_stream())
         self.assertEqual((encoder.blocked, decoder.blocked), (0, 0))
+
+    def test_peek_prefix(self) -> None:
+        encoder, decoder = self.pair()
+        encoded = encoder.encode(8, REQUEST)
+        peeked = decoder.peek_prefix(encoded.section)
+        self.assertEqual((peeked.required, peeked.length, peeked.blocked), (encoded.required, 2, True))
+        self.assertEqual(decoder.peek_prefix(encoded.section[:2]), peeked)
+        self.assertEqual((decoder.blocked, decoder.take_decoder_stream()), (0, b""))
+        decoder.receive(encoder.take_encoder_stream())
+        self.assertEqual(decoder.peek_prefix(encoded.section), peeked._replace(blocked=False))
+        self.assertEqual(decoder.peek_prefix(b"\x02\x80"), Prefix(1, 0, 2, False))
+        self.assertEqual(decoder.peek_prefix(b"\x00\x00\xd1"), Prefix(0, 0, 2, False))
+        for section in (b"", b"\x02", b"\x00\x80"):
+            self.refused(DecompressionFailed, decoder.peek_prefix, section)
+        self.assertEqual(decoder.decode(8, encoded.section), REQUEST)
 
     def test_cancel(self) -> None:
         encoder, decoder = self.pair()

@@ -21,6 +21,7 @@ STRUCTS: Dict[str, Type[ctypes.Structure]] = {
     "encoded": _library.Encoded,
     "written": _library.Written,
     "received": _library.Received,
+    "prefix": _library.Prefix,
     "decoded_alone": _library.DecodedAlone,
     "decoded": _library.Decoded,
     "encoder_settings": _library.EncoderSettings,

@@ -1,0 +1,491 @@
+/* The calls of QPACK that nghttp3 0.8.0 has, over h3_qpack.h. This file takes the place of lib/nghttp3_qpack.c in the
+ * source of nghttp3; build says how.
+ *
+ * nghttp3 reads a section in pieces and takes a field at a time, and h3_qpack decodes whole sections. So each line is
+ * passed with the prefix of its section, as a section of its own, and the prefix alone at the section's start and end. The
+ * decoder acknowledges each. Of these acknowledgments the last is kept.
+ *
+ * With H3_QPACK_BOOKS nghttp3's own books of sections are kept besides, for the tests that look into them. After each call
+ * they must be what h3_qpack says. from_nghttp3.inc is what build takes from nghttp3's own file. */
+#include "nghttp3_qpack.h"
+
+#include <assert.h>
+#include <stdio.h>
+#include <stdlib.h>
+#include <string.h>
+
+#include "h3_qpack_lines.h"
+#include "nghttp3_macro.h"
+#include "nghttp3_str.h"
+
+/* The most blocked streams that a decoder of h3_qpack allows, and the capacity that it does not take. */
+#define MOST_BLOCKED 65534
+#define TOO_LARGE_CAPACITY ((size_t)1 << 30)
+/* The most bytes of an instruction of a decoder stream: an integer of 62 bits. */
+#define MOST_INSTRUCTION 11
+/* A cookie that is shorter is never indexed, as in nghttp3. */
+#define SHORT_COOKIE 20
+/* So many fields are passed without a call of malloc. */
+#define USUAL_FIELDS 64
+
+#include "from_nghttp3.inc"
+#include "h3_qpack_books.h"
+
+/* ---- The encoder */
+
+/* Fills in the numbers of nghttp3's struct. */
+static void note_encoder(nghttp3_qpack_encoder *encoder) {
+  h3_qpack_encoder *end = &encoder->own.end;
+  encoder->ctx.next_absidx = h3_qpack_encoder_get_icnt(end);
+  compare_books(encoder);
+  encoder->krcnt = h3_qpack_encoder_get_krcnt(end);
+}
+
+/* The encoder is made before the peer's settings are known. */
+int nghttp3_qpack_encoder_init(nghttp3_qpack_encoder *encoder, size_t hard_max_dtable_capacity,
+                               const nghttp3_mem *mem) {
+  h3_qpack_encoder_settings settings;
+  memset(encoder, 0, sizeof *encoder);
+  encoder->ctx.mem = mem;
+  encoder->ctx.hard_max_dtable_capacity = hard_max_dtable_capacity;
+  encoder->min_dtable_update = SIZE_MAX;
+  open_books(encoder);
+  h3_qpack_encoder_settings_default(&settings);
+  settings.capacity = hard_max_dtable_capacity;
+  return h3_qpack_encoder_new(&encoder->own.end, &settings) ? NGHTTP3_ERR_NOMEM : 0;
+}
+
+void nghttp3_qpack_encoder_free(nghttp3_qpack_encoder *encoder) {
+  close_books(encoder);
+  h3_qpack_encoder_del(&encoder->own.end);
+}
+
+/* The first maximum above 0 is the peer's setting. A maximum of 2^30 or more is taken as no table. */
+static void set_peer_capacity(nghttp3_qpack_encoder *encoder, size_t capacity) {
+  if (capacity >= TOO_LARGE_CAPACITY) capacity = 0;
+  if (h3_qpack_encoder_set_peer_settings(&encoder->own.end, capacity, encoder->ctx.max_blocked_streams)) return;
+  encoder->own.peer_capacity = capacity;
+  encoder->ctx.max_dtable_capacity = nghttp3_min(capacity, encoder->ctx.hard_max_dtable_capacity);
+}
+
+/* Later ones change the capacity before the next section whose entries allow it. */
+void nghttp3_qpack_encoder_set_max_dtable_capacity(nghttp3_qpack_encoder *encoder, size_t max_dtable_capacity) {
+  if (!encoder->own.peer_capacity) {
+    set_peer_capacity(encoder, max_dtable_capacity);
+    return;
+  }
+  max_dtable_capacity = nghttp3_min(max_dtable_capacity, encoder->ctx.hard_max_dtable_capacity);
+  if (encoder->ctx.max_dtable_capacity == max_dtable_capacity) return;
+  encoder->flags |= NGHTTP3_QPACK_ENCODER_FLAG_PENDING_SET_DTABLE_CAP;
+  encoder->last_max_dtable_update = max_dtable_capacity;
+  if (encoder->min_dtable_update > max_dtable_capacity)
+    encoder->min_dtable_update = encoder->ctx.max_dtable_capacity = max_dtable_capacity;
+}
+
+void nghttp3_qpack_encoder_set_max_blocked_streams(nghttp3_qpack_encoder *encoder, size_t max_blocked_streams) {
+  encoder->ctx.max_blocked_streams = max_blocked_streams;
+  h3_qpack_encoder_set_peer_settings(&encoder->own.end, encoder->own.peer_capacity, max_blocked_streams);
+}
+
+/* Sets the least capacity that was asked for since, and the last. Returns whether they wait for acknowledgments. */
+static int is_capacity_held(nghttp3_qpack_encoder *encoder) {
+  h3_qpack_encoder *end = &encoder->own.end;
+  if (!(encoder->flags & NGHTTP3_QPACK_ENCODER_FLAG_PENDING_SET_DTABLE_CAP)) return 0;
+  if (h3_qpack_encoder_set_capacity(end, encoder->min_dtable_update) ||
+      h3_qpack_encoder_set_capacity(end, encoder->last_max_dtable_update))
+    return 1;
+  encoder->min_dtable_update = SIZE_MAX;
+  encoder->ctx.max_dtable_capacity = encoder->last_max_dtable_update;
+  encoder->flags = NGHTTP3_QPACK_ENCODER_FLAG_NONE;
+  return 0;
+}
+
+/* What nghttp3 marks as never to be indexed is so here: what the caller marks, credentials and short cookies. */
+static uint8_t flags_of(const nghttp3_nv *nv) {
+  int32_t token = qpack_lookup_token(nv->name, nv->namelen);
+  return nv->flags & NGHTTP3_NV_FLAG_NEVER_INDEX || token == NGHTTP3_QPACK_TOKEN_AUTHORIZATION ||
+                 (token == NGHTTP3_QPACK_TOKEN_COOKIE && nv->valuelen < SHORT_COOKIE)
+             ? H3_QPACK_NV_FLAG_NEVER_INDEX
+             : 0;
+}
+
+/* Encodes fields, and writes the section to |section| if it has the room. While a lower capacity waits, no section
+ * references the table, so that it waits for the sections before alone. */
+static h3_qpack_encoded encode_fields(nghttp3_qpack_encoder *encoder, int64_t stream_id, const h3_qpack_nv *fields,
+                                      size_t count, int is_held, nghttp3_buf *section) {
+  uint8_t *room = section->last;
+  if (is_held) {
+    h3_qpack_written written = h3_qpack_encode_stateless(fields, count, room, nghttp3_buf_left(section));
+    return (h3_qpack_encoded){written.status, written.len, 0, 0};
+  }
+  return h3_qpack_encoder_encode(&encoder->own.end, (uint64_t)stream_id, fields, count, room,
+                                 nghttp3_buf_left(section));
+}
+
+/* The same with the room made that was missing. */
+static h3_qpack_encoded encode_to(nghttp3_qpack_encoder *encoder, int64_t stream_id, const h3_qpack_nv *fields,
+                                  size_t count, nghttp3_buf *section) {
+  int is_held = is_capacity_held(encoder);
+  h3_qpack_encoded encoded = encode_fields(encoder, stream_id, fields, count, is_held, section);
+  if (encoded.status != H3_QPACK_ERR_NO_ROOM) return encoded;
+  encoded.status = H3_QPACK_ERR_NO_MEMORY;
+  if (make_room(section, encoded.len, encoder->ctx.mem)) return encoded;
+  if (is_held) return encode_fields(encoder, stream_id, fields, count, is_held, section);
+  encoded.status = h3_qpack_encoder_section(&encoder->own.end, section->last, encoded.len).status;
+  return encoded;
+}
+
+/* Encodes fields of nghttp3. The section is written after what |rbuf| has. */
+static h3_qpack_encoded encode(nghttp3_qpack_encoder *encoder, int64_t stream_id, const nghttp3_nv *nva, size_t nvlen,
+                               nghttp3_buf *rbuf) {
+  h3_qpack_encoded encoded = {H3_QPACK_ERR_NO_MEMORY, 0, 0, 0};
+  h3_qpack_nv usual[USUAL_FIELDS], *fields = usual;
+  const nghttp3_mem *mem = encoder->ctx.mem;
+  if (nvlen > USUAL_FIELDS) fields = nghttp3_mem_calloc(mem, nvlen, sizeof *fields);
+  if (!fields) return encoded;
+  for (size_t i = 0; i < nvlen; i++)
+    fields[i] = (h3_qpack_nv){nva[i].name, nva[i].namelen, nva[i].value, nva[i].valuelen, flags_of(&nva[i])};
+  encoded = encode_to(encoder, stream_id, fields, nvlen, rbuf);
+  if (fields != usual) nghttp3_mem_free(mem, fields);
+  return encoded;
+}
+
+/* Returns the length of an integer whose first byte has that many bits of it. The section is the encoder's own. */
+static size_t integer_length(const uint8_t *at, unsigned bits) {
+  unsigned most = (1u << bits) - 1;
+  size_t length = 1;
+  if ((at[0] & most) < most) return length;
+  while (at[length++] & 0x80) continue;
+  return length;
+}
+
+/* Moves the prefix of the section that was written after |rbuf| to |pbuf|, and leaves its lines in |rbuf|. */
+static int split_section(nghttp3_buf *pbuf, nghttp3_buf *rbuf, size_t length, const nghttp3_mem *mem) {
+  uint8_t *section = rbuf->last;
+  size_t prefix = integer_length(section, 8);
+  prefix += integer_length(section + prefix, 7);
+  if (make_room(pbuf, prefix, mem)) return NGHTTP3_ERR_NOMEM;
+  pbuf->last = nghttp3_cpymem(pbuf->last, section, prefix);
+  memmove(section, section + prefix, length - prefix);
+  rbuf->last += length - prefix;
+  return 0;
+}
+
+/* Appends what is to be sent on the encoder stream to |ebuf|. */
+static int write_instructions(nghttp3_qpack_encoder *encoder, nghttp3_buf *ebuf) {
+  size_t length = h3_qpack_encoder_get_encoder_streamlen(&encoder->own.end);
+  if (!length) return 0;
+  if (make_room(ebuf, length, encoder->ctx.mem)) return NGHTTP3_ERR_NOMEM;
+  ebuf->last += h3_qpack_encoder_write_encoder(&encoder->own.end, ebuf->last, length);
+  return 0;
+}
+
+/* After an error the encoder is not to be used, as in nghttp3: a section may be lost that the peer is to acknowledge. */
+int nghttp3_qpack_encoder_encode(nghttp3_qpack_encoder *encoder, nghttp3_buf *pbuf, nghttp3_buf *rbuf, nghttp3_buf *ebuf,
+                                 int64_t stream_id, const nghttp3_nv *nva, size_t nvlen) {
+  h3_qpack_encoded encoded;
+  int rv;
+  if (encoder->ctx.bad) return NGHTTP3_ERR_QPACK_FATAL;
+  encoded = encode(encoder, stream_id, nva, nvlen, rbuf);
+  rv = encoded.status == H3_QPACK_ERR_NO_MEMORY ? NGHTTP3_ERR_NOMEM : encoded.status ? NGHTTP3_ERR_QPACK_FATAL : 0;
+  if (!rv) rv = split_section(pbuf, rbuf, encoded.len, encoder->ctx.mem);
+  if (!rv) rv = write_instructions(encoder, ebuf);
+  if (!rv) rv = note_section(encoder, stream_id, encoded.required);
+  if (!rv) note_encoder(encoder);
+  encoder->ctx.bad = rv != 0;
+  return rv;
+}
+
+nghttp3_ssize nghttp3_qpack_encoder_read_decoder(nghttp3_qpack_encoder *encoder, const uint8_t *src, size_t srclen) {
+  h3_qpack_received received = h3_qpack_encoder_read_decoder(&encoder->own.end, src, srclen);
+  note_feedback(encoder, src, srclen, received.status);
+  if (received.status) return NGHTTP3_ERR_QPACK_DECODER_STREAM_ERROR;
+  note_encoder(encoder);
+  return (nghttp3_ssize)srclen;
+}
+
+/* Calls that say what an instruction says: it is written and read. */
+static int read_instruction(nghttp3_qpack_encoder *encoder, uint8_t form, uint64_t number, size_t bits) {
+  uint8_t text[MOST_INSTRUCTION] = {form}, *end = nghttp3_qpack_put_varint(text, number, bits);
+  return nghttp3_qpack_encoder_read_decoder(encoder, text, (size_t)(end - text)) < 0
+             ? NGHTTP3_ERR_QPACK_DECODER_STREAM_ERROR
+             : 0;
+}
+
+int nghttp3_qpack_encoder_ack_header(nghttp3_qpack_encoder *encoder, int64_t stream_id) {
+  return read_instruction(encoder, 0x80, (uint64_t)stream_id, 7);
+}
+
+int nghttp3_qpack_encoder_add_icnt(nghttp3_qpack_encoder *encoder, uint64_t n) {
+  return read_instruction(encoder, 0, n, 6);
+}
+
+void nghttp3_qpack_encoder_cancel_stream(nghttp3_qpack_encoder *encoder, int64_t stream_id) {
+  read_instruction(encoder, 0x40, (uint64_t)stream_id, 6);
+}
+
+/* Acknowledges the insertions. No call of h3_qpack acknowledges all sections. */
+void nghttp3_qpack_encoder_ack_everything(nghttp3_qpack_encoder *encoder) {
+  size_t count = h3_qpack_encoder_get_icnt(&encoder->own.end) - h3_qpack_encoder_get_krcnt(&encoder->own.end);
+  if (count) nghttp3_qpack_encoder_add_icnt(encoder, count);
+}
+
+size_t nghttp3_qpack_encoder_get_num_blocked_streams(nghttp3_qpack_encoder *encoder) {
+  return h3_qpack_encoder_get_num_blocked(&encoder->own.end);
+}
+
+int nghttp3_qpack_encoder_new(nghttp3_qpack_encoder **pencoder, size_t hard_max_dtable_capacity,
+                              const nghttp3_mem *mem) {
+  nghttp3_qpack_encoder *encoder = nghttp3_mem_malloc(mem, sizeof *encoder);
+  int rv = encoder ? nghttp3_qpack_encoder_init(encoder, hard_max_dtable_capacity, mem) : NGHTTP3_ERR_NOMEM;
+  if (rv) nghttp3_mem_free(mem, encoder);
+  else *pencoder = encoder;
+  return rv;
+}
+
+void nghttp3_qpack_encoder_del(nghttp3_qpack_encoder *encoder) {
+  if (!encoder) return;
+  nghttp3_qpack_encoder_free(encoder);
+  nghttp3_mem_free(encoder->ctx.mem, encoder);
+}
+
+/* ---- The decoder */
+
+/* Fills in the numbers of nghttp3's struct. */
+static void note_decoder(nghttp3_qpack_decoder *decoder) {
+  decoder->ctx.next_absidx = h3_qpack_decoder_get_icnt(&decoder->own.end);
+  note_table(decoder);
+}
+
+/* Returns the error of a status. After it the decoder is not to be used, as in nghttp3. */
+static int fail(nghttp3_qpack_decoder *decoder, int32_t status) {
+  decoder->ctx.bad = 1;
+  switch (status) {
+  case H3_QPACK_ERR_NO_MEMORY: return NGHTTP3_ERR_NOMEM;
+  case H3_QPACK_ERR_TOO_LARGE: return NGHTTP3_ERR_QPACK_HEADER_TOO_LARGE;
+  case H3_QPACK_ENCODER_STREAM_ERROR: return NGHTTP3_ERR_QPACK_ENCODER_STREAM_ERROR;
+  case H3_QPACK_DECOMPRESSION_FAILED: return NGHTTP3_ERR_QPACK_DECOMPRESSION_FAILED;
+  default: return NGHTTP3_ERR_QPACK_FATAL;
+  }
+}
+
+int nghttp3_qpack_decoder_init(nghttp3_qpack_decoder *decoder, size_t hard_max_dtable_capacity,
+                               size_t max_blocked_streams, const nghttp3_mem *mem) {
+  h3_qpack_decoder_settings settings;
+  int status;
+  memset(decoder, 0, sizeof *decoder);
+  decoder->ctx.mem = mem;
+  decoder->ctx.hard_max_dtable_capacity = hard_max_dtable_capacity;
+  decoder->ctx.max_blocked_streams = max_blocked_streams;
+  nghttp3_buf_init(&decoder->dbuf);
+  h3_qpack_decoder_settings_default(&settings);
+  settings.max_capacity = hard_max_dtable_capacity;
+  settings.max_blocked = nghttp3_min(max_blocked_streams, MOST_BLOCKED);
+  settings.max_section_size = UINT64_MAX;
+  status = h3_qpack_decoder_new(&decoder->own.end, &settings);
+  return status == H3_QPACK_ERR_NO_MEMORY ? NGHTTP3_ERR_NOMEM : status ? NGHTTP3_ERR_INVALID_ARGUMENT : 0;
+}
+
+void nghttp3_qpack_decoder_free(nghttp3_qpack_decoder *decoder) {
+  nghttp3_buf_free(&decoder->dbuf, decoder->ctx.mem);
+  h3_qpack_decoder_del(&decoder->own.end);
+}
+
+nghttp3_ssize nghttp3_qpack_decoder_read_encoder(nghttp3_qpack_decoder *decoder, const uint8_t *src, size_t srclen) {
+  h3_qpack_received received;
+  if (decoder->ctx.bad) return NGHTTP3_ERR_QPACK_FATAL;
+  received = h3_qpack_decoder_read_encoder(&decoder->own.end, src, srclen);
+  if (received.status) return fail(decoder, received.status);
+  note_decoder(decoder);
+  return (nghttp3_ssize)srclen;
+}
+
+/* The peer's instructions alone set the capacity. */
+int nghttp3_qpack_decoder_set_max_dtable_capacity(nghttp3_qpack_decoder *decoder, size_t max_dtable_capacity) {
+  (void)decoder;
+  (void)max_dtable_capacity;
+  return NGHTTP3_ERR_INVALID_ARGUMENT;
+}
+
+void nghttp3_qpack_decoder_set_max_concurrent_streams(nghttp3_qpack_decoder *decoder, size_t max_concurrent_streams) {
+  decoder->max_concurrent_streams = nghttp3_max(decoder->max_concurrent_streams, max_concurrent_streams);
+}
+
+uint64_t nghttp3_qpack_decoder_get_icnt(const nghttp3_qpack_decoder *decoder) { return decoder->ctx.next_absidx; }
+
+/* Moves what the decoder has to send to |dbuf|, where nghttp3 has it. */
+static int keep_instructions(nghttp3_qpack_decoder *decoder) {
+  size_t length = h3_qpack_decoder_get_decoder_streamlen(&decoder->own.end);
+  if (!length) return 0;
+  if (make_room(&decoder->dbuf, length, decoder->ctx.mem)) return NGHTTP3_ERR_NOMEM;
+  decoder->dbuf.last += h3_qpack_decoder_write_decoder(&decoder->own.end, decoder->dbuf.last, length);
+  return 0;
+}
+
+/* Whether the peer lets more pile up than nghttp3 allows: two instructions for each stream. */
+static int is_too_much(nghttp3_qpack_decoder *decoder) {
+  return nghttp3_qpack_decoder_get_decoder_streamlen(decoder) >
+         nghttp3_max(decoder->max_concurrent_streams, 100) * 2 * 10;
+}
+
+size_t nghttp3_qpack_decoder_get_decoder_streamlen(nghttp3_qpack_decoder *decoder) {
+  return nghttp3_buf_len(&decoder->dbuf) + h3_qpack_decoder_get_decoder_streamlen(&decoder->own.end);
+}
+
+void nghttp3_qpack_decoder_write_decoder(nghttp3_qpack_decoder *decoder, nghttp3_buf *dbuf) {
+  if (nghttp3_buf_len(&decoder->dbuf))
+    dbuf->last = nghttp3_cpymem(dbuf->last, decoder->dbuf.pos, nghttp3_buf_len(&decoder->dbuf));
+  nghttp3_buf_reset(&decoder->dbuf);
+  dbuf->last += h3_qpack_decoder_write_decoder(&decoder->own.end, dbuf->last, nghttp3_buf_left(dbuf));
+  decoder->written_icnt = h3_qpack_decoder_get_icnt(&decoder->own.end);
+}
+
+int nghttp3_qpack_decoder_cancel_stream(nghttp3_qpack_decoder *decoder, int64_t stream_id) {
+  int status;
+  if (is_too_much(decoder)) return NGHTTP3_ERR_QPACK_FATAL;
+  status = h3_qpack_decoder_cancel_stream(&decoder->own.end, (uint64_t)stream_id);
+  return status ? fail(decoder, status) : keep_instructions(decoder);
+}
+
+int nghttp3_qpack_decoder_new(nghttp3_qpack_decoder **pdecoder, size_t hard_max_dtable_capacity,
+                              size_t max_blocked_streams, const nghttp3_mem *mem) {
+  nghttp3_qpack_decoder *decoder = nghttp3_mem_malloc(mem, sizeof *decoder);
+  int rv = decoder ? nghttp3_qpack_decoder_init(decoder, hard_max_dtable_capacity, max_blocked_streams, mem)
+                   : NGHTTP3_ERR_NOMEM;
+  if (rv) nghttp3_mem_free(mem, decoder);
+  else *pdecoder = decoder;
+  return rv;
+}
+
+void nghttp3_qpack_decoder_del(nghttp3_qpack_decoder *decoder) {
+  if (!decoder) return;
+  nghttp3_qpack_decoder_free(decoder);
+  nghttp3_mem_free(decoder->ctx.mem, decoder);
+}
+
+/* ---- A section in pieces */
+
+void nghttp3_qpack_stream_context_init(nghttp3_qpack_stream_context *sctx, int64_t stream_id, const nghttp3_mem *mem) {
+  memset(sctx, 0, sizeof *sctx);
+  sctx->mem = mem;
+  sctx->stream_id = stream_id;
+}
+
+void nghttp3_qpack_stream_context_free(nghttp3_qpack_stream_context *sctx) {
+  nghttp3_buf_free(&sctx->own.text, sctx->mem);
+}
+
+void nghttp3_qpack_stream_context_reset(nghttp3_qpack_stream_context *sctx) {
+  nghttp3_qpack_stream_context_free(sctx);
+  nghttp3_qpack_stream_context_init(sctx, sctx->stream_id, sctx->mem);
+}
+
+uint64_t nghttp3_qpack_stream_context_get_ricnt(nghttp3_qpack_stream_context *sctx) { return sctx->ricnt; }
+
+int nghttp3_qpack_stream_context_new(nghttp3_qpack_stream_context **psctx, int64_t stream_id, const nghttp3_mem *mem) {
+  nghttp3_qpack_stream_context *sctx = nghttp3_mem_malloc(mem, sizeof *sctx);
+  if (!sctx) return NGHTTP3_ERR_NOMEM;
+  nghttp3_qpack_stream_context_init(sctx, stream_id, mem);
+  *psctx = sctx;
+  return 0;
+}
+
+void nghttp3_qpack_stream_context_del(nghttp3_qpack_stream_context *sctx) {
+  if (!sctx) return;
+  nghttp3_qpack_stream_context_free(sctx);
+  nghttp3_mem_free(sctx->mem, sctx);
+}
+
+/* Decodes |length| bytes of the section's text, with an acknowledgment at its end alone. */
+static h3_qpack_decoded decode(nghttp3_qpack_decoder *decoder, nghttp3_qpack_stream_context *sctx, size_t length,
+                               int is_end) {
+  h3_qpack_decoded decoded = {H3_QPACK_ERR_NO_MEMORY, 0, 0, 0, 0, 0};
+  h3_qpack_decoder *end = &decoder->own.end;
+  uint8_t dropped[MOST_INSTRUCTION];
+  if (keep_instructions(decoder)) return decoded;
+  decoded = h3_qpack_decoder_decode(end, (uint64_t)sctx->stream_id, sctx->own.text.pos, length);
+  if (!decoded.status && decoded.required && !is_end) h3_qpack_decoder_write_decoder(end, dropped, sizeof dropped);
+  if (sctx->own.is_read && decoded.required != sctx->ricnt && !decoded.status)
+    decoded.status = H3_QPACK_DECOMPRESSION_FAILED;
+  return decoded;
+}
+
+/* Reads the prefix, and says whether the section is blocked. A section that was blocked goes on here. */
+static int32_t begin_section(nghttp3_qpack_decoder *decoder, nghttp3_qpack_stream_context *sctx, const uint8_t **src,
+                             const uint8_t *end) {
+  nghttp3_buf *text = &sctx->own.text;
+  h3_qpack_decoded decoded;
+  if (!sctx->own.prefix) {
+    extent found = gather(sctx, pass_prefix, src, end);
+    if (found != WHOLE) return found == INCOMPLETE ? H3_QPACK_OK : status_of(found);
+    sctx->own.prefix = nghttp3_buf_len(text);
+  }
+  decoded = decode(decoder, sctx, sctx->own.prefix, 0);
+  sctx->ricnt = decoded.required;
+  sctx->own.is_read = !decoded.status;
+  return decoded.status;
+}
+
+/* Copies the field of the line that was decoded last. The line gives its room to the bytes of the field. */
+static int copy_field(nghttp3_qpack_decoder *decoder, nghttp3_qpack_stream_context *sctx, size_t length,
+                      nghttp3_qpack_nv *nv) {
+  nghttp3_buf *text = &sctx->own.text;
+  h3_qpack_field field;
+  text->last = text->pos + sctx->own.prefix;
+  if (make_room(text, length, sctx->mem)) return NGHTTP3_ERR_NOMEM;
+  field = h3_qpack_decoder_field(&decoder->own.end, 0, text->last, length);
+  if (field.status) return NGHTTP3_ERR_QPACK_FATAL;
+  if (nghttp3_rcbuf_new2(&nv->name, text->last, field.namelen, decoder->ctx.mem)) return NGHTTP3_ERR_NOMEM;
+  if (nghttp3_rcbuf_new2(&nv->value, text->last + field.namelen, field.valuelen, decoder->ctx.mem)) {
+    nghttp3_rcbuf_decref(nv->name);
+    return NGHTTP3_ERR_NOMEM;
+  }
+  nv->token = qpack_lookup_token(text->last, field.namelen);
+  nv->flags = field.flags & H3_QPACK_NV_FLAG_NEVER_INDEX ? NGHTTP3_NV_FLAG_NEVER_INDEX : NGHTTP3_NV_FLAG_NONE;
+  return 0;
+}
+
+/* Decodes the line that has arrived. */
+static int read_line(nghttp3_qpack_decoder *decoder, nghttp3_qpack_stream_context *sctx, nghttp3_qpack_nv *nv,
+                     uint8_t *pflags) {
+  h3_qpack_decoded decoded = decode(decoder, sctx, nghttp3_buf_len(&sctx->own.text), 0);
+  int rv = decoded.status ? fail(decoder, decoded.status) : copy_field(decoder, sctx, decoded.len, nv);
+  if (!rv) *pflags |= NGHTTP3_QPACK_DECODE_FLAG_EMIT;
+  decoder->ctx.bad |= rv != 0;
+  return rv;
+}
+
+/* Ends the section: the acknowledgment of the prefix is that of all. A part of a line is invalid then. */
+static int end_section(nghttp3_qpack_decoder *decoder, nghttp3_qpack_stream_context *sctx, uint8_t *pflags) {
+  h3_qpack_decoded decoded;
+  if (!sctx->own.is_read || nghttp3_buf_len(&sctx->own.text) > sctx->own.prefix)
+    return fail(decoder, H3_QPACK_DECOMPRESSION_FAILED);
+  if (is_too_much(decoder)) return fail(decoder, H3_QPACK_ERR_NO_ROOM);
+  decoded = decode(decoder, sctx, sctx->own.prefix, 1);
+  if (decoded.status) return fail(decoder, decoded.status);
+  if (keep_instructions(decoder)) return fail(decoder, H3_QPACK_ERR_NO_MEMORY);
+  decoder->written_icnt = nghttp3_max(decoder->written_icnt, decoded.required);
+  *pflags |= NGHTTP3_QPACK_DECODE_FLAG_FINAL;
+  return 0;
+}
+
+nghttp3_ssize nghttp3_qpack_decoder_read_request(nghttp3_qpack_decoder *decoder, nghttp3_qpack_stream_context *sctx,
+                                                 nghttp3_qpack_nv *nv, uint8_t *pflags, const uint8_t *src,
+                                                 size_t srclen, int fin) {
+  const uint8_t *at = src, *end = srclen ? src + srclen : src;
+  extent found;
+  int rv = 0;
+  *pflags = NGHTTP3_QPACK_DECODE_FLAG_NONE;
+  if (decoder->ctx.bad) return NGHTTP3_ERR_QPACK_FATAL;
+  if (!sctx->own.is_read) {
+    int32_t status = begin_section(decoder, sctx, &at, end);
+    if (status == H3_QPACK_BLOCKED) *pflags |= NGHTTP3_QPACK_DECODE_FLAG_BLOCKED;
+    else if (status) return fail(decoder, status);
+    if (status || (!sctx->own.is_read && !fin)) return at - src;
+  }
+  found = sctx->own.is_read ? gather(sctx, pass_line, &at, end) : INCOMPLETE;
+  if (found == WHOLE) rv = read_line(decoder, sctx, nv, pflags);
+  else if (found != INCOMPLETE) rv = fail(decoder, status_of(found));
+  else if (fin) rv = end_section(decoder, sctx, pflags);
+  return rv ? rv : at - src;
+}
