@@ -212,6 +212,31 @@ def write_part(title, items):
     return [f"## {head}", "", *said, *(line for it in items for line in write_item(it))]
 
 
+def rows_by_status(header):
+    """Returns the rows of all calls by their statuses: a call, and what the status means of it, if that is said."""
+    found = {}
+    for call in header.calls:
+        for names, said in (text for kind, text in call.text.parts if kind == "row"):
+            for name in names.split(", "):
+                found.setdefault(name, []).extend([(call.name, said)] if said else [])
+    return found
+
+
+def write_statuses(header):
+    """Returns the lines on each status: the calls that return it."""
+    constants = [row for _, items in header.parts for it in items if isinstance(it, Constants) for row in it.rows]
+    found = rows_by_status(header)
+    unknown = set(found) - {name for name, _, _ in constants} - {"above 0"}
+    if unknown:
+        fail(f"a row is about a status that the header does not have: {', '.join(sorted(unknown))}")
+    rows = [
+        f"| {'' if at else f'`{name}` {write_value(value)}'} | [`{call}`](#{call}) | {marked(said)} |"
+        for name, value, _ in constants for at, (call, said) in enumerate(found.get(name, []))
+    ]
+    said = "What each status means, call by call."
+    return ["## By status", "", said, "", "| status | call | what it means, and what to do |", "|---|---|---|", *rows, ""]
+
+
 def write_page(header):
     """Returns the page."""
     rows = [f"| [`{it.name}`](#{it.name}) | {marked(it.text.summary())} |" for it in header.calls]
@@ -224,6 +249,7 @@ def write_page(header):
     ]
     for title, items in header.parts:
         lines += write_part(title, items)
+    lines += write_statuses(header)
     return re.sub(r"\n{3,}", "\n\n", "\n".join(lines)).rstrip("\n") + "\n"
 
 

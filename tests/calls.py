@@ -16,14 +16,14 @@ from definitions import CRATES, TOP, cell, plain, read_crates, table
 
 FRONT = TOP / "tests" / "calls.md"
 PAGE = TOP / "docs" / "CALLS.md"
-# The crates with calls, those that a user begins with first. The calls of C are in the header.
+# The crates with calls, those that a user begins with first. The header is over the calls of h3_qpack_c.
 OF_CALLS = [
-    "qpack_ends", "qpack_connection", "h3_qpack", "qpack_codec", "qpack_table", "qpack_wire", "qpack_base",
+    "qpack_ends", "qpack_connection", "h3_qpack", "qpack_codec", "qpack_table", "qpack_wire", "qpack_base", "h3_qpack_c",
     "qpk_show", "qpk_view", "qpk_qif", "qpk",
 ]
 # What a type, a trait or a call begins with, at the start of a line or in the block of a type.
 BLOCK = re.compile(r"^(?:impl(?:<.*?>)? (?:[\w<>', ]+ for )?|pub trait )(\w+)")
-CALL = re.compile(r"^( *)(pub )?(?:const )?fn (\w+)")
+CALL = re.compile(r"^( *)(pub )?(?:const |extern \"C\" )?fn (\w+)")
 ENUM = re.compile(r"^pub enum (\w+)")
 VARIANT = re.compile(r"^    (\w+) ?(?:[({,].*)?$")
 NAME = re.compile(r"\b[A-Z]\w+|\b[a-z]+_[a-z_]+\b")

@@ -15,16 +15,34 @@ from pathlib import Path
 TOP = Path(__file__).resolve().parent.parent
 # Folders that are made by building, and that of git.
 MADE = {".git", "out", "build", "__pycache__"}
-# Where copies stand, where they are copied from, and what is copied.
+# The assembly of dist/ by the names that Go reads the system and the processor of.
+FOR_GO = {
+    "x86_64-elf.s": "library_linux_amd64.s",
+    "aarch64-elf.s": "library_linux_arm64.s",
+    "riscv64-elf.s": "library_linux_riscv64.s",
+    "x86_64-macho.s": "library_darwin_amd64.s",
+    "aarch64-macho.s": "library_darwin_arm64.s",
+    "x86_64-coff.s": "library_windows_amd64.s",
+}
+# The files of dist/ that the library is built of, beside the assembly.
+LIBRARY = ["h3_qpack.h", "h3_qpack.c", "heap.c"]
+# Where copies stand, where they are copied from, and what is copied: patterns, or names with those of their copies.
 COPIES = [
     ("rust/h3_qpack", ".", ["LICENSE"]),
     ("bindings/go", ".", ["LICENSE"]),
+    ("bindings/go", "dist", LIBRARY),
+    ("bindings/go", "dist", FOR_GO),
+    ("bindings/go/qpack", ".", ["LICENSE"]),
     ("bindings/python", ".", ["LICENSE"]),
+    ("bindings/python/native", "dist", [*LIBRARY, "h3_qpack.map", "x86_64-elf.s", "aarch64-elf.s", "riscv64-elf.s"]),
+    ("bindings/python/native", "dist", ["x86_64-macho.s", "aarch64-macho.s"]),
     ("bindings/pylsqpack", ".", ["LICENSE"]),
+    ("bindings/pylsqpack", "bindings/python", ["build_backend.py"]),
     ("rust/h3_qpack/generated", "dist", ["[!q]*-elf.s", "*-coff.s", "*-macho.s"]),
     ("rust/h3_qpack/tests", "c/tests", ["layout.txt"]),
     ("rust/h3_qpack/tests/data", "crates/qpack_tests/data", ["corpus.qif", "nghttp3_*.txt", "stateless_h3.tsv"]),
     ("examples/http3-server/www", "dist/report", ["element.js", "qpack.css"]),
+    ("dist/tab", "examples/http3-server/www", ["qpack.js", "tables.js"]),
 ]
 
 
@@ -35,7 +53,8 @@ def list_copies():
             found = sorted((TOP / source).glob(pattern))
             if not found:
                 sys.exit(f"copies: {source} has no file {pattern}")
-            yield from ((TOP / folder / it.name, it) for it in found)
+            names = patterns if isinstance(patterns, dict) else {}
+            yield from ((TOP / folder / names.get(it.name, it.name), it) for it in found)
 
 
 def write_copies():

@@ -43,6 +43,10 @@ FOLLOWING = [
     # An acknowledgment of a section whose prefix is refused, and one of another stream.
     (f"> e {INSERT}\n> b 4 ff7f80\n< d 84\n", [3], [1]),
     (f"> e {INSERT}\n> b 4 ff7f80\n< d 88\n", [3, 4], [0, 0]),
+    # Lists in which an index hits another entry, and one that is no message by itself.
+    (f"> e {INSERT}\n> b 4 0200d1d780\n> b 8 0200d1d780\n> b 12 0000d1\n", [3, 5], [1, 0]),
+    # What is no error of the connection ends nothing.
+    (f"> e {INSERT}\n> b 4 0000d1\n> b 8 0380\n", [3, 4], [0, 0]),
     # The tables of both ends are apart.
     ("> s 4096 4\n> b 4 0000ff24\n< b 4 020080\n", [3, 4], [0, 0]),
 ]

@@ -17,7 +17,7 @@ import tempfile
 import time
 from pathlib import Path
 
-from running import TOP, answers_at_once, can_decrypt, cost_of, install, missing_tool, on_terminal, run_tests
+from running import TOP, answers_at_once, are_linear, can_decrypt, cost_of, install, missing_tool, on_terminal, run_tests
 from running import shows_no_fault_of_a_script
 
 FOLDER = tempfile.TemporaryDirectory(prefix="h3-qpack-front-")  # which ends with the script
@@ -189,7 +189,7 @@ def test_a_long_recording():
             seconds, _ = cost_of([PROGRAM, word], short, subprocess.DEVNULL)
             more, memory = cost_of([PROGRAM, word], long, subprocess.DEVNULL)
         most = 3 * (ROOM / "long").stat().st_size // 1024
-        assert more <= 6 * seconds + 0.02 and memory <= most, (word, seconds, more, memory)
+        assert are_linear(seconds, more) and memory <= most, (word, seconds, more, memory)
 
 
 def test_recordings_of_the_interop():
@@ -254,7 +254,7 @@ def test_help_on_all():
             lines = output.splitlines()
             assert (status, said) == (0, b"") and [it for it in lines if it in expected] == expected, (words, output)
             added = [it.split()[0] for it in lines if it not in expected]
-            assert added == [b"report", b"stats", b"table", b"tune", b"strip"], output
+            assert added == [b"report", b"open", b"stats", b"table", b"tune", b"strip"], output
 
 
 def test_commands_of_the_script_for_captures():
@@ -370,14 +370,14 @@ def is_program(pid):
 
 
 def test_a_command_that_is_a_script():
-    """report, stats and table go to their script, which has the program in a variable."""
+    """report, open, stats and table go to their script, which has the program in a variable."""
     script = PROGRAM.parent / "qpk-report"
     kept = script.with_suffix(".kept")
     script.rename(kept)
     script.write_text('#!/bin/sh\necho "$QPK" "$@"\nexit 7\n')
     script.chmod(0o755)
     try:
-        for command in ("report", "stats", "table"):
+        for command in ("report", "open", "stats", "table"):
             status, output, _ = run(INSTALLED, command, "x y", "--color=always")
             program, words = output.decode().split(" ", 1)
             assert (status, words) == (7, f"{command} x y --color=always\n") and os.path.samefile(program, PROGRAM)

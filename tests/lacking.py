@@ -26,6 +26,12 @@ from qpk_lines import ENDS
 from sealed import CLIENT, SERVER, Made, ack_frame, ip_packets, pcapng
 
 
+# A decoder that acknowledges no section, while its end sends other lines.
+SILENT = "\n".join(
+    ["> e 3fe11f6294e7838c767f", *(f"> b {4 * it} 020080" for it in range(16)), *(f"< b {4 * it} 0000d9" for it in range(16))]
+)
+
+
 def test_packets_left_out():
     """1 % of the packets, in 15 trials each: no end is accused, and what is missing is named."""
     seen = set()
@@ -154,6 +160,11 @@ def test_which_findings_are_perhaps():
         ("< d 84", ("client",)),
         ("< d 00", ()),
         ("< d 01", ("client",)),
+        ("< s 64 9\n> e 3f216294e7838c767f\n> b 0 020080\n< d 01\n> e c1017a", ("client", "server")),  # evicted early
+        ("> e 3fe11f6294e7838c767f20\n< d 44", ("client", "server")),  # the same, of an insertion
+        ("< s 4096 0\n> e 3fe11f6294e7838c767f\n> b 0 020080\n< d 80", ("client", "server", "limits")),  # could be blocked
+        (SILENT, ("client", "server")),
+        ("> b 0 0000d1", ("client",)),  # a request without :scheme
         ("> b 0 020080", ("nothing", "client", "server", "limits")),  # blocked to the end
         ("> e 3f", ("nothing", "client", "server", "limits")),
     ):

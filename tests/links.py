@@ -11,14 +11,14 @@ import sys
 from pathlib import Path
 
 TOP = Path(__file__).resolve().parent.parent
-DOCUMENTS = ["*.md", "docs/*.md", "dist/README.md", "rust/README.md", "bindings/README.md", "examples/*/README.md"]
+DOCUMENTS = ["*.md", "docs/*.md", "docs/dev/*.md", "*/README.md", "bindings/*/README.md", "examples/*/README.md"]
 SOURCES = [
     "crates/*/src/**/*.rt", "crates/*/specs/**/*.antt", "crates/*/proofs/**/*.antt", "c/**/*.[ch]", "c/**/*.sh",
     "include/*.h", "rust/*/src/**/*.rs", "dist/*.c", "dist/qpk.1", "dist/Makefile", "dist/generate", "dist/check",
     "dist/fits", "dist/lists", "dist/modules", "dist/place", "dist/processor", "dist/texts", "dist/tests/*.sh", "tests/*.py", "tests/*.sh", ".ci/*", "test", "qpk",
 ]
 LINK = re.compile(r"\]\(([^)#\s]*)(?:#([^)\s]*))?\)")
-NAMED = re.compile(r"\bdocs/[\w-]+\.(?:md|tsv|png)\b")
+NAMED = re.compile(r"\bdocs/(?:dev/)?[\w-]+\.(?:md|tsv|png)\b")
 
 
 def find_headings(text):
@@ -46,7 +46,7 @@ def find_broken(path):
 
 
 def main():
-    files = [path for it in DOCUMENTS + SOURCES for path in sorted(TOP.glob(it)) if path.is_file()]
+    files = sorted({path for it in DOCUMENTS + SOURCES for path in TOP.glob(it) if path.is_file()})
     broken = [f"{path.relative_to(TOP)}:{line}: {link}" for path in files for line, link in find_broken(path)]
     for it in broken:
         print(it)

@@ -21,7 +21,7 @@ from qpk_lines import ENDS, MARKS, PEER, pieces_of_lines
 
 TABLE = TOP / "tests" / "planted" / "faults.tsv"
 COLUMNS = ("fault", "recording", "where", "end", "subject", "byte", "section", "code", "cause")
-CONNECTIONS = {"firefox": 0, "ngtcp2-gso": 0, "ngtcp2-update": 2}
+CONNECTIONS = {"chromium": 0, "firefox": 0, "ngtcp2-gso": 0, "ngtcp2-update": 2}
 NEW_STREAM = 4000
 KINDS = {"encoder": "e", "decoder": "d"}
 
@@ -109,7 +109,7 @@ def planted(row):
     kind = KINDS.get(row["subject"])
     own = [f"@9 {mark} {kind} {data}" if kind else f"@9 {mark} b {NEW_STREAM} {data}"]
     if row["fault"] == "an acknowledgment of a section without references":
-        own = [f"@9 {peer} b {NEW_STREAM} 0000d1", *own]
+        own = [f"@9 {peer} b {NEW_STREAM} 0000d1d7c1500161", *own]
     return lines[:at] + own + lines[at:], at + len(own), before
 
 

@@ -14,6 +14,7 @@ import time
 from captures import mutated
 from connections import LINES, WORDS, assert_whole, file_of, joined, made, read, run_with_libcrypto, words_of
 from running import assert_linear
+from slowness import measure_slowness
 
 # These are in dist/, which captures.py puts into the path of modules.
 import qpk_datagrams
@@ -278,7 +279,7 @@ def test_bounds_of_a_hostile_capture():
         reader.read(at, qpk_datagrams.Datagram((bytes(4), at % 900), (bytes(4), 443), data, False))
     reader.finish()
     assert reader.room.tries <= qpk_strangers.MOST_TRIES + 64 * 50
-    assert time.process_time() - begin < 20
+    assert time.process_time() - begin < 20 * measure_slowness()
 
     def many(size):
         reader = qpk_reader.Reader(qpk_keys.KeyLog())
@@ -352,7 +353,7 @@ def test_packet_numbers():
 
 
 def test_many_requests():
-    """1,000 requests are read in at most 2.5 seconds of the processor, which is five times what it takes."""
+    """1,000 requests are read in at most 2.5 seconds of a usual processor, which is five times what it takes."""
     connection = Made().begin()
     connection.take([f"@0 {mark} s 4096 16" for mark in "<>"])
     for number in range(1000):
@@ -361,7 +362,7 @@ def test_many_requests():
             connection.send(mark, connection.packet(mark, frames))
     begin = time.process_time()
     (found,) = read(file_of(connection))
-    assert len(found.lines) == 2002 and time.process_time() - begin < 2.5
+    assert len(found.lines) == 2002 and time.process_time() - begin < 2.5 * measure_slowness()
 
 
 if __name__ == "__main__":

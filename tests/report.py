@@ -22,7 +22,7 @@ import zlib
 from pathlib import Path
 from unittest import mock
 
-from running import FORMED, PLAIN, TOP, assert_linear, can_decrypt, cost_of, run_tests, shows_no_fault_of_a_script
+from running import FORMED, PLAIN, TOP, are_linear, assert_linear, can_decrypt, cost_of, run_tests, shows_no_fault_of_a_script
 
 sys.dont_write_bytecode = True
 sys.path[:0] = [str(TOP / "dist"), str(TOP / "tests" / "browsers")]
@@ -268,12 +268,12 @@ def cost_of_report(*words, text):
 
 
 def test_large_recordings():
-    """Four times the sections take at most six times the time, and no more than 150 MB. The numbers are those of all."""
+    """The time is linear in the sections, and 40,000 take at most 150 MB. The numbers are those of all."""
     beginning, sections = "e 3fe11f6294e7838c767f\n", 40_000
     small, large = ("".join(f"b {4 * it} 028010d1d7c1\n" for it in range(size)) for size in (sections // 4, sections))
     seconds, _, _ = cost_of_report("stats", "--json", text=beginning + small)
     more, memory, output = cost_of_report("stats", "--json", text=beginning + large)
-    assert more <= 6 * seconds and memory <= 150_000, (seconds, more, memory)
+    assert are_linear(seconds, more) and memory <= 150_000, (seconds, more, memory)
     check(json.loads(output), sections=sections, fields=4 * sections, insertions=1, section_bytes=6 * sections)
     _, memory, output = cost_of_report("report", text=beginning + large)
     assert memory <= 150_000 and len(output) < 3 << 20, (memory, len(output))

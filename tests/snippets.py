@@ -5,10 +5,11 @@
 
 A command of RUN is run as the document has it, over a copy of the repository, and must print what its comment says after
 "prints". A snippet is compiled and run in its frame of tests/snippets/, or its lines are compared with a source that
-another test runs. The exit status is 1 if one fails, or if a block is neither run nor listed here. Needs a C and a C++
+another test runs. As root all run in a system of their own, by tests/confined.py: not as root, without the kit, this
+library and a network. The exit status is 1 if one fails, or if a block is neither run nor listed here. Needs a C and a C++
 compiler, make, pkg-config and cargo, and a dist/ of the sources as they are. If one is missing, nothing is run, and the
-last line says so. The command for Go needs go, and that for Python the packages python3-venv and flit of Debian. Without
-them it is left out, and the last line says so too. No command uses the network: pip takes flit_core from this machine.
+last line says so. The command for Go needs go, and that for Python the package python3-venv of Debian. Without it the
+command is left out, and the last line says so too. No command uses the network.
 """
 import os
 import re
@@ -20,11 +21,13 @@ import tempfile
 from importlib.machinery import PathFinder
 from pathlib import Path
 
+import confined
+
 TOP = Path(__file__).resolve().parent.parent
 DOCUMENTS = ["README.md", "docs/USING.md", "docs/FAQ.md"]
 TOOLS = ["cc", "c++", "make", "pkg-config", "cargo"]
-# The most seconds that one command may take.
-SECONDS = 60
+# The most seconds by the clock that one command may take, on a machine that proves beside it.
+SECONDS = 300
 # Commands that are run, by their first word, and the folder of the room where each is run.
 RUN = {
     "printf": "h3_qpack", "./qpk": "h3_qpack", "make": "h3_qpack", "cmp": "h3_qpack", "sha256sum": "h3_qpack", "cc": "",
@@ -57,7 +60,7 @@ BLOCK = re.compile(r"^```(\w*)\n((?:.*\n)*?)```$|(?<=\n\n)((?:    .*\n)+)", re.M
 PICTURE = "text"
 COMMENT = re.compile(r"\s+(?:# |// |/\* )(.*?)(?: \*/)?$")
 # What a command needs beside TOOLS, by its first word: programs, and modules of Python.
-NEEDS = {"go": (["go"], []), "python3": ([], ["ensurepip", "flit_core"])}
+NEEDS = {"go": (["go"], []), "python3": ([], ["ensurepip"])}
 # Where Debian installs modules of Python, which another python3 does not look into.
 DEBIAN = "/usr/lib/python3/dist-packages"
 MODULE = "module app\n\ngo 1.19\n"
@@ -96,8 +99,9 @@ class Room:
         (folder / "app-in-go" / "go.mod").write_text(MODULE)
         (folder / "app-in-go" / "main.go").write_text(PROGRAM)
         library = folder / "usr" / "lib"
+        self.why_not_confined = confined.why_not(folder)
         self.environment = {
-            **os.environ,
+            **(os.environ if self.why_not_confined else confined.environment_of(folder)),
             "ROOM": str(folder),
             "PKG_CONFIG_PATH": str(library / "pkgconfig"),
             "LD_LIBRARY_PATH": str(library),
@@ -107,16 +111,21 @@ class Room:
             "GOTOOLCHAIN": "local",
             "GOCACHE": str(folder / "go-cache"),
             "PIP_NO_INDEX": "1",
-            "PIP_NO_BUILD_ISOLATION": "false",  # the words of pip for: without a folder for what it would fetch
-            "PYTHONPATH": str(folder / "packages"),
         }
-        lend_package("flit_core", folder / "packages")
+        if not self.why_not_confined:
+            confined.hand_over(folder)
+
+    def words_of(self, command, folder):
+        """Returns the words of a call that runs a command of the shell in a folder of the room."""
+        if self.why_not_confined:
+            return ["sh", "-c", command]
+        return confined.words_of(self.folder, self.folder / folder, command)
 
     def run(self, command, folder):
         """Runs a command of the shell in a folder of the room. Returns what it printed, and why it failed, if it did."""
         pipes = {"stdin": subprocess.DEVNULL, "stdout": subprocess.PIPE, "stderr": subprocess.PIPE}
         words = {"cwd": self.folder / folder, "env": self.environment, "start_new_session": True, "text": True}
-        with subprocess.Popen(command, shell=True, **words, **pipes) as running:
+        with subprocess.Popen(self.words_of(command, folder), **words, **pipes) as running:
             try:
                 printed, faults = running.communicate(timeout=SECONDS)
             except subprocess.TimeoutExpired:
@@ -161,18 +170,11 @@ def find_package(name):
     return PathFinder.find_spec(name, [*sys.path, DEBIAN])
 
 
-def lend_package(name, folder):
-    """Links a package of this machine, if it is there, into a folder that has no other."""
-    found = find_package(name)
-    folder.mkdir()
-    if found:
-        (folder / name).symlink_to(Path(found.origin).parent)
-
-
 def find_lacking(command):
     """Returns what a command needs and is not installed."""
     programs, modules = NEEDS.get(command.split()[0], ([], []))
-    return [it for it in programs if not shutil.which(it)] + [it for it in modules if not find_package(it)]
+    searched = confined.PATH if os.geteuid() == 0 else None
+    return [it for it in programs if not shutil.which(it, path=searched)] + [it for it in modules if not find_package(it)]
 
 
 def read_blocks():
@@ -235,26 +237,43 @@ def run_all(blocks, room):
             yield f"{block.place}: in {frame}: {fault}"
 
 
+def find_not_run(blocks):
+    """Returns the commands that are not run here, each with what it needs and is not installed."""
+    commands = [command for it in blocks if not it.language for command, _ in it.commands()]
+    found = {it: find_lacking(it) for it in commands if is_run(it)}
+    return {command: lacking for command, lacking in found.items() if lacking}
+
+
+def say_what_is_not_shown(left_out, why_not_confined, not_run):
+    """Prints a line for each thing that was not run, or not in a system of its own."""
+    if left_out:
+        print(f"not shown: the commands and snippets of the documents, as {left_out}")
+        return
+    if why_not_confined:
+        print(f"not shown: that the commands of the documents run in a system of their own, {why_not_confined}")
+    for lacking in not_run.values():
+        print(f"not shown: a command of the documents, without {' and '.join(lacking)}")
+
+
 def main():
     blocks = read_blocks()
     faults = list(find_unlisted(blocks))
     for it in blocks:
         source = SNIPPETS.get(it.first(), "tests/") if it.language else "tests/"
         faults += [] if source.startswith("tests/") else compare(it, source)
-    left_out = why_not()
+    left_out, why_not_confined = why_not(), ""
     if not left_out:
         with tempfile.TemporaryDirectory(prefix="h3-qpack-snippets-") as folder:
-            faults += run_all(blocks, Room(Path(folder)))
+            room = Room(Path(folder) / "room")
+            why_not_confined = room.why_not_confined
+            faults += run_all(blocks, room)
     for it in faults:
         print(it)
-    not_run = f", nothing was run: {left_out}" if left_out else f", {len(NOT_RUN)} commands are run elsewhere"
-    commands = [command for it in blocks if not it.language for command, _ in it.commands()]
-    for it in commands if not left_out else []:
-        lacking = find_lacking(it) if is_run(it) else []
-        not_run += f"; not run, without {' and '.join(lacking)}: {it}" if lacking else ""
-    if left_out:
-        print(f"not shown: the commands and snippets of the documents, as {left_out}")
-    print(f"snippets: {len(faults)} faults in {len(blocks)} blocks{not_run}")
+    not_run = {} if left_out else find_not_run(blocks)
+    say_what_is_not_shown(left_out, why_not_confined, not_run)
+    said = f", nothing was run: {left_out}" if left_out else f", {len(NOT_RUN)} commands are run elsewhere"
+    said += "".join(f"; not run, without {' and '.join(lacking)}: {command}" for command, lacking in not_run.items())
+    print(f"snippets: {len(faults)} faults in {len(blocks)} blocks{said}")
     return 1 if faults else 0
 
 

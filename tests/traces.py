@@ -113,13 +113,19 @@ def test_forerunner():
 
 
 def test_fields():
-    """Shown are the fields of each trace, and nothing is wrong on it."""
+    """Shown are the fields of each trace. Nothing is wrong on it, but that a list of :method alone is no whole request."""
     method, status, own = [(":method", "GET")], [(":status", "200")], [("foo", "bar")]
     cases = {"client.qlog": [own, status], "server.sqlog": [own, method], "forerunner.qlog": [own, status]}
     for name, expected in cases.items():
         shown = [[(it["name"], it["value"]) for it in lines] for *_, lines in sections(objects(QLOG / name))]
         assert shown == expected, shown
-        assert run(QPK, "check", QLOG / name)[0] == 0
+        found, said, _ = run(QPK, "check", QLOG / name)
+        findings = [it for it in said.splitlines() if "RFC" in it]
+        if method in expected:
+            assert found == 4 and len(findings) == 1, said
+            assert findings[0].startswith("perhaps: line 1: ") and "a request has no :scheme" in findings[0], said
+        else:
+            assert found == 0 and not findings, said
 
 
 def test_times():
@@ -177,6 +183,20 @@ def test_instructions_that_are_cut():
     data = {"stream_id": 2, "offset": 0, "from": "application", "raw": {"data": "023fe11f6294e7838c767f00"}}
     lines, _ = lines_of_events(*events, {"time": 0, "name": "quic:stream_data_moved", "data": data})
     assert lines == ["@0.000000 > d 84", "@0.000000 > e 3fe11f6294e7838c767f00"]
+
+
+def test_findings_where_bytes_are_missing():
+    """What an instruction without its bytes may explain is marked as such. In a whole trace it is certain."""
+    def event(pair, kind, **raw):
+        return {"time": 0, "name": f"qpack:instruction_{pair}", "data": {"instruction": {"instruction_type": kind}, **raw}}
+
+    cut = event("created", "insert_with_literal_name")
+    told = event("parsed", "section_acknowledgment", raw="84")
+    head = {"qlog_version": "0.3", "trace": {"vantage_point": {"type": "client"}}}
+    for events, status, mark in (([told], 1, ""), ([cut, told], 4, "perhaps: ")):
+        (ROOM / "cut.sqlog").write_text("".join(f"{json.dumps(it)}\n" for it in (head, *events)), "utf-8")
+        found = run(QPK, "check", ROOM / "cut.sqlog")
+        assert found[0] == status and found[1].splitlines()[-1].startswith(f"{mark}line 1: 0.000000 < decoder stream"), found
 
 
 def test_sections_twice():

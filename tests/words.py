@@ -7,7 +7,8 @@ It reads the documents, the comments of the C header, the doc comments of the Ru
 comments of the sources and the definitions of all crates. Code in them is left out. It prints each forbidden word with
 its file and line, the count of each watched word, and the number of words of all documents: with code and the signs of
 tables, as wc counts them, and without. In the comments of the crates no watched words are counted. README may have a
-number of lines and words. The exit status is 1 if a forbidden word was found, or README is longer.
+number of lines and words, and all documents a number of words. The exit status is 1 if a forbidden word was found, or there
+are more.
 """
 import re
 import sys
@@ -31,12 +32,21 @@ FORBIDDEN = {
 }
 # What is rejected.
 INPUT = r"(?:section|line|instruction|input|prefix|frame|file|message|stream|block|word|event)s?"
-# The same in the documents alone: a decoder or a program rejects input, a call fails, and memory or a connection is refused.
+# The same in the documents and the manual page alone: a decoder or a program rejects input, a call fails, and memory or a
+# connection is refused.
 FORBIDDEN_IN_DOCUMENTS = {
     r"(?:decoder|encoder|end|reader|front|call)s? (?:also )?refuses?": "rejects input, or fails",
     r"refus(?:es?|ed|ing) (?:(?:an?|the|this|that|each|any|such) )?(?:" + INPUT + r"|calls?)": "reject, rejected, failed",
     r"(?:" + INPUT + r"|calls?) (?:that )?(?:is|are|was|were) refused": "is rejected, are rejected, failed",
 }
+# The same, except in texts that are about the calls of h3's names, which call a section so, or about memory.
+FORBIDDEN_BUT_OF_H3 = {
+    r"(?:an?|the|each|its|no|encoded|header|field) blocks?(?! of)": "section",
+}
+OF_H3 = (
+    "docs/DECISIONS.md", "docs/DIFFERENCES.md", "docs/H3-TESTS.md", "docs/PROVED.md", "tests/calls.md",
+    "tests/definitions.md", "rust/h3_qpack/src/heap.rs",
+)
 # Words that are right in few places: behind for a position, stands for what it is short for. They are counted.
 WATCHED = {
     "behind": r"behind",
@@ -53,12 +63,12 @@ WATCHED = {
 }
 # The most lines and words, as wc counts them, of a document that is read before all others.
 MOST = {"README.md": (130, 1000)}
+# The most words, without code, of all documents that no script writes.
+MOST_OF_ALL = 24_000
 # Documents that a script writes.
-GENERATED = ["docs/API.md", "docs/CALLS.md", "docs/DEFINITIONS.md"]
+GENERATED = [f"docs/{it}.md" for it in ("API", "CALLS", "CAUSES", "DEFINITIONS", "QPK-REFERENCE")]
 # Fronts of the names of files whose comments still have forbidden words. They are not read until they are rewritten.
 UNREAD = ("crates/qpack_base/src/prefix_string/", "crates/qpack_base/specs/Payloads.antt")
-# Documents that still have some of the words that documents do not use.
-WITH_OLD_WORDS = ("docs/DECISIONS.md", "docs/PROVED.md")
 # Between two words of a phrase: blanks, or the end of a line.
 GAP = r"(?: +| *\n *)"
 # Code in a line, which does not go on past an empty line.
@@ -69,9 +79,8 @@ def list_files():
     """Returns the files that are read, each with the function that keeps its prose."""
     patterns = {
         prose_of_markdown: [
-            "*.md", "docs/*.md", "dist/README.md", "rust/README.md", "bindings/README.md", "examples/*/README.md",
-            "c/README.md", "crates/README.md", "tests/README.md",
-            "tests/calls.md", "tests/definitions.md",
+            "*.md", "docs/*.md", "docs/dev/*.md", "dist/README.md", "rust/README.md", "c/README.md", "crates/README.md",
+            "tests/*.md", "bindings/README.md", "bindings/*/README.md", "examples/*/README.md",
         ],
         prose_of_c: ["include/h3_qpack.h"],
         prose_of_rust: ["rust/h3_qpack/src/**/*.rs"],
@@ -90,8 +99,8 @@ def blank(found):
 
 
 def prose_of_markdown(text):
-    """Blanks out blocks of code, code in a line, and the targets of links."""
-    text = re.sub(r"^( *)```.*?^\1```", blank, text, flags=re.M | re.S)
+    """Blanks out blocks of code and of names that a script replaces, code in a line, and the targets of links."""
+    text = re.sub(r"^( *)```.*?^\1```|^\{\{.*?^\}\}", blank, text, flags=re.M | re.S)
     lines, is_code, before = [], False, ""
     for line in text.split("\n"):
         is_code = line.startswith("    ") and (is_code or not before.strip())
@@ -145,6 +154,11 @@ def compile_words(words):
     return {name: re.compile(rf"\b(?:{word.replace(' ', GAP)})\b", re.I) for name, word in words.items()}
 
 
+def compile_forbidden(words):
+    """Returns the patterns of forbidden words, each with what to write in its place."""
+    return list(zip(compile_words({it: it for it in words}).values(), words.values()))
+
+
 def find_forbidden(name, prose, forbidden):
     """Yields what to say of each forbidden word of a file."""
     for pattern, instead in forbidden:
@@ -162,9 +176,9 @@ def find_length(name, text):
 
 
 def main():
-    everywhere = list(zip(compile_words({it: it for it in FORBIDDEN}).values(), FORBIDDEN.values()))
-    more = compile_words({it: it for it in FORBIDDEN_IN_DOCUMENTS}).values()
-    in_documents = everywhere + list(zip(more, FORBIDDEN_IN_DOCUMENTS.values()))
+    everywhere = compile_forbidden(FORBIDDEN)
+    in_documents = everywhere + compile_forbidden(FORBIDDEN_IN_DOCUMENTS)
+    but_of_h3 = compile_forbidden(FORBIDDEN_BUT_OF_H3)
     watched = compile_words(WATCHED)
     wrong, counts, words, words_of_prose = [], dict.fromkeys(WATCHED, 0), 0, 0
     for path, keep_prose in list_files():
@@ -178,7 +192,12 @@ def main():
             for word, pattern in watched.items():
                 counts[word] += len(pattern.findall(prose))
         wrong += find_length(name, text)
-        wrong += find_forbidden(name, prose, in_documents if is_document and name not in WITH_OLD_WORDS else everywhere)
+        is_read_by_users = is_document or keep_prose in (prose_of_manual, prose_of_c, prose_of_rust)
+        forbidden = in_documents if is_read_by_users else everywhere
+        forbidden = forbidden + but_of_h3 if forbidden is in_documents and name not in OF_H3 else forbidden
+        wrong += find_forbidden(name, prose, forbidden)
+    if words_of_prose > MOST_OF_ALL:
+        wrong.append(f"the documents have {words_of_prose} words without code, and may have {MOST_OF_ALL}")
     for it in wrong:
         print(it)
     print("watched:", ", ".join(f"{word} {count}" for word, count in counts.items()))

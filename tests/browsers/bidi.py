@@ -62,7 +62,8 @@ class Socket:
     def send(self, data, kind=TEXT):
         """Sends a message in one frame, masked, as a client must."""
         size, mask = len(data), secrets.token_bytes(4)
-        head = struct.pack('>BB', 0x80 | kind, 0x80 | size) if size < 126 else struct.pack('>BBH', 0x80 | kind, 0xfe, size)
+        form, length = ('>BB', [0x80 | size]) if size < 126 else ('>BBH', [0xfe, size]) if size < 1 << 16 else ('>BBQ', [0xff, size])
+        head = struct.pack(form, 0x80 | kind, *length)
         masks = (mask * (size // 4 + 1))[:size]
         masked = (int.from_bytes(data, 'big') ^ int.from_bytes(masks, 'big')).to_bytes(size, 'big')
         self.socket.sendall(head + mask + masked)

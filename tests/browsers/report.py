@@ -24,7 +24,7 @@ import zlib
 from ctypes.util import find_library
 from pathlib import Path
 
-import bidi
+import checks
 import devtools
 import everybody
 import keyboard
@@ -40,12 +40,14 @@ RECORDING = CAPTURED / 'chromium.txt'
 MOMENTS = [2, 4, 5, 7, 12, 21, 40, 46, 47, 52, 55]
 # Faults of the data of a page: a line of a section, and an entry of a table.
 PLANTED = [(b':method: GET', b':method: PUT'), (b':authority: localhost', b':authority: elsewhere')]
-# What tshark prints of three connections, each with a section: static 17, static 20, and one that is cut.
-PACKET = '''<packet><field name="frame.time_relative" show="1"/><field name="ip.src" show="10.0.0.1"/>
+# What tshark prints of three connections, each with a request of static fields: a GET, a POST, and a GET that is cut.
+PACKET = '''<packet><field name="frame.number" show="{}"/><field name="frame.time_relative" show="1.5"/>
+<field name="ip.src" show="10.0.0.1"/>
 <field name="ip.dst" show="10.0.0.2"/><field name="udp.srcport" show="5000"/><field name="udp.dstport" show="443"/>
 <field name="quic.connection.number" show="{}"/><field name="quic.stream.stream_id" show="0"/>
 <field name="quic.stream_data" value="01{}"/></packet>'''
-PDML = f"<pdml>{PACKET.format(0, '030000d1')}{PACKET.format(5, '030000d4')}{PACKET.format(7, '040000d1ff')}</pdml>"
+PACKETS = [(11, 0, '050000d1d7c1'), (12, 5, '050000d4d7c1'), (13, 7, '060000d1d7c1ff')]
+PDML = f"<pdml>{''.join(PACKET.format(*it) for it in PACKETS)}</pdml>"
 # What the page has: each event by its title and its fields, and the tables.
 EVENTS = '''report.connection.events.map((row, event) => {
     const made = report.details.event(event);
@@ -60,10 +62,6 @@ TABLES = '''Array.from(document.querySelectorAll('.tables .table'), table => ({
         row => Array.from(row.cells, cell => cell.textContent)),
     draining: Array.from(table.querySelectorAll('tr.draining'), row => Number(row.cells[0].textContent)),
     inserted: Array.from(table.querySelectorAll('tr.inserted'), row => Number(row.cells[0].textContent))}))'''
-
-
-class NotShown(Exception):
-    """A check can't be made here, for this reason."""
 
 
 def run(*words, statuses=(0,)):
@@ -193,7 +191,7 @@ def check_recording(pages):
 def check_capture(pages):
     """Checks the report of the capture, if it can be decrypted. Its lines have numbers lower by one."""
     if not (find_library('crypto') or shutil.which('tshark')):
-        raise NotShown('without libcrypto and tshark')
+        raise checks.NotShown('without libcrypto and tshark')
     return f"{compare_lists(pages.open(run('report', CAPTURED / 'chromium.pcapng')))} lists"
 
 
@@ -249,13 +247,19 @@ def check_fault(pages):
     return 'three are marked'
 
 
+def three_connections(room):
+    """Returns the report of three connections, of which the third is refused."""
+    path = Path(room) / 'three.pdml'
+    path.write_text(PDML, encoding='utf-8')
+    return run('report', '--pdml', path, statuses=(2,))
+
+
 def check_connections(pages):
     """Of three connections of which the third is refused, the page begins with that one, and says so."""
-    path = Path(pages.room) / 'three.pdml'
-    path.write_text(PDML, encoding='utf-8')
-    page = pages.open(run('report', '--pdml', path, statuses=(2,)))
-    if 'Findings on 1 of 3 connections' not in page.ask("document.querySelector('.summary').textContent"):
-        raise Failure('the page begins with another verdict')
+    page = pages.open(three_connections(pages.room))
+    first = page.ask("document.querySelector('.summary').textContent")
+    if not re.search(r'On connection 7, 10\.0\.0\.1:5000 > .*: the bytes end .*\. Findings on 1 of 3 connections\.', first):
+        raise Failure(f'the page begins with another verdict: {first}')
     names = page.ask("Array.from(document.querySelectorAll('.connection .name'), it => it.textContent.split(',')[0])")
     found = []
     for place in range(3):
@@ -333,29 +337,25 @@ CHECKS = {
 OF_CHROMIUM = ('any size', 'processes')  # the first asks for seconds of the processor, and the second needs no browser
 
 
-def take_pictures(browser, room, folder):
-    """Writes pictures of the report, at a request in the middle: 1280 and 400 pixels wide, light and dark."""
+def pictures_of(browser, room, page, name, place=''):
+    """Yields pictures of a report at a place of it, with their names: 1280 and 400 pixels wide, light and dark."""
     for width, scheme in itertools.product((1280, 400), ('light', 'dark')):
-        page = Pages(browser, room).open(run('report', RECORDING), '#0/stream/24', width, scheme)
-        page.ask('document.activeElement.blur()')
-        name = f"report{'' if width == 1280 else '-narrow'}{'' if scheme == 'light' else '-dark'}.png"
-        (Path(folder) / name).write_bytes(page.picture())
+        shown = Pages(browser, room).open(page, place, width, scheme)
+        shown.ask('document.activeElement.blur()')
+        yield f"{name}{'' if width == 1280 else '-narrow'}{'' if scheme == 'light' else '-dark'}.png", shown.picture()
+
+
+def take_pictures(browser, room, folder):
+    """Writes pictures of the report at a request in the middle, and of the three connections."""
+    pages = [(run('report', RECORDING), 'report', '#0/stream/24'), (three_connections(room), 'connections', '')]
+    for name, data in itertools.chain.from_iterable(pictures_of(browser, room, *it) for it in pages):
+        (Path(folder) / name).write_bytes(data)
 
 
 def try_checks(browser, room, names):
     """Makes checks in a browser, and returns how many passed and failed."""
-    passed = failed = 0
-    for name in names:
-        about = f'{browser.name}, {name}'
-        try:
-            print(f'tests/browsers/report.py: {about}: {CHECKS[name](Pages(browser, room))}', flush=True)
-            passed += 1
-        except NotShown as why:
-            print(f'not shown: the page of qpk report: {about}, {why}', flush=True)
-        except Failure as why:
-            print(f'tests/browsers/report.py: FAILED: {about}: {why}', flush=True)
-            failed += 1
-    return passed, failed
+    made = {it: lambda it=it: CHECKS[it](Pages(browser, room)) for it in names}
+    return checks.try_checks('report.py', browser.name, made)
 
 
 def measure(browser, room, words):
@@ -370,23 +370,16 @@ def measure(browser, room, words):
 
 def main():
     """Makes all checks, or those that are named."""
-    words, counts = sys.argv[1:], [(0, 0)]
-    for kind in (devtools.Browser, bidi.Browser):
-        if not shutil.which(kind.program):
-            print(f'not shown: the page of qpk report in {kind.name}, without {kind.program}')
-            continue
-        with processes.new_folder() as room:
-            browser = kind(room)
-            try:
-                if words[:1] in (['--pictures'], ['--sizes']):
-                    return measure(browser, room, words)
-                names = [it for it in words or CHECKS if it not in OF_CHROMIUM or kind is devtools.Browser]
-                counts.append(try_checks(browser, room, names))
-            finally:
-                browser.close()
-    passed, failed = map(sum, zip(*counts))
-    print(f'{passed} passed, {failed} failed')
-    return failed > 0
+    words = sys.argv[1:]
+    if words[:1] in (['--pictures'], ['--sizes']):
+        with checks.opened(devtools.Browser) as (browser, room):
+            return measure(browser, room, words)
+
+    def check(browser, room):
+        has_all = browser.name == 'Chromium'
+        return try_checks(browser, room, [it for it in words or CHECKS if has_all or it not in OF_CHROMIUM])
+
+    return checks.in_each('the page of qpk report', check)
 
 
 if __name__ == '__main__':

@@ -14,10 +14,13 @@ import large
 from nghttp3 import Failure
 
 TOP = Path(__file__).resolve().parents[2]
+sys.path.insert(0, str(TOP / 'tests'))
+from slowness import measure_slowness  # noqa: E402 # pylint: disable=wrong-import-position
+
 DOCUMENT = TOP / 'docs' / 'PERFORMANCE.md'
 HEAD = '## The page of `qpk report`'
 IN_THE_GATE, ALL = (1_000, 10_000), (1_000, 10_000, 100_000)
-# Of 10,000 requests: bytes, KB, and seconds of the processor, of which a busy machine takes several times as many.
+# Of 10,000 requests: bytes, KB, and seconds of the processor. In the gate a slow processor has longer, by as much as it is slower.
 MOST_BYTES, MOST_MEMORY, MOST_SECONDS, MOST_READY, MOST_ANSWER = 5_000_000, 150_000, 10, 2.0, 0.2
 MOST_OPEN = 5.0  # seconds by the clock until a page is ready that --sizes measures
 ABOUT = """`tests/browsers/report.py --sizes` measured these on {date}, in headless Chromium, beside other work on the machine. Each
@@ -80,12 +83,21 @@ def measure(pages, requests):
     return found
 
 
+def is_slow(found, slowness):
+    """Returns whether a page takes too long on a processor that is that much slower than usual."""
+    return (found['seconds'] > slowness * MOST_SECONDS or found['ready'] > slowness * MOST_READY
+            or max(found['scroll'], found['filter']) > slowness * MOST_ANSWER)
+
+
 def check(pages):
     """Holds pages to the bounds."""
-    found = [measure(pages, it) for it in IN_THE_GATE]
+    found = []
+    for requests in IN_THE_GATE:
+        before = measure_slowness()
+        found.append(measure(pages, requests))
+        if is_slow(found[-1], max(before, measure_slowness())):
+            raise Failure(f'it takes too long: {found[-1]}')
     for it in found:
-        if it['seconds'] > MOST_SECONDS or it['ready'] > MOST_READY or max(it['scroll'], it['filter']) > MOST_ANSWER:
-            raise Failure(f'it takes too long: {it}')
         if it['bytes'] > MOST_BYTES or it['memory'] > MOST_MEMORY:
             raise Failure(f'it is too large: {it}')
     return '; '.join(f"{it['requests']} requests {it['bytes']} bytes, ready after {it['ready']:.2f} s" for it in found)

@@ -1,4 +1,4 @@
-// Runs a batch of cases over modules, by loader.js, in Node or in a page:
+// Runs a batch of cases over modules, by dist/qpk_wasm64.js, in Node or in a page:
 //   node tests/wasm64/batch.js BATCH OUTCOMES MODULE..
 // A batch is numbers of 32 bits, the lowest byte first, and bytes, each behind their length. A case is the number of its
 // module, that of its words, each word, and the input. Its outcome is the status, the output, and what was said on standard
@@ -10,7 +10,7 @@ const STOPPED = 2 ** 31;
 
 async function runBatch(batch, modules) {
   const programs = [];
-  for (const bytes of modules) programs.push(await isProgram(bytes) ? await loadProgram(bytes) : asProgram(bytes));
+  for (const bytes of modules) programs.push(await isProgram(bytes) ? await loadQpk(bytes) : asProgram(bytes));
   const view = new DataView(batch.buffer, batch.byteOffset, batch.length);
   const parts = [];
   let at = 0;
@@ -34,7 +34,7 @@ async function runBatch(batch, modules) {
 }
 
 async function isProgram(bytes) {
-  return WebAssembly.Module.exports(await WebAssembly.compile(bytes)).some(({name}) => name === 'test_run');
+  return WebAssembly.Module.exports(await WebAssembly.compile(bytes)).some(({name}) => name === 'qpk_run');
 }
 
 // Returns what runs the library's module as a program is run.
@@ -68,7 +68,7 @@ async function runPage(count) {
 
 async function runNode([batch, outcomes, ...modules]) {
   const {readFileSync, writeFileSync} = require('fs');
-  Object.assign(globalThis, require('./loader.js'), require('./library.js'));
+  Object.assign(globalThis, require('../../dist/qpk_wasm64.js'), require('./library.js'));
   writeFileSync(outcomes, Buffer.concat(await runBatch(readFileSync(batch), modules.map(it => readFileSync(it)))));
 }
 

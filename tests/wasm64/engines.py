@@ -6,7 +6,7 @@ import threading
 from pathlib import Path
 
 HERE = Path(__file__).resolve().parent
-LOADER = HERE / "loader.js"
+LOADER = HERE.parent.parent / "dist" / "qpk_wasm64.js"
 SCRIPTS = [LOADER, HERE / "library.js", HERE / "batch.js"]
 # The most seconds that a batch may take, on a busy machine.
 SECONDS = 300

@@ -1,4 +1,4 @@
-/* What the tests of c/ use of a C library, over dist/heap_wasm64.c and os.c. A file is the input of the run,
+/* What the tests of c/ use of a C library, over dist/heap_wasm64.c and dist/os_wasm64.c. A file is the input of the run,
  * whatever its name. What is printed has the forms that these tests print. */
 #include <stdarg.h>
 #include <stdint.h>
