@@ -107,9 +107,9 @@ def shows_no_fault_of_a_script(said):
 
 
 def answers_at_once():
-    """Whether ./qpk answers by a program of these sources. It compiles changed ones for each call, in half a minute."""
+    """Whether ./qpk answers, and by a program of these sources."""
     ran = subprocess.run([TOP / "qpk", "--version"], capture_output=True, encoding="utf-8", check=False)
-    return ran.returncode == 0 and "not proved" not in ran.stdout and "were changed since" not in ran.stdout
+    return ran.returncode == 0 and "were changed since" not in ran.stdout
 
 
 def missing_tool():
