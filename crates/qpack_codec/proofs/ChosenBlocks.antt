@@ -3,6 +3,7 @@ use Rattle.std.proofs.Common.{◌≡◌, ℕ, List, [], ◌∷◌, ◌++◌, map
 use Rattle.std.proofs.Common.{append-nil, append_assoc, Result, Ok, Err, Option, None, Some}
 use Rattle.std.specs.Prelude.{IfOk, OnErr}
 use Rattle.std.proofs.Math.Seq.{take-length}
+use Rattle.std.proofs.lemmas.List.{length-map}
 use Rattle.qpack_spec.specs.Chosen.{Chosen, alone_chosen, literal_alone, line_alone}
 use Rattle.qpack_spec.specs.Chosen.{chosen_field, chosen_fields, chosen_rule}
 use Rattle.qpack_spec.specs.Field.{Field, FieldLine}
@@ -22,6 +23,7 @@ use Rattle.qpack_codec.specs.Encoding.{draft_at}
 use Rattle.qpack_codec.specs.ChoosesAlong.{Chooses, ChoosesAlong}
 use Rattle.qpack_codec.specs.ChosenSections.{AddsChosen, StopsAmongChosen, DraftsChosen, EncodesChosen, GivesUpChosen}
 use Rattle.qpack_codec.specs.ChosenSections.{AddsAlong, ChoosesSection, DraftsAlong, EncodesAlong}
+use Rattle.qpack_codec.specs.ChosenSections.{WritesAlong, StopsAlong, GivesUpAlong}
 use Rattle.qpack_codec.specs.declared.error.EncoderError.{EncoderError}
 use Rattle.qpack_codec.proofs.BareTables.{by_mark, drafted, nothing_required, block_is, table_is}
 use Rattle.qpack_codec.proofs.DraftedBlocks.{begins_so, put_together}
@@ -76,7 +78,7 @@ drafts_chosen t base fs new before lines block written_old written_new len requi
 
 -- ---- a block that is given up
 
-pub gives_up_chosen : (t : Table) (base : ℕ) (fs : List FieldLine) (new : Table) (written_old written_new : List ℕ)
+gives_up_chosen : (t : Table) (base : ℕ) (fs : List FieldLine) (new : Table) (written_old written_new : List ℕ)
     → t.referenced ≡ [] → base ≡ insert_count t → StopsAmongChosen fs t base new written_old written_new
     → GivesUpChosen fs t (without_references new) written_old written_new
 gives_up_chosen t base fs new written_old written_new begins same stops =
@@ -88,7 +90,7 @@ gives_up_chosen t base fs new written_old written_new begins same stops =
       written = stops.written ∙ ap (λ (x : Draft). written_old ++ written_encoder_instructions x.instructions) d;
     }
 
-pub gives_up_all_chosen : (t : Table) (base : ℕ) (fs : List FieldLine) (new : Table)
+gives_up_all_chosen : (t : Table) (base : ℕ) (fs : List FieldLine) (new : Table)
     (before lines written_old written_new : List ℕ)
     → t.referenced ≡ [] → base ≡ insert_count t
     → AddsChosen fs t base new before lines written_old written_new
@@ -121,29 +123,6 @@ gives_up_begun fs old begun new written_old written_new begins k =
       table = k.table ∙ ap (λ (x : Draft). without_references x.table) d;
       written = k.written ∙ ap (λ (x : Draft). written_old ++ written_encoder_instructions x.instructions) d;
     }
-
--- refused, after lines that were written or before
-pub gives_up_chosen_section : (fs : List FieldLine) (r : Result ℕ NoMemory) (answer : Result ℕ EncoderError)
-    (old begun mid new : Table) (before block written_old written_new : List ℕ)
-    → begun ≡ without_references old
-    → IfOk r (λ required. DraftsChosen fs begun mid before block written_old written_new required)
-    → OnErr r (GivesUpChosen fs begun (without_references mid) written_old written_new)
-    → OnErr answer (new ≡ without_references mid)
-    → OnErr answer (GivesUpChosen fs old new written_old written_new)
-gives_up_chosen_section fs r (Ok required) old begun mid new before block written_old written_new begins ok err ends =
-    tt
-gives_up_chosen_section fs (Ok required) (Err e) old begun mid new before block written_old written_new begins ok err
-    ends =
-    rw ends
-    (gives_up_begun fs old begun (without_references mid) written_old written_new begins
-    (record {
-      many = length fs;
-      choices = ok.choices;
-      table = rw (take-length fs) (ap (λ (x : Table). without_references x) ok.table);
-      written = rw (take-length fs) ok.written;
-    }))
-gives_up_chosen_section fs (Err f) (Err e) old begun mid new before block written_old written_new begins ok err ends =
-    rw ends (gives_up_begun fs old begun (without_references mid) written_old written_new begins err)
 
 encodes_chosen_block : (fs : List FieldLine) (old begun mid new : Table) (stream given : ℕ)
     (before block written_old written_new : List ℕ) (required : ℕ)
@@ -282,26 +261,18 @@ section_begun chooses fs ws cs old begun begins k =
     let same = subst (λ (t : Table). ChoosesSection chooses fs ws t cs) begins k in
     record { begun = same.begun; after = same.after; along = same.along }
 
--- what a chooser chose is some choices
-pub some_choices : {K W : Type 0} (chooses : Chooses K W) (ws : List W) (r : Result ℕ NoMemory) (fs : List FieldLine)
-    (old new : Table) (before block written_old written_new : List ℕ)
-    → IfOk r (λ required. DraftsAlong chooses fs ws old new before block written_old written_new required)
-    → IfOk r (λ required. DraftsChosen fs old new before block written_old written_new required)
-some_choices chooses ws (Ok required) fs old new before block written_old written_new k = k.drafts
-some_choices chooses ws (Err e) fs old new before block written_old written_new k = tt
-
-pub encodes_along : {K W : Type 0} (chooses : Chooses K W) (ws : List W) (fs : List FieldLine) (r : Result ℕ NoMemory)
+pub writes_along : {K W : Type 0} (chooses : Chooses K W) (ws : List W) (fs : List FieldLine) (r : Result ℕ NoMemory)
     (answer : Result ℕ EncoderError) (old begun mid new : Table) (stream given : ℕ)
     (before block written_old written_new : List ℕ)
     → begun ≡ without_references old → given ≡ stream
     → IfOk r (λ required. DraftsAlong chooses fs ws begun mid before block written_old written_new required)
     → IfOk answer (λ required. (r ≡ Ok required) × (new ≡ commit mid given required))
-    → IfOk answer (λ required. EncodesAlong chooses stream fs ws old new before block written_old written_new required)
+    → IfOk answer (λ required. WritesAlong chooses stream fs ws old new before block written_old written_new required)
 unfolding encodes_chosen_block
-encodes_along chooses ws fs r (Err e) old begun mid new stream given before block written_old written_new begins same
+writes_along chooses ws fs r (Err e) old begun mid new stream given before block written_old written_new begins same
     ok ends =
     tt
-encodes_along chooses ws fs r (Ok required) old begun mid new stream given before block written_old written_new begins
+writes_along chooses ws fs r (Ok required) old begun mid new stream given before block written_old written_new begins
     same ok ends =
     let drafted : DraftsAlong chooses fs ws begun mid before block written_old written_new required =
     subst (λ (x : Result ℕ NoMemory).
@@ -309,8 +280,17 @@ encodes_along chooses ws fs r (Ok required) old begun mid new stream given befor
     record {
       section = encodes_chosen_block fs old begun mid new stream given before block written_old written_new required
           begins same drafted.drafts ends.1;
-      along = λ some. section_begun chooses fs ws drafted.drafts.choices old begun begins drafted.along;
+      along = section_begun chooses fs ws drafted.drafts.choices old begun begins drafted.along;
     }
+
+-- above capacity 0
+pub encodes_along : {K W : Type 0} (chooses : Chooses K W) (ws : List W) (stream : ℕ) (fs : List FieldLine)
+    (answer : Result ℕ EncoderError) (old new : Table) (before after written_old written_new : List ℕ)
+    → IfOk answer (λ required. WritesAlong chooses stream fs ws old new before after written_old written_new required)
+    → IfOk answer (λ required. EncodesAlong chooses stream fs ws old new before after written_old written_new required)
+encodes_along chooses ws stream fs (Err e) old new before after written_old written_new k = tt
+encodes_along chooses ws stream fs (Ok required) old new before after written_old written_new k =
+    record { section = k.section; along = λ some. k.along }
 
 -- at capacity 0 nothing is chosen
 pub encodes_along_alone : {K W : Type 0} (chooses : Chooses K W) (ws : List W) (stream : ℕ) (fs : List FieldLine)
@@ -320,3 +300,94 @@ pub encodes_along_alone : {K W : Type 0} (chooses : Chooses K W) (ws : List W) (
 encodes_along_alone chooses ws stream fs (Err e) old new before after written none k = tt
 encodes_along_alone chooses ws stream fs (Ok required) old new before after written none k =
     record { section = k; along = λ some. absurd (some none) }
+
+-- ---- given up by a chooser
+
+-- where memory was refused after some of the fields
+pub gives_up_along : {K W : Type 0} (chooses : Chooses K W) (ws : List W) (first : K) (t : Table) (base : ℕ)
+    (fs : List FieldLine) (new : Table) (written_old written_new : List ℕ) → t.referenced ≡ [] → base ≡ insert_count t
+    → StopsAlong chooses fs ws t base new first written_old written_new
+    → GivesUpAlong chooses fs ws t (without_references new) written_old written_new
+unfolding gives_up_chosen
+gives_up_along chooses ws first t base fs new written_old written_new begins same k =
+    record {
+      given_up = gives_up_chosen t base fs new written_old written_new begins same k.stops;
+      along = along_begins chooses t base (take k.stops.many fs) (take k.stops.many ws) k.stops.choices first k.after
+          begins same k.along;
+    }
+
+-- items lend as many wishes as field lines
+pub each_wish : {H W : Type 0} (line : H → FieldLine) (wish : H → W) (xs : List H)
+    → length (map wish xs) ≡ length (map line xs)
+each_wish line wish xs = length-map xs wish ∙ sym (length-map xs line)
+
+all_of : {X Y : Type 0} (xs : List X) (ys : List Y) → length xs ≡ length ys → take (length ys) xs ≡ xs
+all_of {X = X} xs ys same = ap (λ (n : ℕ). take n xs) (sym same) ∙ take-length xs
+
+-- where it was refused after all of them
+pub gives_up_all_along : {K W : Type 0} (chooses : Chooses K W) (ws : List W) (first last : K) (t : Table) (base : ℕ)
+    (fs : List FieldLine) (new : Table) (before lines written_old written_new : List ℕ) → length ws ≡ length fs
+    → t.referenced ≡ [] → base ≡ insert_count t
+    → AddsAlong chooses fs ws t base new first last before lines written_old written_new
+    → GivesUpAlong chooses fs ws t (without_references new) written_old written_new
+unfolding gives_up_all_chosen gives_up_chosen
+gives_up_all_along chooses ws first last t base fs new before lines written_old written_new each begins same k =
+    record {
+      given_up = gives_up_all_chosen t base fs new before lines written_old written_new begins same k.adds;
+      along = rw (take-length fs, all_of ws fs each)
+          (along_begins chooses t base fs ws k.adds.choices first last begins same k.along);
+    }
+
+given_up_begun : {K W : Type 0} (chooses : Chooses K W) (ws : List W) (fs : List FieldLine) (old begun new : Table)
+    (written_old written_new : List ℕ) → begun ≡ without_references old
+    → GivesUpAlong chooses fs ws begun new written_old written_new
+    → GivesUpAlong chooses fs ws old new written_old written_new
+unfolding gives_up_begun
+given_up_begun chooses ws fs old begun new written_old written_new begins k =
+    record {
+      given_up = gives_up_begun fs old begun new written_old written_new begins k.given_up;
+      along = section_begun chooses (take k.given_up.many fs) (take k.given_up.many ws) k.given_up.choices old begun
+          begins k.along;
+    }
+
+drafted_given_up : {K W : Type 0} (chooses : Chooses K W) (ws : List W) (fs : List FieldLine) (old mid : Table)
+    (before block written_old written_new : List ℕ) (required : ℕ) → length ws ≡ length fs
+    → DraftsAlong chooses fs ws old mid before block written_old written_new required
+    → GivesUpAlong chooses fs ws old (without_references mid) written_old written_new
+drafted_given_up chooses ws fs old mid before block written_old written_new required each k =
+    record {
+      given_up = record {
+        many = length fs;
+        choices = k.drafts.choices;
+        table = rw (take-length fs) (ap (λ (x : Table). without_references x) k.drafts.table);
+        written = rw (take-length fs) k.drafts.written;
+      };
+      along = rw (take-length fs, all_of ws fs each) k.along;
+    }
+
+-- refused, after lines that were written or before
+pub gives_up_section : {K W : Type 0} (chooses : Chooses K W) (ws : List W) (fs : List FieldLine) (r : Result ℕ NoMemory)
+    (answer : Result ℕ EncoderError) (old begun mid new : Table) (before block written_old written_new : List ℕ)
+    → length ws ≡ length fs → begun ≡ without_references old
+    → IfOk r (λ required. DraftsAlong chooses fs ws begun mid before block written_old written_new required)
+    → OnErr r (GivesUpAlong chooses fs ws begun (without_references mid) written_old written_new)
+    → OnErr answer (new ≡ without_references mid)
+    → OnErr answer (GivesUpAlong chooses fs ws old new written_old written_new)
+gives_up_section chooses ws fs r (Ok required) old begun mid new before block written_old written_new each begins ok err
+    ends =
+    tt
+gives_up_section chooses ws fs (Ok required) (Err e) old begun mid new before block written_old written_new each begins
+    ok err ends =
+    rw ends
+    (given_up_begun chooses ws fs old begun (without_references mid) written_old written_new begins
+    (drafted_given_up chooses ws fs begun mid before block written_old written_new required each ok))
+gives_up_section chooses ws fs (Err f) (Err e) old begun mid new before block written_old written_new each begins ok err
+    ends =
+    rw ends (given_up_begun chooses ws fs old begun (without_references mid) written_old written_new begins err)
+
+pub given_up_of : {K W : Type 0} (chooses : Chooses K W) (ws : List W) (fs : List FieldLine)
+    (answer : Result ℕ EncoderError) (old new : Table) (written_old written_new : List ℕ)
+    → OnErr answer (GivesUpAlong chooses fs ws old new written_old written_new)
+    → OnErr answer (GivesUpChosen fs old new written_old written_new)
+given_up_of chooses ws fs (Ok required) old new written_old written_new k = tt
+given_up_of chooses ws fs (Err e) old new written_old written_new k = k.given_up

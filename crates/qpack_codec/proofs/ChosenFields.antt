@@ -1,11 +1,9 @@
 -- Field lines that are added to a block in progress by choices, one after the other.
 use Rattle.std.proofs.Common.{◌≡◌, ℕ, ◌+◌, ◌<◌, List, [], ◌∷◌, ◌++◌, map, take, length, get_or, Option}
 use Rattle.std.proofs.Common.{Some, None, refl, sym, ap, subst, ◌∙◌, append-nil, append_assoc, Bool}
-use Rattle.std.proofs.Common.{true, false, cond, arith, length-append, inl, inr, add-one}
+use Rattle.std.proofs.Common.{true, false, cond, arith, length-append, inl, inr}
 use Rattle.std.specs.Prelude.{◌&&◌}
 use Rattle.std.proofs.lemmas.Bool.{cond_both}
-use Rattle.std.proofs.lemmas.List.{map-append}
-use Rattle.std.proofs.Math.Seq.{take-suc}
 use Rattle.qpack_spec.specs.Chosen.{Choice, Alone, References, Names, Inserts, Chosen, passes_at, literal_alone, line_alone}
 use Rattle.qpack_spec.specs.Chosen.{named_or, literal_chosen, line_chosen, unreferenced_chosen, chosen_field, chosen_fields}
 use Rattle.qpack_spec.specs.Chosen.{with_unreferenced_entry, alone_chosen}
@@ -18,9 +16,10 @@ use Rattle.qpack_spec.specs.Line.{Line, written_lines}
 use Rattle.qpack_spec.specs.Rule.{Draft, instruction_for, entries_left}
 use Rattle.qpack_spec.specs.Table.{Table, may_reference, below_limit, has_room, without_references, with_entry, sent_entry}
 use Rattle.qpack_codec.specs.ChoosesAlong.{Chooses, ChoosesUnless, ChoosesField, ChoosesAlong}
-use Rattle.qpack_codec.specs.Encoding.{draft_at, AddsLines, StopsAdding}
+use Rattle.qpack_codec.specs.Encoding.{draft_at, AddsLines}
 use Rattle.qpack_codec.specs.ChosenSections.{AddsChosen, AddsByChooser, AddsAlong, StopsAmongChosen}
-use Rattle.qpack_codec.proofs.AddedFields.{GoesOn, lines_behind, instructions_behind, appended, front_of, take_lines}
+use Rattle.qpack_codec.specs.ChosenSections.{StopsByChooser, StopsAlong}
+use Rattle.qpack_codec.proofs.AddedFields.{GoesOn, lines_behind, instructions_behind, appended, take_of, front_of}
 
 -- ---- a field behind others: a draft goes on as one that begins at its table
 
@@ -179,11 +178,6 @@ AddsOne l base mid new lines_mid lines_new written_mid written_new =
     (c : Chosen) × AddsLines (l ∷ []) (chosen_field base (draft_at mid) l c) new lines_mid lines_new written_mid
     written_new
 
--- where one stops, under some choice
-abbrev StopsOne : FieldLine → ℕ → Table → Table → List ℕ → List ℕ → Type 0
-StopsOne l base mid new written_mid written_new =
-    (c : Chosen) × StopsAdding (chosen_field base (draft_at mid) l c) mid new written_mid written_new
-
 chosen_last : (t : Table) (base : ℕ) (ls : List FieldLine) (l : FieldLine) (mid new : Table)
     (lines_old lines_mid lines_new written_old written_mid written_new : List ℕ)
     → AddsChosen ls t base mid lines_old lines_mid written_old written_mid
@@ -215,92 +209,93 @@ chosen_last t base ls l mid new lines_old lines_mid lines_new written_old writte
       };
     }
 
+-- ---- the first of some items
+
+front_with : {H B : Type 0} (g : H → B) (xs : List H) (i : ℕ) (x : H) → i < length xs → x ≡ get_or xs i x
+    → take (i + 1) (map g xs) ≡ map g (take i xs) ++ g x ∷ []
+front_with g xs i x within is = take_of g xs (i + 1) ∙ rw (front_of g xs i x within, ← is) refl
+
 -- ---- by position in a list of items that lend field lines
 
-stops_chosen : {H : Type 0} (line : H → FieldLine) (xs : List H) (i : ℕ) (x : H) (t : Table) (base : ℕ)
-    (mid new : Table) (lines_old lines_mid written_old written_mid written_new : List ℕ)
+-- where memory was refused before the table of one more field line changed
+stops_before : {H : Type 0} (line : H → FieldLine) (xs : List H) (i : ℕ) (t : Table) (base : ℕ) (mid new : Table)
+    (lines_old lines_mid written_old written_mid written_new : List ℕ)
+    → AddsChosen (map line (take i xs)) t base mid lines_old lines_mid written_old written_mid
+    → without_references new ≡ without_references mid → written_new ≡ written_mid
+    → StopsAmongChosen (map line xs) t base new written_old written_new
+stops_before line xs i t base mid new lines_old lines_mid written_old written_mid written_new so_far same none =
+    record {
+      many = i;
+      choices = so_far.choices;
+      table = rw (take_of line xs i) (same ∙ ap (λ (x : Table). without_references x) so_far.adds.table);
+      written = rw (take_of line xs i) (none ∙ so_far.adds.written);
+    }
+
+-- and where it was refused behind that
+stops_behind : {H : Type 0} (line : H → FieldLine) (xs : List H) (i : ℕ) (x : H) (t : Table) (base : ℕ)
+    (mid new : Table) (c : Chosen) (lines_old lines_mid written_old written_mid written_new : List ℕ)
     → i < length xs → x ≡ get_or xs i x
     → AddsChosen (map line (take i xs)) t base mid lines_old lines_mid written_old written_mid
-    → StopsOne (line x) base mid new written_mid written_new
+    → new ≡ (chosen_field base (draft_at mid) (line x) c).table
+    → written_new
+    ≡ written_mid ++ written_encoder_instructions (chosen_field base (draft_at mid) (line x) c).instructions
     → StopsAmongChosen (map line xs) t base new written_old written_new
-stops_chosen line xs i x t base mid new lines_old lines_mid written_old written_mid written_new within is so_far
-    (c, stops) =
+stops_behind line xs i x t base mid new c lines_old lines_mid written_old written_mid written_new within is so_far table
+    written =
     let ls = map line (take i xs) in
     let l = line x in
     let d = chosen_fields base (draft_at t) ls so_far.choices in
     let goes = goes_on_chosen t base ls l so_far.choices c so_far.each in
     let m = chosen_field base (draft_at d.table) l c in
     let now : mid ≡ d.table = so_far.adds.table in
-    elim stops [
-      | inl h ↦
-          record {
-            many = i;
-            choices = so_far.choices;
-            table = rw (take_lines line xs i) (h.0 ∙ ap (λ (x : Table). without_references x) now);
-            written = rw (take_lines line xs i) (h.1 ∙ so_far.adds.written);
-          }
-      | inr h ↦
-          let front : take (i + 1) (map line xs) ≡ ls ++ l ∷ [] =
-          take_lines line xs (i + 1) ∙ rw (front_of line xs i x within, ← is) refl in
-          record {
-            many = i + 1;
-            choices = so_far.choices ++ c ∷ [];
-            table = rw front (ap (λ (x : Table). without_references x)
-                (h.0 ∙ ap (λ (x : Table). (chosen_field base (draft_at x) l c).table) now ∙ sym goes.table));
-            written = rw front (appended written_old (written_encoder_instructions d.instructions)
-                (written_encoder_instructions m.instructions) written_mid written_new so_far.adds.written
-                (h.1
-                ∙ ap (λ (x : Table). written_mid
-                ++ written_encoder_instructions (chosen_field base (draft_at x) l c).instructions) now)
-                ∙ ap (λ (x : List ℕ). written_old ++ x)
-                (sym (ap written_encoder_instructions goes.instructions
-                ∙ instructions_behind d.instructions m.instructions)));
-          }
-    ]
-
-pub stops_chosen_next : {H : Type 0} (line : H → FieldLine) (xs : List H) (i : ℕ) (x : H) (f : FieldLine) (t : Table)
-    (base other : ℕ) (mid new : Table) (lines_old lines_mid written_old written_mid written_new : List ℕ)
-    → i < length xs → x ≡ get_or xs i x → other ≡ base → f ≡ line x
-    → AddsChosen (map line (take i xs)) t base mid lines_old lines_mid written_old written_mid
-    → StopsOne f other mid new written_mid written_new
-    → StopsAmongChosen (map line xs) t base new written_old written_new
-stops_chosen_next line xs i x f t base other mid new lines_old lines_mid written_old written_mid written_new within is
-    same lent so_far stops =
-    stops_chosen line xs i x t base mid new lines_old lines_mid written_old written_mid written_new within is so_far
-    (subst (λ (b : ℕ). StopsOne (line x) b mid new written_mid written_new) same
-    (subst (λ (l : FieldLine). StopsOne l other mid new written_mid written_new) lent stops))
+    let front : take (i + 1) (map line xs) ≡ ls ++ l ∷ [] = front_with line xs i x within is in
+    record {
+      many = i + 1;
+      choices = so_far.choices ++ c ∷ [];
+      table = rw front (ap (λ (x : Table). without_references x)
+          (table ∙ ap (λ (x : Table). (chosen_field base (draft_at x) l c).table) now ∙ sym goes.table));
+      written = rw front (appended written_old (written_encoder_instructions d.instructions)
+          (written_encoder_instructions m.instructions) written_mid written_new so_far.adds.written
+          (written
+          ∙ ap (λ (x : Table). written_mid
+          ++ written_encoder_instructions (chosen_field base (draft_at x) l c).instructions) now)
+          ∙ ap (λ (x : List ℕ). written_old ++ x)
+          (sym (ap written_encoder_instructions goes.instructions
+          ∙ instructions_behind d.instructions m.instructions)));
+    }
 
 -- ---- by a chooser
 
 -- the chooser is asked for a field that is never to be indexed, and for one that no static field equals
-pub asked_marked : {K W : Type 0} (chooses : Chooses K W) (before after : K) (t : Table) (l : FieldLine) (w : W)
-    (c : Chosen) → l.never_indexed ≡ true → chooses before t l w c after → ChoosesField chooses before t l w c after
-asked_marked chooses before after t l w c marked k = by (static_index l.field) l.never_indexed marked
+pub asked_marked : {K W : Type 0} (chooses : Chooses K W) (before after : K) (base : ℕ) (t : Table)
+    (l : FieldLine) (w : W) (c : Chosen) → l.never_indexed ≡ true → chooses before base t l w c after → ChoosesField chooses before base t l w c after
+asked_marked chooses before after base t l w c marked k = by (static_index l.field) l.never_indexed marked
   where
-    by : (o : Option ℕ) (b : Bool) → b ≡ true → ChoosesUnless o b chooses before t l w c after
+    by : (o : Option ℕ) (b : Bool) → b ≡ true → ChoosesUnless o b chooses before base t l w c after
     by None b is = k
     by (Some i) true is = k
     by (Some i) false is = absurd cc
 
-pub asked_new : {K W : Type 0} (chooses : Chooses K W) (before after : K) (t : Table) (l : FieldLine) (w : W)
-    (c : Chosen) → static_index l.field ≡ None → chooses before t l w c after → ChoosesField chooses before t l w c after
-asked_new chooses before after t l w c none k =
-    subst (λ (o : Option ℕ). ChoosesUnless o l.never_indexed chooses before t l w c after) (sym none) k
+pub asked_new : {K W : Type 0} (chooses : Chooses K W) (before after : K) (base : ℕ) (t : Table)
+    (l : FieldLine) (w : W) (c : Chosen) → static_index l.field ≡ None → chooses before base t l w c after → ChoosesField chooses before base t l w c after
+asked_new chooses before after base t l w c none k =
+    subst (λ (o : Option ℕ). ChoosesUnless o l.never_indexed chooses before base t l w c after) (sym none) k
 
 -- and not for one that a static field equals
-pub not_asked : {K W : Type 0} (chooses : Chooses K W) (k : K) (t : Table) (l : FieldLine) (w : W) (i : ℕ)
-    → l.never_indexed ≡ false → static_index l.field ≡ Some i → ChoosesField chooses k t l w alone_chosen k
-not_asked chooses k t l w i plain some =
-    subst (λ (o : Option ℕ). ChoosesUnless o l.never_indexed chooses k t l w alone_chosen k) (sym some)
-    (subst (λ (b : Bool). ChoosesUnless (Some i) b chooses k t l w alone_chosen k) (sym plain) (refl, refl))
+pub not_asked : {K W : Type 0} (chooses : Chooses K W) (k : K) (base : ℕ) (t : Table) (l : FieldLine) (w : W)
+    (i : ℕ)
+    → l.never_indexed ≡ false → static_index l.field ≡ Some i → ChoosesField chooses k base t l w alone_chosen k
+not_asked chooses k base t l w i plain some =
+    subst (λ (o : Option ℕ). ChoosesUnless o l.never_indexed chooses k base t l w alone_chosen k) (sym some)
+    (subst (λ (b : Bool). ChoosesUnless (Some i) b chooses k base t l w alone_chosen k) (sym plain) (refl, refl))
 
 chooses_last : {K W : Type 0} (chooses : Chooses K W) (base : ℕ) (d : Draft) (old mid new : K) (ls : List FieldLine)
     (ws : List W) (cs : List Chosen) (l : FieldLine) (w : W) (c : Chosen)
     → ChoosesAlong chooses base d old ls ws cs mid
-    → ChoosesField chooses mid (chosen_fields base d ls cs).table l w c new
+    → ChoosesField chooses mid base (chosen_fields base d ls cs).table l w c new
     → ChoosesAlong chooses base d old (ls ++ l ∷ []) (ws ++ w ∷ []) (cs ++ c ∷ []) new
 chooses_last {K = K} chooses base d old mid new [] [] [] l w c k one =
-    subst (λ (x : K). (y : K) × ChoosesField chooses x d.table l w c y × (new ≡ y)) k (new, one, refl)
+    subst (λ (x : K). (y : K) × ChoosesField chooses x base d.table l w c y × (new ≡ y)) k (new, one, refl)
 chooses_last chooses base d old mid new (x ∷ ls) (v ∷ ws) (b ∷ cs) l w c (next, first, k) one =
     (next, first, chooses_last chooses base (chosen_field base d x b) next mid new ls ws cs l w c k one)
 chooses_last chooses base d old mid new [] [] (b ∷ cs) l w c k one = absurd k
@@ -328,13 +323,8 @@ along_last chooses t base ls ws l w mid new first before after lines_old lines_m
           so_far.adds (one.choice, one.adds);
       along = chooses_last chooses base (draft_at t) first before after ls ws so_far.adds.choices l w one.choice
           so_far.along
-          (subst (λ (x : Table). ChoosesField chooses before x l w one.choice after) so_far.adds.adds.table one.chose);
+          (subst (λ (x : Table). ChoosesField chooses before base x l w one.choice after) so_far.adds.adds.table one.chose);
     }
-
--- the first items, and one more
-front_with : {H B : Type 0} (g : H → B) (xs : List H) (i : ℕ) (d : H) → i < length xs
-    → map g (take (i + 1) xs) ≡ map g (take i xs) ++ g (get_or xs i d) ∷ []
-front_with g xs i d within = rw (add-one, take-suc xs i d within) (map-append g (take i xs) (get_or xs i d ∷ []))
 
 pub along_next : {K W H : Type 0} (chooses : Chooses K W) (line : H → FieldLine) (wish : H → W) (xs : List H) (i : ℕ)
     (x : H) (f : FieldLine) (w : W) (t : Table) (base other : ℕ) (mid new : Table) (first before after : K)
@@ -347,7 +337,7 @@ pub along_next : {K W H : Type 0} (chooses : Chooses K W) (line : H → FieldLin
     lines_new written_old written_new
 along_next {W = W} chooses line wish xs i x f w t base other mid new first before after lines_old lines_mid lines_new
     written_old written_mid written_new within is same lent asked so_far more =
-    rw (front_with line xs i x within, front_with wish xs i x within, ← is)
+    rw (front_of line xs i x within, front_of wish xs i x within, ← is)
     (along_last chooses t base (map line (take i xs)) (map wish (take i xs)) (line x) (wish x) mid new first before
     after lines_old lines_mid lines_new written_old written_mid written_new so_far
     (subst (λ (b : ℕ). AddsByChooser chooses (line x) (wish x) b mid new before after lines_mid lines_new written_mid
@@ -356,3 +346,53 @@ along_next {W = W} chooses line wish xs i x f w t base other mid new first befor
     written_new) asked
     (subst (λ (l : FieldLine). AddsByChooser chooses l w other mid new before after lines_mid lines_new written_mid
     written_new) lent more))))
+
+-- ---- where memory was refused, by a chooser
+
+stops_along : {K W H : Type 0} (chooses : Chooses K W) (line : H → FieldLine) (wish : H → W) (xs : List H) (i : ℕ)
+    (x : H) (t : Table) (base : ℕ) (mid new : Table) (first before : K)
+    (lines_old lines_mid written_old written_mid written_new : List ℕ)
+    → i < length xs → x ≡ get_or xs i x
+    → AddsAlong chooses (map line (take i xs)) (map wish (take i xs)) t base mid first before lines_old lines_mid
+    written_old written_mid
+    → StopsByChooser chooses (line x) (wish x) base mid new before written_mid written_new
+    → StopsAlong chooses (map line xs) (map wish xs) t base new first written_old written_new
+unfolding stops_before stops_behind
+stops_along {K = K} chooses line wish xs i x t base mid new first before lines_old lines_mid written_old written_mid
+    written_new within is so_far one =
+    elim one.stops [
+      | inl h ↦
+          record {
+            stops = stops_before line xs i t base mid new lines_old lines_mid written_old written_mid written_new
+                so_far.adds h.0 h.1;
+            after = before;
+            along = rw (take_of line xs i, take_of wish xs i) so_far.along;
+          }
+      | inr h ↦
+          record {
+            stops = stops_behind line xs i x t base mid new one.choice lines_old lines_mid written_old written_mid
+                written_new within is so_far.adds h.0 h.1;
+            after = one.after;
+            along = rw (front_with line xs i x within is, front_with wish xs i x within is)
+                (chooses_last chooses base (draft_at t) first before one.after (map line (take i xs))
+                (map wish (take i xs)) so_far.adds.choices (line x) (wish x) one.choice so_far.along
+                (subst (λ (u : Table). ChoosesField chooses before base u (line x) (wish x) one.choice one.after)
+                so_far.adds.adds.table one.chose));
+          }
+    ]
+
+pub stops_along_next : {K W H : Type 0} (chooses : Chooses K W) (line : H → FieldLine) (wish : H → W) (xs : List H)
+    (i : ℕ) (x : H) (f : FieldLine) (w : W) (t : Table) (base other : ℕ) (mid new : Table) (first before : K)
+    (lines_old lines_mid written_old written_mid written_new : List ℕ)
+    → i < length xs → x ≡ get_or xs i x → other ≡ base → f ≡ line x → w ≡ wish x
+    → AddsAlong chooses (map line (take i xs)) (map wish (take i xs)) t base mid first before lines_old lines_mid
+    written_old written_mid
+    → StopsByChooser chooses f w other mid new before written_mid written_new
+    → StopsAlong chooses (map line xs) (map wish xs) t base new first written_old written_new
+stops_along_next {W = W} chooses line wish xs i x f w t base other mid new first before lines_old lines_mid written_old
+    written_mid written_new within is same lent asked so_far one =
+    stops_along chooses line wish xs i x t base mid new first before lines_old lines_mid written_old written_mid
+    written_new within is so_far
+    (subst (λ (b : ℕ). StopsByChooser chooses (line x) (wish x) b mid new before written_mid written_new) same
+    (subst (λ (v : W). StopsByChooser chooses (line x) v other mid new before written_mid written_new) asked
+    (subst (λ (l : FieldLine). StopsByChooser chooses l w other mid new before written_mid written_new) lent one)))

@@ -421,12 +421,6 @@ adds_uninserted t new base l c lines_old lines_new written unmarked none k =
           ∙ ap (λ is. written ++ written_encoder_instructions is) (sym k.none);
     })
 
--- an insertion after a line does what it does at the line's table
-record AfterLine (d x y : Draft) : Type 0 where
-  table : x.table ≡ y.table
-  lines : x.lines ≡ d.lines
-  instructions : x.instructions ≡ y.instructions
-
 -- ---- a field that is inserted for its line
 
 -- the room and the limit were asked

@@ -5,11 +5,9 @@ use Rattle.std.proofs.Common.{Result, Ok, Err, refl, ap, ◌∙◌, sym, arith, 
 use Rattle.std.proofs.lemmas.List.{map-append}
 use Rattle.std.specs.declared.vec.Vec.{Vec}
 use Rattle.qpack_spec.specs.Field.{Field, FieldLine, fields_of_lines, field_size, total_size}
-use Rattle.qpack_spec.specs.Handle.{Insertable, Insertion}
-use Rattle.qpack_spec.specs.Table.{Table}
 use Rattle.qpack_spec.proofs.Sizes.{total_first, total_last}
 use Rattle.qpack_base.specs.Writes.{Writes}
-use Rattle.qpack_codec.specs.Encoding.{written_insertion, GrowsWithin, instructions_room}
+use Rattle.qpack_codec.specs.Encoding.{GrowsWithin, instructions_room}
 use Rattle.qpack_codec.proofs.AddedFields.{front_of}
 
 -- nothing was appended
@@ -23,14 +21,6 @@ pub record MakesRoom {A : Type 0} (room : ℕ) (old made : Vec ℕ A) : Type 0 w
   pub len : vec_len made ≡ vec_len old
   pub still : vec_len old + least ≤ vec_capacity old → vec_capacity made ≡ vec_capacity old
   pub capacity : vec_capacity old ≤ vec_capacity made
-
-pub grows_made : {A : Type 0} {room : ℕ} {old made : Vec ℕ A} → MakesRoom room old made → GrowsWithin room old made
-grows_made m =
-    record {
-      longer = omega (arith, m.len);
-      still = λ fits. m.still (omega (arith, fits, m.within));
-      capacity = m.capacity;
-    }
 
 -- what is written is as long as it is, or not there
 wrote_longer : {A E : Type 0} (encoding : List ℕ) (old new : Vec ℕ A) (r : Result (Unit {0}) E)
@@ -50,13 +40,6 @@ grows_written {made = made} m encoding new r free small wrote =
       still = λ fits. wrote.still (omega (arith, free, small)) ∙ m.still (omega (arith, fits, m.within));
       capacity = omega (arith, m.capacity, wrote.capacity);
     }
-
--- the instruction of what was inserted fits
-pub inserted_fits : (room : ℕ) (f : Field) (i : Insertable) (insertion : Insertion) (new : Table)
-    → i ≡ record { insertion = insertion; table = new } → length (written_insertion f i.insertion) ≤ room
-    → length (written_insertion f insertion) ≤ room
-inserted_fits room f i insertion new is enough =
-    omega (arith, enough, ap (λ (x : Insertable). length (written_insertion f x.insertion)) is)
 
 -- one behind the other
 grows_on : {A : Type 0} (first second both : ℕ) (old mid new : Vec ℕ A) → GrowsWithin first old mid

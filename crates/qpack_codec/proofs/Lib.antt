@@ -11,7 +11,6 @@ pub mod Increments
 pub mod Counts
 pub mod Hearing
 pub mod StaticMatches
-pub mod Additions
 pub mod BareTables
 pub mod Alike
 pub mod Rooms
@@ -21,6 +20,7 @@ pub mod ChosenFields
 pub mod ChosenLines
 pub mod ChosenBlocks
 pub mod ChosenRoom
+pub mod NewestChosen
 pub mod MarkedFields
 pub mod InstructionsRoom
 pub mod ReferencedRoom

@@ -1,15 +1,13 @@
 -- Field lines that are marked as never to be indexed, and those that are not.
-use Rattle.std.proofs.Common.{◌≡◌, ℕ, zero, suc, List, [], ◌∷◌, ◌++◌, map, take, Bool, true, false, cond, Option}
-use Rattle.std.proofs.Common.{Some, None, refl}
+use Rattle.std.proofs.Common.{◌≡◌, ℕ, zero, suc, List, [], ◌∷◌, ◌++◌, map, take, Bool, false, cond, Option}
+use Rattle.std.proofs.Common.{None, refl}
 use Rattle.std.proofs.Common.{sym, ap, subst, ◌∙◌, inl, inr, append-nil, append_assoc, Result, Ok, Err, ◌+◌, ◌<◌}
 use Rattle.std.proofs.Common.{get_or, length, length-append, ◌≤◌, arith, vec_len, vec_capacity}
 use Rattle.std.specs.declared.vec.Vec.{Vec}
 use Rattle.std.specs.Borrow.{Bor}
-use Rattle.std.specs.Prelude.{OnOk, OnErr, IfOk}
-use Rattle.std.proofs.lemmas.Bool.{cond_both}
+use Rattle.std.specs.Prelude.{OnErr, IfOk}
 use Rattle.qpack_spec.specs.BlockReading.{written_block}
-use Rattle.qpack_spec.specs.Field.{Field, FieldLine, has_name, unmarked}
-use Rattle.qpack_spec.specs.Handle.{Lookup, Found, found_entry, found_name, found_instead, literal_at, with_insertion}
+use Rattle.qpack_spec.specs.Field.{Field, FieldLine, unmarked}
 use Rattle.qpack_spec.specs.Instruction.{written_encoder_instructions}
 use Rattle.qpack_spec.specs.Line.{Line, written_line, written_lines, written_marked_line}
 use Rattle.qpack_spec.specs.Marked.{marked_rule, written_marked_lines, written_marked_block, stateless_line_marked}
@@ -18,12 +16,10 @@ use Rattle.qpack_spec.specs.Prefix.{Prefix, written_prefix, prefix_for}
 use Rattle.qpack_spec.specs.Rule.{Draft, rule, block_of, required_insert_count, committed_table}
 use Rattle.qpack_spec.specs.Stateless.{stateless_line, stateless_literal}
 use Rattle.qpack_spec.specs.StaticTable.{static_name_index}
-use Rattle.qpack_spec.specs.Table.{Table, empty_table, without_references, with_reference, may_reference}
-use Rattle.qpack_spec.specs.Table.{newest_index}
+use Rattle.qpack_spec.specs.Table.{Table, empty_table, without_references}
 use Rattle.qpack_spec.proofs.Marked.{is_rule_unmarked}
 use Rattle.qpack_base.specs.HeaderFields.{field_of, fields_behind, DrainsFields}
 use Rattle.qpack_base.specs.declared.field.HeaderField.{HeaderField}
-use Rattle.qpack_codec.specs.Encoding.{draft_at, draft_of_field, draft_of_line, Adds, AddsLines, StopsAdding}
 use Rattle.qpack_codec.specs.Encoding.{DrainsLinesOf}
 use Rattle.qpack_codec.specs.Encoding.{EncodesLines, EncodesBlock, GivesUpLines, GivesUpBlock, StopsEncodingLinesOf}
 use Rattle.qpack_codec.specs.Encoding.{StopsEncoding}
@@ -31,64 +27,6 @@ use Rattle.qpack_codec.specs.declared.error.EncoderError.{EncoderError}
 use Rattle.qpack_codec.proofs.AddedFields.{front_of}
 
 -- ---- a field that is never to be indexed
-
-never_drafts : (t : Table) (base : ℕ) (l : FieldLine) → l.never_indexed ≡ true
-    → draft_of_line t base l
-    ≡ with_insertion (draft_at t) l.field (found_instead
-    (found_name t base l.field (static_name_index l.field.name)))
-never_drafts t base l is =
-    ap (λ (b : Bool). cond b (with_insertion (draft_at t) l.field (found_instead
-    (found_name t base l.field (static_name_index l.field.name)))) (draft_of_field t base l.field)) is
-
-adds_found_name : (t : Table) (l : FieldLine) (found : Found) (lookup : Lookup) (new : Table)
-    (lines_old lines_new written : List ℕ) → found ≡ record { lookup = lookup; table = new }
-    → lines_new ≡ lines_old ++ written_marked_line l.never_indexed (literal_at l.field lookup)
-    → AddsLines (l ∷ []) (with_insertion (draft_at t) l.field (found_instead found)) new lines_old lines_new written
-    written
-unfolding written_marked_lines written_lines written_encoder_instructions
-adds_found_name t l found lookup new lines_old lines_new written is lines =
-    record {
-      table = sym (ap (λ (x : Found). x.table) is);
-      lines = lines
-          ∙ ap (λ (x : Found). lines_old ++ written_marked_line l.never_indexed (literal_at l.field x.lookup)) (sym is)
-          ∙ ap (λ (x : List ℕ). lines_old ++ x)
-          (sym (append-nil (written_marked_line l.never_indexed (literal_at l.field found.lookup))));
-      written = sym (append-nil written);
-    }
-
-pub adds_literal : (t : Table) (base : ℕ) (l : FieldLine) (lookup : Lookup) (new : Table)
-    (lines_old lines_new written : List ℕ) → l.never_indexed ≡ true
-    → found_name t base l.field (static_name_index l.field.name) ≡ record { lookup = lookup; table = new }
-    → lines_new ≡ lines_old ++ written_marked_line l.never_indexed (literal_at l.field lookup)
-    → AddsLines (l ∷ []) (draft_of_line t base l) new lines_old lines_new written written
-adds_literal t base l lookup new lines_old lines_new written never is lines =
-    subst (λ (d : Draft). AddsLines (l ∷ []) d new lines_old lines_new written written)
-    (sym (never_drafts t base l never))
-    (adds_found_name t l (found_name t base l.field (static_name_index l.field.name)) lookup new lines_old lines_new
-    written is lines)
-
--- looking for a name changes what is referenced alone
-name_keeps : (t : Table) (base : ℕ) (f : Field) (o : Option ℕ)
-    → without_references (found_name t base f o).table ≡ without_references t
-unfolding without_references with_reference
-name_keeps t base f (Some i) = refl
-name_keeps t base f None = by_index (newest_index t (has_name f.name))
-  where
-    by_index : (o : Option ℕ) → without_references (found_entry t base o).table ≡ without_references t
-    by_index None = refl
-    by_index (Some a) =
-        cond_both (may_reference t a) _ _ (λ (x : Found). without_references x.table ≡ without_references t) (λ b. refl)
-        (λ b. refl)
-
--- its line is refused
-pub stops_name : (t : Table) (base : ℕ) (f : Field) (lookup : Lookup) (new : Table) (d : Draft) (written : List ℕ)
-    → found_name t base f (static_name_index f.name) ≡ record { lookup = lookup; table = new }
-    → StopsAdding d t new written written
-stops_name t base f lookup new d written is =
-    inl (
-      ap (λ (x : Found). without_references x.table) (sym is) ∙ name_keeps t base f (static_name_index f.name),
-      refl,
-    )
 
 -- ---- a field that may be indexed
 
@@ -104,35 +42,6 @@ lines_unmarked t l ls is =
     ap (λ (b : Bool). written_marked_lines ((let k : FieldLine = record { field = l.field; never_indexed = b } in k)
     ∷ []) ls) is
     ∙ (is_rule_unmarked t (l.field ∷ [])).lines ls
-
-unmarked_drafts : (t : Table) (base : ℕ) (l : FieldLine) → l.never_indexed ≡ false
-    → draft_of_line t base l ≡ draft_of_field t base l.field
-unmarked_drafts t base l is =
-    ap (λ (b : Bool). cond b (with_insertion (draft_at t) l.field (found_instead
-    (found_name t base l.field (static_name_index l.field.name)))) (draft_of_field t base l.field)) is
-
-adds_unmarked : (t : Table) (base : ℕ) (l : FieldLine) (new : Table)
-    (lines_old lines_new written_old written_new : List ℕ) → l.never_indexed ≡ false
-    → Adds (draft_of_field t base l.field) new lines_old lines_new written_old written_new
-    → AddsLines (l ∷ []) (draft_of_line t base l) new lines_old lines_new written_old written_new
-adds_unmarked t base l new lines_old lines_new written_old written_new is adds =
-    subst (λ (d : Draft). AddsLines (l ∷ []) d new lines_old lines_new written_old written_new)
-    (sym (unmarked_drafts t base l is))
-    (record {
-      table = adds.table;
-      lines = adds.lines
-          ∙ ap (λ (x : List ℕ). lines_old ++ x)
-          (sym (lines_unmarked t l (draft_of_field t base l.field).lines is));
-      written = adds.written;
-    })
-
-pub on_ok_unmarked : {A E : Type 0} (r : Result A E) (t : Table) (base : ℕ) (l : FieldLine) (new : Table)
-    (lines_old lines_new written_old written_new : List ℕ) → l.never_indexed ≡ false
-    → OnOk r (Adds (draft_of_field t base l.field) new lines_old lines_new written_old written_new)
-    → OnOk r (AddsLines (l ∷ []) (draft_of_line t base l) new lines_old lines_new written_old written_new)
-on_ok_unmarked (Ok x) t base l new lines_old lines_new written_old written_new is adds =
-    adds_unmarked t base l new lines_old lines_new written_old written_new is adds
-on_ok_unmarked (Err e) t base l new lines_old lines_new written_old written_new is adds = tt
 
 -- ---- a block of fields none of which is marked
 

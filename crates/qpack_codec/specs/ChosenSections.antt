@@ -7,7 +7,7 @@ use Rattle.qpack_spec.specs.Marked.{written_marked_block, written_marked_lines}
 use Rattle.qpack_spec.specs.Rule.{Draft, empty_draft, required_insert_count, block_of, committed_table}
 use Rattle.qpack_spec.specs.Table.{Table, insert_count, without_references}
 use Rattle.qpack_codec.specs.ChoosesAlong.{Chooses, ChoosesField, ChoosesAlong}
-use Rattle.qpack_codec.specs.Encoding.{draft_at, AddsLines}
+use Rattle.qpack_codec.specs.Encoding.{draft_at, AddsLines, StopsAdding}
 
 -- ---- one field
 
@@ -76,15 +76,31 @@ pub record GivesUpChosen (fields : List FieldLine) (old new : Table) (written_ol
 pub record AddsByChooser {K W : Type 0} (chooses : Chooses K W) (l : FieldLine) (wish : W) (base : ℕ) (old new : Table)
     (before after : K) (lines_old lines_new written_old written_new : List ℕ) : Type 0 where
   pub choice : Chosen
-  pub chose : ChoosesField chooses before old l wish choice after
+  pub chose : ChoosesField chooses before base old l wish choice after
   pub adds : AddsLines (l ∷ []) (chosen_field base (draft_at old) l choice) new lines_old lines_new written_old
       written_new
+
+-- memory was refused for what a chooser chose for one field line: nothing was added, or the field was inserted
+pub record StopsByChooser {K W : Type 0} (chooses : Chooses K W) (l : FieldLine) (wish : W) (base : ℕ)
+    (old new : Table) (before : K) (written_old written_new : List ℕ) : Type 0 where
+  pub choice : Chosen
+  pub after : K
+  pub chose : ChoosesField chooses before base old l wish choice after
+  pub stops : StopsAdding (chosen_field base (draft_at old) l choice) old new written_old written_new
 
 -- field lines were added under a chooser's choices, one after the other
 pub record AddsAlong {K W : Type 0} (chooses : Chooses K W) (fields : List FieldLine) (wishes : List W) (old : Table)
     (base : ℕ) (new : Table) (before after : K) (lines_old lines_new written_old written_new : List ℕ) : Type 0 where
   pub adds : AddsChosen fields old base new lines_old lines_new written_old written_new
   pub along : ChoosesAlong chooses base (draft_at old) before fields wishes adds.choices after
+
+-- memory was refused after some of the field lines, which were added under a chooser's choices
+pub record StopsAlong {K W : Type 0} (chooses : Chooses K W) (fields : List FieldLine) (wishes : List W) (old : Table)
+    (base : ℕ) (new : Table) (before : K) (written_old written_new : List ℕ) : Type 0 where
+  pub stops : StopsAmongChosen fields old base new written_old written_new
+  pub after : K
+  pub along : ChoosesAlong chooses base (draft_at old) before (take stops.many fields) (take stops.many wishes)
+      stops.choices after
 
 -- the choices of a section are those of a chooser, from its start to its end
 pub record ChoosesSection {K W : Type 0} (chooses : Chooses K W) (fields : List FieldLine) (wishes : List W)
@@ -98,6 +114,18 @@ pub record DraftsAlong {K W : Type 0} (chooses : Chooses K W) (fields : List Fie
     (old new : Table) (block_old block_new written_old written_new : List ℕ) (required : ℕ) : Type 0 where
   pub drafts : DraftsChosen fields old new block_old block_new written_old written_new required
   pub along : ChoosesSection chooses fields wishes old drafts.choices
+
+-- the block of the field lines was written by what a chooser chose
+pub record WritesAlong {K W : Type 0} (chooses : Chooses K W) (stream : ℕ) (fields : List FieldLine) (wishes : List W)
+    (old new : Table) (block_old block_new written_old written_new : List ℕ) (required : ℕ) : Type 0 where
+  pub section : EncodesChosen stream fields old new block_old block_new written_old written_new required
+  pub along : ChoosesSection chooses fields wishes old section.choices
+
+-- the block was given up after some of the field lines, which a chooser chose for
+pub record GivesUpAlong {K W : Type 0} (chooses : Chooses K W) (fields : List FieldLine) (wishes : List W)
+    (old new : Table) (written_old written_new : List ℕ) : Type 0 where
+  pub given_up : GivesUpChosen fields old new written_old written_new
+  pub along : ChoosesSection chooses (take given_up.many fields) (take given_up.many wishes) old given_up.choices
 
 -- the block of the field lines was written by what a chooser chose; at capacity 0 the chooser is not called
 pub record EncodesAlong {K W : Type 0} (chooses : Chooses K W) (stream : ℕ) (fields : List FieldLine) (wishes : List W)

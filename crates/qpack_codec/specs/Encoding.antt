@@ -12,8 +12,8 @@ use Rattle.qpack_spec.specs.BlockReading.{written_block}
 use Rattle.qpack_spec.specs.Table.{Table, without_references}
 use Rattle.qpack_spec.specs.Rule.{Draft, rule, required_insert_count, block_of, committed_table}
 use Rattle.qpack_spec.specs.Handle.{Insertion, Duplicated, InsertedWithStaticName, InsertedWithName, Inserted}
-use Rattle.qpack_spec.specs.Handle.{NotInserted, handle_field}
-use Rattle.qpack_spec.specs.Marked.{marked_rule, written_marked_lines, written_marked_block, handle_line, handle_lines}
+use Rattle.qpack_spec.specs.Handle.{NotInserted}
+use Rattle.qpack_spec.specs.Marked.{marked_rule, written_marked_lines, written_marked_block}
 use Rattle.qpack_base.specs.HeaderFields.{DrainsFields}
 use Rattle.qpack_base.specs.declared.field.HeaderField.{HeaderField}
 
@@ -71,10 +71,6 @@ GrowsForFields steps it old new =
 abbrev pub draft_at : Table → Draft
 draft_at t = record { table = t; lines = []; instructions = [] }
 
--- what one field makes of it
-abbrev pub draft_of_field : Table → ℕ → Field → Draft
-draft_of_field t base f = handle_field base (draft_at t) f
-
 -- the table is the draft's, and exactly its lines and instructions were written
 pub record Adds (d : Draft) (new : Table) (lines_old lines_new written_old written_new : List ℕ) : Type 0 where
   pub table : new ≡ d.table
@@ -90,14 +86,6 @@ StopsAdding d old new written_old written_new =
 
 -- ---- field lines
 
--- what one field line makes of it
-abbrev pub draft_of_line : Table → ℕ → FieldLine → Draft
-draft_of_line t base l = handle_line base (draft_at t) l
-
--- what field lines make of it, one after the other
-abbrev pub draft_of_lines : Table → ℕ → List FieldLine → Draft
-draft_of_lines t base ls = handle_lines base (draft_at t) ls
-
 -- the table is the draft's, and exactly the lines of these field lines and its instructions were written
 pub record AddsLines (ls : List FieldLine) (d : Draft) (new : Table) (lines_old lines_new written_old written_new :
     List ℕ) : Type 0 where
@@ -105,25 +93,7 @@ pub record AddsLines (ls : List FieldLine) (d : Draft) (new : Table) (lines_old 
   pub lines : lines_new ≡ lines_old ++ written_marked_lines ls d.lines
   pub written : written_new ≡ written_old ++ written_encoder_instructions d.instructions
 
--- memory was refused after some of the field lines: except for references, the table is the one after them, and exactly
--- their instructions were written
-pub record StopsAmong (fields : List FieldLine) (old : Table) (base : ℕ) (new : Table) (written_old written_new :
-    List ℕ) : Type 0 where
-  pub many : ℕ
-  pub table : without_references new ≡ without_references (draft_of_lines old base (take many fields)).table
-  pub written : written_new
-      ≡ written_old ++ written_encoder_instructions (draft_of_lines old base (take many fields)).instructions
-
 -- ---- a block
-
--- the block of the field lines was written, and is not ended: its bytes and its instructions are the rule's, the table
--- is the rule's after its lines, and its required insert count is returned
-pub record DraftsBlock (fields : List FieldLine) (old new : Table) (block_old block_new written_old written_new :
-    List ℕ) (required : ℕ) : Type 0 where
-  pub required_is : required ≡ required_insert_count (marked_rule old fields)
-  pub table : new ≡ (marked_rule old fields).table
-  pub block : block_new ≡ block_old ++ written_marked_block fields (block_of old (marked_rule old fields))
-  pub written : written_new ≡ written_old ++ written_encoder_instructions (marked_rule old fields).instructions
 
 -- the block of the field lines was written: its bytes and its instructions are the rule's, the table is the rule's
 -- after the block, and its required insert count is returned

@@ -15,4 +15,5 @@ pub mod Encoding
 pub mod Choices
 pub mod ChoosesAlong
 pub mod ChosenSections
+pub mod NewestFirst
 pub mod RequestStreams

@@ -21,6 +21,7 @@ use std::marker::Model;
 mod choices;
 mod chosen_fields;
 pub(crate) mod fields;
+mod newest_first;
 mod sections;
 
 pub use crate::encoder::choices::{AsField, Choice, Chooses, Wish, WishedField};

@@ -13,11 +13,11 @@ use Rattle.qpack_ends.specs.Wishes.{by_wish, SuitsUnless, SuitsField, SuitAlong,
 
 -- ---- along the fields of a section
 
-suits_field : {K : Type 0} (before after : K) (t : Table) (l : FieldLine) (w : Wish) (c : Chosen)
-    → ChoosesField (by_wish K) before t l w c after → SuitsField t l w c
-suits_field {K = K} before after t l w c k = by (static_index l.field) l.never_indexed k
+suits_field : {K : Type 0} (before after : K) (base : ℕ) (t : Table) (l : FieldLine) (w : Wish) (c : Chosen)
+    → ChoosesField (by_wish K) before base t l w c after → SuitsField t l w c
+suits_field {K = K} before after base t l w c k = by (static_index l.field) l.never_indexed k
   where
-    by : (o : Option ℕ) (marked : Bool) → ChoosesUnless o marked (by_wish K) before t l w c after
+    by : (o : Option ℕ) (marked : Bool) → ChoosesUnless o marked (by_wish K) before base t l w c after
         → SuitsUnless o marked t l w c
     by (Some i) false k = k.0
     by (Some i) true k = k
@@ -27,7 +27,7 @@ suit_along : {K : Type 0} (base : ℕ) (d : Draft) (before after : K) (ls : List
     (cs : List Chosen) → ChoosesAlong (by_wish K) base d before ls ws cs after → SuitAlong base d ls ws cs
 suit_along base d before after [] [] [] k = tt
 suit_along base d before after (l ∷ ls) (w ∷ ws) (c ∷ cs) (mid, one, k) =
-    (suits_field before mid d.table l w c one, suit_along base (chosen_field base d l c) mid after ls ws cs k)
+    (suits_field before mid base d.table l w c one, suit_along base (chosen_field base d l c) mid after ls ws cs k)
 suit_along base d before after [] [] (c ∷ cs) k = absurd k
 suit_along base d before after [] (w ∷ ws) cs k = absurd k
 suit_along base d before after (l ∷ ls) [] cs k = absurd k

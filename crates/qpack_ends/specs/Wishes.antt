@@ -56,7 +56,7 @@ SuitsWish t l w c = Unit {0}
 
 -- a chooser that follows the caller's wishes, and may follow anything else
 abbrev pub by_wish : (K : Type 0) → Chooses K Wish
-by_wish K before t l w c after = SuitsWish t l w c
+by_wish K before base t l w c after = SuitsWish t l w c
 
 -- how any field is chosen: one that a static field equals is written as that, unless it is never to be indexed
 abbrev pub SuitsUnless : Option ℕ → Bool → Table → FieldLine → Wish → Chosen → Type 0

@@ -203,10 +203,10 @@ impl Chooser {
     }
 }
 
-impl Chooses for Chooser {
+impl Chooses<Index, PackedField> for Chooser {
     ghost use Rattle.qpack_ends.specs.declared.choosing.Chooser.{Chooser as State};
 
-    ghost chooses = { λ before t l w c after. by_wish State before t l w c after };
+    ghost chooses = { λ before base t l w c after. by_wish State before base t l w c after };
 
     fn begin(&mut self, block: &DynamicTableEncoder<'_, Index, PackedField>) {
         self.sections_since = self.sections_since.saturating_add(1);

@@ -1,10 +1,11 @@
 //! What is chosen for each field of a section: how its line is written, and whether it is inserted (RFC 9204, section
 //! 2.1).
 
-ghost use Rattle.std.specs.Prelude.{◌≡◌, false, true};
+ghost use Rattle.std.specs.Prelude.{◌≡◌, ℕ, false, true};
 ghost use Rattle.qpack_base.specs.HeaderFields.{line_of, field_of};
 ghost use Rattle.qpack_spec.specs.Chosen.{Chosen};
 ghost use Rattle.qpack_spec.specs.Field.{FieldLine as Line, unmarked};
+ghost use Rattle.qpack_spec.specs.StaticTable.{static_name_index};
 ghost use Rattle.qpack_spec.specs.Table.{Table};
 ghost use Rattle.qpack_table.specs.Handles.{AreHashesIn, IsSoughtIn};
 ghost use Rattle.qpack_codec.specs.Choices.{chosen_of, inserts_after, line_as_wished, wish_of_mark};
@@ -12,8 +13,8 @@ ghost use Rattle.qpack_codec.specs.declared.encoder.choices.Wish.{Wish as Asked}
 ghost use Rattle.qpack_codec.specs.declared.encoder.choices.Wish.TheVariants.{Unmarked, Never as Refused};
 
 use qpack_base::field::{FieldLine, HeaderField};
-use qpack_base::stored_field::PackedField;
-use qpack_table::dynamic::{DynamicTableEncoder, Index, SoughtField};
+use qpack_base::stored_field::StoredField;
+use qpack_table::dynamic::{DynamicTableEncoder, FindsEntries, SoughtField};
 
 /// The caller's wish for a field.
 #[derive(Debug, Clone, Copy, PartialEq, Drop)]
@@ -69,28 +70,30 @@ impl Choice {
     }
 }
 
-/// A chooser for the fields of a section, one after the other. Whatever it chooses, the section means its fields.
-pub trait Chooses {
-    // How it chooses for one field: its state before, the table, the field line, the wish, the choice, and its state
-    // after.
-    ghost chooses: { Self → Table → Line → Asked → Chosen → Self → Type 0 };
+/// A chooser for the fields of a section, one after the other, at tables with this index and storage. Whatever it chooses,
+/// the section means its fields.
+pub trait Chooses<I: FindsEntries, F: StoredField> {
+    // How it chooses for one field: its state before, the base of the section, the table, the field line, the wish, the
+    // choice, and its state after.
+    ghost chooses: { Self → ℕ → Table → Line → Asked → Chosen → Self → Type 0 };
 
     /// Begins a section: this is called before its first field.
-    fn begin(&mut self, block: &DynamicTableEncoder<'_, Index, PackedField>);
+    fn begin(&mut self, block: &DynamicTableEncoder<'_, I, F>);
 
     /// Chooses for a field that no static field equals, or that is never indexed. Of the latter only the name counts:
     /// `sought` holds no equal entry, and it is not inserted.
     fn choose(
         &mut self,
-        block: &DynamicTableEncoder<'_, Index, PackedField>,
+        block: &DynamicTableEncoder<'_, I, F>,
         field: &FieldLine<'_>,
         wish: Wish,
         sought: &SoughtField,
     ) -> Choice
         requires hashes { AreHashesIn (line_of field.now).field sought.now }
+        requires static_name { sought.now.static_name ≡ static_name_index (line_of field.now).field.name }
         requires sought { (line_of field.now).never_indexed ≡ false
             → IsSoughtIn block.now.table.now (line_of field.now).field sought.now }
-        ensures { chooses self.old block.now.table.now (line_of field.now) wish
+        ensures { chooses self.old block.now.base block.now.table.now (line_of field.now) wish
             (chosen_of block.now.table.now (line_of field.now).field result) self.new };
 }
 

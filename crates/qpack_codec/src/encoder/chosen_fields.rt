@@ -1,12 +1,12 @@
 //! The fields of a block, one by one, by what is chosen for each: a line, and an instruction for each that is inserted
 //! (RFC 9204, section 2.1).
 
-ghost use Rattle.std.specs.Prelude.{◌≡◌, ◌*◌, ◌++◌, ◌≤◌, [], ◌∷◌, false, true, None, length, take, OnOk, OnErr, vec_len};
+ghost use Rattle.std.specs.Prelude.{◌≡◌, ◌*◌, ◌++◌, ◌≤◌, [], ◌∷◌, false, true, None, take, OnOk, OnErr, vec_len};
 ghost use Rattle.std.specs.Prelude.{vec_capacity};
 ghost use Rattle.qpack_base.specs.HeaderFields.{line_of};
 ghost use Rattle.qpack_base.specs.Writes.{Writes};
 ghost use Rattle.qpack_spec.specs.Chosen as chosen;
-ghost use Rattle.qpack_spec.specs.Chosen.{Chosen, chosen_field, line_chosen, literal_chosen, passes_at};
+ghost use Rattle.qpack_spec.specs.Chosen.{chosen_field, line_chosen, literal_chosen, passes_at};
 ghost use Rattle.qpack_spec.specs.Chosen.{unreferenced_chosen};
 ghost use Rattle.qpack_spec.specs.Field.{field_size, has_name, is_field};
 ghost use Rattle.qpack_spec.specs.Instruction.{written_encoder_instructions};
@@ -17,7 +17,7 @@ ghost use Rattle.qpack_spec.specs.Table.{newest_index, without_references};
 ghost use Rattle.qpack_table.specs.Handles.{AreHashesIn, IsSoughtIn};
 ghost use Rattle.qpack_codec.specs.declared.encoder.choices.Choice.TheVariants.{Inserted};
 ghost use Rattle.qpack_codec.specs.Choices.{by_entry, chosen_of, line_choice};
-ghost use Rattle.qpack_codec.specs.ChosenSections.{AddsLine, AddsByChooser};
+ghost use Rattle.qpack_codec.specs.ChosenSections.{AddsLine, AddsByChooser, StopsByChooser};
 ghost use Rattle.qpack_codec.specs.Encoding.{draft_at, Adds, AddsLines, GrowsWithin, StopsAdding};
 
 use crate::encoder::choices::{Choice, Chooses, Wish};
@@ -27,15 +27,21 @@ use crate::encoder::fields::{
 use qpack_base::coding::{NoMemory, make_room};
 use qpack_base::field::FieldLine;
 use qpack_base::static_::{StaticMatch, StaticTable};
-use qpack_base::stored_field::PackedField;
-use qpack_table::dynamic::{DynamicLookupResult, DynamicTableEncoder, Index, SoughtField};
+use qpack_base::stored_field::StoredField;
+use qpack_table::dynamic::{DynamicLookupResult, DynamicTableEncoder, FindsEntries, SoughtField};
 use qpack_wire::block::{Indexed, IndexedWithPostBase};
 use std::alloc::Allocator;
 
 /// Adds a field line to a block in progress, by what is chosen for it. An equal static field is taken without asking. On
 /// error either nothing was inserted and no instruction is written, or an entry was and its instruction is.
-pub(super) fn append_chosen_line<A: Allocator, B: Allocator, C: Chooses>(
-    block: &mut DynamicTableEncoder<'_, Index, PackedField>,
+pub(super) fn append_line<
+    A: Allocator,
+    B: Allocator,
+    I: FindsEntries,
+    F: StoredField,
+    C: Chooses<I, F>,
+>(
+    block: &mut DynamicTableEncoder<'_, I, F>,
     field: &FieldLine<'_>,
     wish: Wish,
     chooser: &mut C,
@@ -48,9 +54,8 @@ pub(super) fn append_chosen_line<A: Allocator, B: Allocator, C: Chooses>(
     ensures ok { OnOk result (AddsByChooser C.chooses (line_of field.now) wish block.old.base block.old.table.now
         block.new.table.now chooser.old chooser.new lines.old.items lines.new.items encoder_buf.old.items
         encoder_buf.new.items) }
-    ensures err { OnErr result ((c : Chosen) × StopsAdding
-        (chosen_field block.old.base (draft_at block.old.table.now) (line_of field.now) c)
-        block.old.table.now block.new.table.now encoder_buf.old.items encoder_buf.new.items) }
+    ensures err { OnErr result (StopsByChooser C.chooses (line_of field.now) wish block.old.base block.old.table.now
+        block.new.table.now chooser.old encoder_buf.old.items encoder_buf.new.items) }
     ensures as_before { OnErr result (take (vec_len lines.old) lines.new.items ≡ lines.old.items) }
     ensures capacity { vec_capacity lines.old ≤ vec_capacity lines.new }
     ensures still { OnOk result
@@ -74,8 +79,8 @@ pub(super) fn append_chosen_line<A: Allocator, B: Allocator, C: Chooses>(
 
 /// Adds a field that is never indexed to a block in progress: a literal, with the name of the newest entry that has it if
 /// that is chosen.
-fn append_never_indexed<A: Allocator>(
-    block: &mut DynamicTableEncoder<'_, Index, PackedField>,
+fn append_never_indexed<A: Allocator, I: FindsEntries, F: StoredField>(
+    block: &mut DynamicTableEncoder<'_, I, F>,
     field: &FieldLine<'_>,
     sought: &SoughtField,
     choice: Choice,
@@ -105,8 +110,8 @@ fn append_never_indexed<A: Allocator>(
 
 /// Adds a field that no static field equals to a block in progress, by what is chosen for it. On error either nothing
 /// was inserted and no instruction is written, or an entry was and its instruction is.
-fn append_chosen<A: Allocator, B: Allocator>(
-    block: &mut DynamicTableEncoder<'_, Index, PackedField>,
+fn append_chosen<A: Allocator, B: Allocator, I: FindsEntries, F: StoredField>(
+    block: &mut DynamicTableEncoder<'_, I, F>,
     field: &FieldLine<'_>,
     sought: &SoughtField,
     choice: Choice,
@@ -136,7 +141,7 @@ fn append_chosen<A: Allocator, B: Allocator>(
     if let Choice::Inserted = choice {
         return Ok(append_insertion_or_alone(block, field, sought, lines, encoder_buf)?);
     }
-    append_line(block, field, sought, choice, lines)?;
+    append_uninserted(block, field, sought, choice, lines)?;
     if choice.inserts_after() {
         return Ok(append_unreferenced(block, field, sought, encoder_buf)?);
     }
@@ -144,8 +149,8 @@ fn append_chosen<A: Allocator, B: Allocator>(
 }
 
 /// Adds the line of a field that is not inserted for it.
-fn append_line<A: Allocator>(
-    block: &mut DynamicTableEncoder<'_, Index, PackedField>,
+fn append_uninserted<A: Allocator, I: FindsEntries, F: StoredField>(
+    block: &mut DynamicTableEncoder<'_, I, F>,
     field: &FieldLine<'_>,
     sought: &SoughtField,
     choice: Choice,
@@ -197,8 +202,8 @@ fn append_alone<A: Allocator>(
 
 /// Adds a reference to an entry, if it is live, equals a field and may be referenced, and else a literal without the
 /// dynamic table.
-fn append_equal<A: Allocator>(
-    block: &mut DynamicTableEncoder<'_, Index, PackedField>,
+fn append_equal<A: Allocator, I: FindsEntries, F: StoredField>(
+    block: &mut DynamicTableEncoder<'_, I, F>,
     field: &FieldLine<'_>,
     sought: &SoughtField,
     entry: usize,
@@ -237,8 +242,8 @@ fn append_equal<A: Allocator>(
 }
 
 /// Returns whether an entry is live and equals a field. Of the newest one this is known.
-fn is_equal(
-    block: &DynamicTableEncoder<'_, Index, PackedField>,
+fn is_equal<I: FindsEntries, F: StoredField>(
+    block: &DynamicTableEncoder<'_, I, F>,
     field: &FieldLine<'_>,
     sought: &SoughtField,
     entry: usize,
@@ -251,8 +256,8 @@ fn is_equal(
 
 /// Adds a literal with the name of the newest entry that has it, if it may be referenced, and else one without the
 /// dynamic table.
-fn append_named<A: Allocator>(
-    block: &mut DynamicTableEncoder<'_, Index, PackedField>,
+fn append_named<A: Allocator, I: FindsEntries, F: StoredField>(
+    block: &mut DynamicTableEncoder<'_, I, F>,
     field: &FieldLine<'_>,
     sought: &SoughtField,
     lines: &mut Vec<u8, A>,
@@ -287,8 +292,8 @@ fn append_named<A: Allocator>(
 
 /// Inserts a field, and references the new entry, if one more block may be blocked and there is room. Else it is a literal
 /// without the dynamic table. Room for the instruction is made before the insertion.
-fn append_insertion_or_alone<A: Allocator, B: Allocator>(
-    block: &mut DynamicTableEncoder<'_, Index, PackedField>,
+fn append_insertion_or_alone<A: Allocator, B: Allocator, I: FindsEntries, F: StoredField>(
+    block: &mut DynamicTableEncoder<'_, I, F>,
     field: &FieldLine<'_>,
     sought: &SoughtField,
     lines: &mut Vec<u8, A>,
@@ -325,8 +330,8 @@ fn append_insertion_or_alone<A: Allocator, B: Allocator>(
 
 /// Inserts a field without a reference, if there is room, and appends its instruction (RFC 9204, section 2.1.2). Room for
 /// the instruction is made before the insertion. On error nothing changes.
-fn append_unreferenced<B: Allocator>(
-    block: &mut DynamicTableEncoder<'_, Index, PackedField>,
+fn append_unreferenced<B: Allocator, I: FindsEntries, F: StoredField>(
+    block: &mut DynamicTableEncoder<'_, I, F>,
     field: &FieldLine<'_>,
     sought: &SoughtField,
     encoder_buf: &mut Vec<u8, B>,

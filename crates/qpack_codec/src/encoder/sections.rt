@@ -8,24 +8,23 @@ ghost use Rattle.qpack_spec.specs.Marked.{stateless_block_marked, written_marked
 ghost use Rattle.qpack_spec.specs.Table.{Table, commit, without_references, insert_count};
 ghost use Rattle.qpack_spec.specs.Prefix.{written_prefix};
 ghost use Rattle.qpack_codec.specs.Encoding.{DrainsLinesOf, EncodesLines, GivesUpLines, StopsEncodingLinesOf};
-ghost use Rattle.qpack_codec.specs.Encoding.{GrowsForLinesOf, GrowsWithin, instructions_room, AddsLines, StopsAmong};
-ghost use Rattle.qpack_codec.specs.Encoding.{draft_of_lines, DraftsBlock};
-ghost use Rattle.qpack_codec.specs.ChosenSections.{EncodesAlong, GivesUpChosen, AddsAlong, StopsAmongChosen};
-ghost use Rattle.qpack_codec.specs.ChosenSections.{DraftsAlong};
+ghost use Rattle.qpack_codec.specs.Encoding.{GrowsForLinesOf, GrowsWithin, instructions_room};
+ghost use Rattle.qpack_codec.specs.ChosenSections.{EncodesAlong, WritesAlong, GivesUpChosen, GivesUpAlong};
+ghost use Rattle.qpack_codec.specs.ChosenSections.{AddsAlong, StopsAlong, DraftsAlong};
 ghost use Rattle.qpack_codec.specs.declared.error.EncoderError.TheVariants.{Memory};
 ghost use Rattle.qpack_codec.specs.Hearing.{SetsCapacity};
 ghost use Rattle.qpack_wire.specs.Prefixes.{prefix_of};
 
 use crate::encoder::choices::{AsField, Chooses};
-use crate::encoder::chosen_fields::append_chosen_line;
-use crate::encoder::fields::append_field_line;
+use crate::encoder::chosen_fields::append_line;
+use crate::encoder::newest_first::NewestFirst;
 use crate::error::EncoderError;
 use crate::stateless::field_lines::append_section;
 use qpack_base::coding::{NoMemory, make_room};
 use qpack_base::field::HeaderField;
-use qpack_base::stored_field::{PackedField, StoredField};
+use qpack_base::stored_field::StoredField;
 use qpack_table::dynamic::{
-    DynamicTable, DynamicTableEncoder, EntryIndex, FindsEntries, Index, SortedIndex,
+    DynamicTable, DynamicTableEncoder, EntryIndex, FindsEntries, SortedIndex,
 };
 use qpack_wire::block::HeaderPrefix;
 use qpack_wire::stream::DynamicTableSizeUpdate;
@@ -83,12 +82,10 @@ impl<I: FindsEntries, F: StoredField> EncoderTable<I, F> {
     {
         self.table.release_references();
     }
-}
 
-impl EncoderTable<Index, PackedField> {
     /// Encodes a field section for a stream as `write_section` does, but with a choice for each field. Whatever is
     /// chosen, the section means its fields. At capacity 0 nothing is chosen, and the chooser is not called.
-    pub fn write_chosen_section<A: Allocator, B: Allocator, H: AsField, C: Chooses>(
+    pub fn write_chosen_section<A: Allocator, B: Allocator, H: AsField, C: Chooses<I, F>>(
         &mut self,
         stream_id: u64,
         block: &mut Vec<u8, A>,
@@ -112,9 +109,34 @@ impl EncoderTable<Index, PackedField> {
             self.give_up();
             return append_alone(fields, block);
         }
+        self.write_along(stream_id, block, encoder_buf, fields, chooser)
+    }
+
+    /// Encodes a field section as `write_chosen_section` does, at any capacity by what is chosen.
+    fn write_along<A: Allocator, B: Allocator, H: AsField, C: Chooses<I, F>>(
+        &mut self,
+        stream_id: u64,
+        block: &mut Vec<u8, A>,
+        encoder_buf: &mut Vec<u8, B>,
+        fields: &[H],
+        chooser: &mut C,
+    ) -> Result<usize, EncoderError>
+        ensures ok { IfOk result (λ required. WritesAlong C.chooses stream_id (map H.line fields.now)
+            (map H.wish fields.now) self.old.table self.new.table block.old.items block.new.items encoder_buf.old.items
+            encoder_buf.new.items required) }
+        ensures err { OnErr result (GivesUpAlong C.chooses (map H.line fields.now) (map H.wish fields.now)
+            self.old.table self.new.table encoder_buf.old.items encoder_buf.new.items) }
+        ensures as_before { OnErr result (block.new.items ≡ block.old.items) }
+        ensures memory { IfErr result (λ e. e ≡ Memory) }
+        ensures capacity { vec_capacity block.old ≤ vec_capacity block.new }
+        ensures still { OnOk result
+            (vec_len block.new ≤ vec_capacity block.old → vec_capacity block.new ≡ vec_capacity block.old) }
+        ensures instructions { GrowsWithin (instructions_room (fields_of_lines (map H.line fields.now))) encoder_buf.old
+            encoder_buf.new }
+    {
         let len = block.len();
         let mut handle = self.table.encoder(stream_id);
-        let appended = append_chosen_block(&mut handle, block, encoder_buf, fields, chooser);
+        let appended = append_block(&mut handle, block, encoder_buf, fields, chooser);
         let answer = end_block(handle, appended);
         if answer.is_err() {
             block.truncate(len);
@@ -141,14 +163,7 @@ impl WritesSections for EncoderTable {
             self.give_up();
             return append_alone(fields, block);
         }
-        let len = block.len();
-        let mut handle = self.table.encoder(stream_id);
-        let appended = append_block(&mut handle, block, encoder_buf, fields);
-        let answer = end_block(handle, appended);
-        if answer.is_err() {
-            block.truncate(len);
-        }
-        answer
+        self.write_along(stream_id, block, encoder_buf, fields, &mut NewestFirst)
     }
 
     fn give_up(&mut self) {
@@ -283,68 +298,6 @@ pub fn set_dynamic_table_size<A: Allocator, I: EntryIndex, F: StoredField>(
 /// The most bytes of a prefix that are moved one by one.
 const MOST_ONE_BY_ONE: usize = 5;
 
-/// Appends the block of the fields and the instructions of its insertions, and returns the block's required insert
-/// count. It writes the lines first, then puts the prefix in front of them. On error the earlier bytes of the block's
-/// vector are still at its front.
-fn append_block<A: Allocator, B: Allocator, H: AsField>(
-    handle: &mut DynamicTableEncoder<'_>,
-    block: &mut Vec<u8, A>,
-    encoder_buf: &mut Vec<u8, B>,
-    fields: &[H],
-) -> Result<usize, NoMemory>
-    requires base { handle.old.base ≡ insert_count handle.old.table.now }
-    requires begins { handle.old.table.now.referenced ≡ [] }
-    ensures same_table { handle.new.table.ghost_name ≡ handle.old.table.ghost_name }
-    ensures stream { handle.new.stream_id ≡ handle.old.stream_id }
-    ensures ok { IfOk result (λ required. DraftsBlock (map H.line fields.now) handle.old.table.now
-        handle.new.table.now block.old.items block.new.items encoder_buf.old.items encoder_buf.new.items required) }
-    ensures err { OnErr result (GivesUpLines (map H.line fields.now) handle.old.table.now
-        (without_references handle.new.table.now) encoder_buf.old.items encoder_buf.new.items) }
-    ensures as_before { OnErr result (take (vec_len block.old) block.new.items ≡ block.old.items) }
-    ensures capacity { vec_capacity block.old ≤ vec_capacity block.new }
-    ensures still { OnOk result
-        (vec_len block.new ≤ vec_capacity block.old → vec_capacity block.new ≡ vec_capacity block.old) }
-    ensures instructions { GrowsWithin (instructions_room (fields_of_lines (map H.line fields.now))) encoder_buf.old
-        encoder_buf.new }
-{
-    let max = handle.agreed_max();
-    let len = block.len();
-    append_fields(handle, fields, block, encoder_buf)?;
-    let count = handle.required_insert_count();
-    let prefix = HeaderPrefix::new(count, handle.base(), handle.total_inserted(), max);
-    put_in_front(&prefix, block, len)?;
-    Ok(count)
-}
-
-/// Adds the fields to a block in progress, one after the other. On error some of them were added: their insertions
-/// stay, and their instructions are written.
-fn append_fields<A: Allocator, B: Allocator, H: AsField>(
-    handle: &mut DynamicTableEncoder<'_>,
-    fields: &[H],
-    lines: &mut Vec<u8, A>,
-    encoder_buf: &mut Vec<u8, B>,
-) -> Result<(), NoMemory>
-    ensures same_table { handle.new.table.ghost_name ≡ handle.old.table.ghost_name }
-    ensures stream { handle.new.stream_id ≡ handle.old.stream_id }
-    ensures base { handle.new.base ≡ handle.old.base }
-    ensures ok { OnOk result (AddsLines (map H.line fields.now) (draft_of_lines handle.old.table.now handle.old.base
-        (map H.line fields.now))
-        handle.new.table.now lines.old.items lines.new.items encoder_buf.old.items encoder_buf.new.items) }
-    ensures err { OnErr result (StopsAmong (map H.line fields.now) handle.old.table.now handle.old.base
-        handle.new.table.now encoder_buf.old.items encoder_buf.new.items) }
-    ensures as_before { OnErr result (take (vec_len lines.old) lines.new.items ≡ lines.old.items) }
-    ensures capacity { vec_capacity lines.old ≤ vec_capacity lines.new }
-    ensures still { OnOk result
-        (vec_len lines.new ≤ vec_capacity lines.old → vec_capacity lines.new ≡ vec_capacity lines.old) }
-    ensures instructions { GrowsWithin (instructions_room (fields_of_lines (map H.line fields.now))) encoder_buf.old
-        encoder_buf.new }
-{
-    for field in fields {
-        append_field_line(handle, &field.as_field(), lines, encoder_buf)?;
-    }
-    Ok(())
-}
-
 /// Puts a prefix in front of the bytes after the first `len`. On error the vector is unchanged.
 #[inline(always)]
 fn put_in_front<A: Allocator>(
@@ -385,9 +338,18 @@ fn move_to_front(bytes: &mut [u8], count: usize)
     }
 }
 
-/// Appends the block of the fields as `append_block` does, by what is chosen for each.
-fn append_chosen_block<A: Allocator, B: Allocator, H: AsField, C: Chooses>(
-    handle: &mut DynamicTableEncoder<'_, Index, PackedField>,
+/// Appends the block of the fields and the instructions of its insertions, by what is chosen for each. Returns the
+/// block's required insert count. It writes the lines first, then puts the prefix in front of them. On error the earlier
+/// bytes of the block's vector are still at its front.
+fn append_block<
+    A: Allocator,
+    B: Allocator,
+    H: AsField,
+    I: FindsEntries,
+    F: StoredField,
+    C: Chooses<I, F>,
+>(
+    handle: &mut DynamicTableEncoder<'_, I, F>,
     block: &mut Vec<u8, A>,
     encoder_buf: &mut Vec<u8, B>,
     fields: &[H],
@@ -399,8 +361,8 @@ fn append_chosen_block<A: Allocator, B: Allocator, H: AsField, C: Chooses>(
     ensures stream { handle.new.stream_id ≡ handle.old.stream_id }
     ensures ok { IfOk result (λ required. DraftsAlong C.chooses (map H.line fields.now) (map H.wish fields.now)
         handle.old.table.now handle.new.table.now block.old.items block.new.items encoder_buf.old.items encoder_buf.new.items required) }
-    ensures err { OnErr result (GivesUpChosen (map H.line fields.now) handle.old.table.now
-        (without_references handle.new.table.now) encoder_buf.old.items encoder_buf.new.items) }
+    ensures err { OnErr result (GivesUpAlong C.chooses (map H.line fields.now) (map H.wish fields.now)
+        handle.old.table.now (without_references handle.new.table.now) encoder_buf.old.items encoder_buf.new.items) }
     ensures as_before { OnErr result (take (vec_len block.old) block.new.items ≡ block.old.items) }
     ensures capacity { vec_capacity block.old ≤ vec_capacity block.new }
     ensures still { OnOk result
@@ -411,7 +373,7 @@ fn append_chosen_block<A: Allocator, B: Allocator, H: AsField, C: Chooses>(
     let max = handle.agreed_max();
     let len = block.len();
     chooser.begin(handle);
-    append_chosen_fields(handle, fields, chooser, block, encoder_buf)?;
+    append_fields(handle, fields, chooser, block, encoder_buf)?;
     let required = handle.required_insert_count();
     let prefix = HeaderPrefix::new(required, handle.base(), handle.total_inserted(), max);
     put_in_front(&prefix, block, len)?;
@@ -420,8 +382,15 @@ fn append_chosen_block<A: Allocator, B: Allocator, H: AsField, C: Chooses>(
 
 /// Adds the fields to a block in progress by what is chosen for each, one after the other. On error some of them were
 /// added: what they inserted stays, and its instructions are written.
-fn append_chosen_fields<A: Allocator, B: Allocator, H: AsField, C: Chooses>(
-    handle: &mut DynamicTableEncoder<'_, Index, PackedField>,
+fn append_fields<
+    A: Allocator,
+    B: Allocator,
+    H: AsField,
+    I: FindsEntries,
+    F: StoredField,
+    C: Chooses<I, F>,
+>(
+    handle: &mut DynamicTableEncoder<'_, I, F>,
     fields: &[H],
     chooser: &mut C,
     lines: &mut Vec<u8, A>,
@@ -432,8 +401,9 @@ fn append_chosen_fields<A: Allocator, B: Allocator, H: AsField, C: Chooses>(
     ensures base { handle.new.base ≡ handle.old.base }
     ensures ok { OnOk result (AddsAlong C.chooses (map H.line fields.now) (map H.wish fields.now)
         handle.old.table.now handle.old.base handle.new.table.now chooser.old chooser.new lines.old.items lines.new.items encoder_buf.old.items encoder_buf.new.items) }
-    ensures err { OnErr result (StopsAmongChosen (map H.line fields.now) handle.old.table.now handle.old.base
-        handle.new.table.now encoder_buf.old.items encoder_buf.new.items) }
+    ensures err { OnErr result (StopsAlong C.chooses (map H.line fields.now) (map H.wish fields.now)
+        handle.old.table.now handle.old.base handle.new.table.now chooser.old encoder_buf.old.items
+        encoder_buf.new.items) }
     ensures as_before { OnErr result (take (vec_len lines.old) lines.new.items ≡ lines.old.items) }
     ensures capacity { vec_capacity lines.old ≤ vec_capacity lines.new }
     ensures still { OnOk result
@@ -442,7 +412,7 @@ fn append_chosen_fields<A: Allocator, B: Allocator, H: AsField, C: Chooses>(
         encoder_buf.new }
 {
     for field in fields {
-        append_chosen_line(
+        append_line(
             handle,
             &field.as_field(),
             field.wish(),

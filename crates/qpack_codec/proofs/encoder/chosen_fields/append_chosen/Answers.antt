@@ -18,22 +18,22 @@ pub returns-in_err-append_unreferenced : goal.returns-in_err-append_unreferenced
 returns-in_err-append_unreferenced g c =
     let p = err_from_is_err_and c.from_residual-in_err-append_unreferenced.result
     c.from_residual-in_err-append_unreferenced.ensures.1 in
-    let line = c.in_ok-append_line.ensures.ok in
+    let line = c.in_ok-append_uninserted.ensures.ok in
     let kept = line_keeps c.args.block.now.table.now c.args.block.now.base (line_of c.args.field.now).field
     c.args.choice c.in_default.not-Inserted in
     rw p.1 (record {
-      same_table = c.append_unreferenced.ensures.same_table ∙ c.append_line.ensures.same_table;
-      stream = c.append_unreferenced.ensures.stream ∙ c.append_line.ensures.stream;
-      base = c.append_unreferenced.ensures.base ∙ c.append_line.ensures.base;
+      same_table = c.append_unreferenced.ensures.same_table ∙ c.append_uninserted.ensures.same_table;
+      stream = c.append_unreferenced.ensures.stream ∙ c.append_uninserted.ensures.stream;
+      base = c.append_unreferenced.ensures.base ∙ c.append_uninserted.ensures.base;
       ok = tt;
       err = inl (
         ap (λ (t : Table). without_references t)
             (c.in_err-append_unreferenced.ensures.same ∙ line.table) ∙ kept,
         c.in_err-append_unreferenced.ensures.as_before,
       );
-      as_before = take-append_front c.args.lines.now.items _ c.append_line.new.lines.items
-          c.append_line.new.lines.items _ (sym c.args.lines.now.ok.0) refl line.lines;
-      capacity = c.append_line.ensures.capacity;
+      as_before = take-append_front c.args.lines.now.items _ c.append_uninserted.new.lines.items
+          c.append_uninserted.new.lines.items _ (sym c.args.lines.now.ok.0) refl line.lines;
+      capacity = c.append_uninserted.ensures.capacity;
       still = tt;
       instructions = c.append_unreferenced.ensures.instructions;
     })
@@ -41,16 +41,16 @@ returns-in_err-append_unreferenced g c =
 pub returns : goal.returns
 returns g c =
     record {
-      same_table = c.append_line.ensures.same_table;
-      stream = c.append_line.ensures.stream;
-      base = c.append_line.ensures.base;
-      ok = adds_uninserted c.args.block.now.table.now c.append_line.new.block.table.now c.args.block.now.base
-          (line_of c.args.field.now) c.args.choice c.args.lines.now.items c.append_line.new.lines.items
+      same_table = c.append_uninserted.ensures.same_table;
+      stream = c.append_uninserted.ensures.stream;
+      base = c.append_uninserted.ensures.base;
+      ok = adds_uninserted c.args.block.now.table.now c.append_uninserted.new.block.table.now c.args.block.now.base
+          (line_of c.args.field.now) c.args.choice c.args.lines.now.items c.append_uninserted.new.lines.items
           c.args.encoder_buf.now.items c.requires.unmarked
-          (sym c.inserts_after.ensures ∙ c.if-inserts_after.false) c.in_ok-append_line.ensures.ok;
+          (sym c.inserts_after.ensures ∙ c.if-inserts_after.false) c.in_ok-append_uninserted.ensures.ok;
       err = tt;
       as_before = tt;
-      capacity = c.append_line.ensures.capacity;
-      still = c.in_ok-append_line.ensures.still;
+      capacity = c.append_uninserted.ensures.capacity;
+      still = c.in_ok-append_uninserted.ensures.still;
       instructions = grows_none _ c.args.encoder_buf.now;
     }

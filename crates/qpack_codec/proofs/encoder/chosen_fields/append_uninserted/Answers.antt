@@ -1,6 +1,6 @@
 use Rattle.qpack_base.specs.HeaderFields.{line_of}
 use Rattle.qpack_codec.proofs.ChosenLines.{adds_only_alone}
-use Rattle.qpack_codec.proofs.encoder.chosen_fields.append_line.Goals as goal
+use Rattle.qpack_codec.proofs.encoder.chosen_fields.append_uninserted.Goals as goal
 
 pub returns-in_ok-append_alone-in_default-clause-ok : goal.returns-in_ok-append_alone-in_default-clause-ok
 returns-in_ok-append_alone-in_default-clause-ok g c =

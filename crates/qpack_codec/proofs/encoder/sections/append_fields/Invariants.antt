@@ -3,7 +3,7 @@ use Rattle.std.specs.Prelude.{vec_len}
 use Rattle.qpack_spec.specs.Field.{fields_of_lines}
 use Rattle.qpack_codec.specs.ChosenSections.{AddsAlong}
 use Rattle.qpack_codec.specs.Encoding.{GrowsWithin, instructions_room}
-use Rattle.qpack_codec.proofs.encoder.sections.append_chosen_fields.Given as goal
+use Rattle.qpack_codec.proofs.encoder.sections.append_fields.Given as goal
 
 abbrev pub invariant-loop-field : goal.invariant-loop-field
 invariant-loop-field g l = record {

@@ -1,32 +1,20 @@
-use Rattle.std.proofs.Common.{◌∙◌, map}
+use Rattle.std.proofs.Common.{map}
 use Rattle.qpack_codec.proofs.BareTables.{encodes_alone, gives_up_alone}
-use Rattle.qpack_codec.proofs.DraftedBlocks.{encodes, gives_up_section, count_begins, none_begins}
+use Rattle.qpack_codec.specs.declared.encoder.newest_first.NewestFirst.{NewestFirst}
+use Rattle.qpack_codec.proofs.NewestChosen.{encodes_newest, gives_up_newest}
 use Rattle.qpack_codec.proofs.encoder.sections.EncoderTableWritesSections.write_section.Goals as goal
 
-pub append_block-appended-requires-clause-base : goal.append_block-appended-requires-clause-base
-append_block-appended-requires-clause-base g c =
-    c.encoder-handle.ensures.base ∙ count_begins _ c.encoder-handle.result.table.now c.encoder-handle.ensures.table
+pub returns-clause-ok : goal.returns-clause-ok
+returns-clause-ok g c =
+    encodes_newest NewestFirst c.args.stream_id (map g.H.AsField.line c.args.fields.now) (map g.H.AsField.wish c.args.fields.now)
+    c.write_along.result c.args.self.now.table _ c.args.block.now.items c.write_along.new.block.items
+    c.args.encoder_buf.now.items c.write_along.new.encoder_buf.items c.write_along.ensures.ok
 
-pub append_block-appended-requires-clause-begins : goal.append_block-appended-requires-clause-begins
-append_block-appended-requires-clause-begins g c =
-    none_begins _ c.encoder-handle.result.table.now c.encoder-handle.ensures.table
-
-pub returns-then-is_err-clause-err : goal.returns-then-is_err-clause-err
-returns-then-is_err-clause-err g c =
-    gives_up_section (map g.H.AsField.line c.args.fields.now) c.append_block-appended.result c.end_block-answer.result
-    c.args.self.now.table c.encoder-handle.result.table.now c.append_block-appended.new.handle.table.now _
-    c.args.block.now.items c.append_block-appended.new.block.items c.args.encoder_buf.now.items
-    c.append_block-appended.new.encoder_buf.items c.encoder-handle.ensures.table c.append_block-appended.ensures.ok
-    c.append_block-appended.ensures.err c.end_block-answer.ensures.err
-
-pub returns-else-is_err-clause-ok : goal.returns-else-is_err-clause-ok
-returns-else-is_err-clause-ok g c =
-    encodes (map g.H.AsField.line c.args.fields.now) c.append_block-appended.result c.end_block-answer.result
-    c.args.self.now.table c.encoder-handle.result.table.now c.append_block-appended.new.handle.table.now _
-    c.args.stream_id c.append_block-appended.new.handle.stream_id c.args.block.now.items
-    c.append_block-appended.new.block.items c.args.encoder_buf.now.items c.append_block-appended.new.encoder_buf.items
-    c.encoder-handle.ensures.table (c.append_block-appended.ensures.stream ∙ c.encoder-handle.ensures.stream)
-    c.append_block-appended.ensures.ok c.end_block-answer.ensures.ok
+pub returns-clause-err : goal.returns-clause-err
+returns-clause-err g c =
+    gives_up_newest NewestFirst (map g.H.AsField.line c.args.fields.now) (map g.H.AsField.wish c.args.fields.now)
+    c.write_along.result c.args.self.now.table _ c.args.encoder_buf.now.items c.write_along.new.encoder_buf.items
+    c.write_along.ensures.err
 
 pub returns-then-max_mem_size-eq0-clause-ok : goal.returns-then-max_mem_size-eq0-clause-ok
 returns-then-max_mem_size-eq0-clause-ok g c =
