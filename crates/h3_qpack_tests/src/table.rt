@@ -2,8 +2,8 @@
 
 use h3_qpack::HeaderField;
 use h3_qpack::dynamic::{
-    DynamicTable, DynamicTableEncoder, EntryIndex, Error, FindsEntries, Index, NoIndex,
-    ReceivedTable, SortedIndex, Steps,
+    DynamicLookupResult, DynamicTable, DynamicTableEncoder, EntryIndex, Error, FindsEntries, Index,
+    NoIndex, ReceivedTable, SortedIndex, Steps,
 };
 use h3_qpack::encoder::set_dynamic_table_size;
 use h3_qpack::field::FieldLine;
@@ -351,10 +351,20 @@ fn show_block(
     for field in fields {
         match word {
             "finds" | "sends-found" => call.show_value(&block.find(field)),
-            "finds-name" => call.show_value(&block.find_line_name(&field.as_line())),
+            "finds-name" => show_name(call, block, &field.as_line()),
             _ => call.show_value(&block.insert(field)),
         }
     }
+}
+
+/// Appends where a block finds the name of a field: a static field, or the newest entry that has it.
+fn show_name(call: &mut Call<'_>, block: &mut DynamicTableEncoder<'_>, field: &FieldLine<'_>) {
+    let sought = block.seek(field, StaticTable::find_name(field.name));
+    let found = match sought.static_name() {
+        Some(index) => Ok(DynamicLookupResult::Static(index)),
+        None => block.reference(block.newest_name(field, &sought)),
+    };
+    call.show_value(&found);
 }
 
 /// Appends the base of a block and its bounds, what it finds for the first of some fields, and how it inserts each.

@@ -18,7 +18,6 @@ use Rattle.qpack_table.specs.declared.dynamic.encoder.DynamicInsertionResult.The
 use Rattle.qpack_table.specs.declared.dynamic.encoder.DynamicInsertionResult.TheVariants.{InsertedWithNameRef}
 use Rattle.qpack_table.specs.declared.dynamic.encoder.DynamicInsertionResult.TheVariants.{InsertedWithStaticNameRef}
 use Rattle.qpack_table.specs.declared.dynamic.encoder.DynamicInsertionResult.TheVariants.{NotInserted}
-use Rattle.qpack_table.specs.declared.dynamic.sought.FoundField.{FoundField}
 use Rattle.qpack_table.specs.declared.dynamic.sought.SoughtField.{SoughtField}
 use Rattle.qpack_table.specs.Indexes.{AreSeededHashesOf}
 
@@ -48,15 +47,6 @@ pub record IsSoughtIn (t : table.Table) (f : Field) (sought : SoughtField) : Typ
 -- the hashes that are known of a field that was sought are its own
 abbrev pub AreHashesIn : Field → SoughtField → Type 0
 AreHashesIn f sought = IfSome sought.hashes (λ known. AreSeededHashesOf known f)
-
--- what is known of a field that was found, as of one that was sought
-abbrev pub IsFoundIn : table.Table → Field → FoundField → Type 0
-IsFoundIn t f found = IsSoughtIn t f found.sought
-
--- where a field was found that is looked up for more than that
-abbrev pub lookup_in : Result FoundField Error → Result DynamicLookupResult Error
-lookup_in (Ok found) = Ok found.lookup
-lookup_in (Err e) = Err e
 
 -- an absolute index, unless the entry was dropped
 abbrev pub kept_index : Option ℕ → ℕ → Option ℕ

@@ -31,7 +31,7 @@ pub use crate::dynamic::encoder::{
 pub use crate::dynamic::entry_index::{EntryIndex, FindsEntries, NoIndex};
 pub use crate::dynamic::index::Index;
 pub use crate::dynamic::sorted::SortedIndex;
-pub use crate::dynamic::sought::{FoundField, SoughtField};
+pub use crate::dynamic::sought::SoughtField;
 pub use crate::dynamic::table::{
     DynamicTable, DynamicTableDecoder, PackedTable, ReceivedPackedTable, ReceivedTable,
 };

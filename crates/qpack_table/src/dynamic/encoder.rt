@@ -1,24 +1,24 @@
 //! An encoder's handle on the table: a block in progress, which references entries (RFC 9204, section 2.1).
 
-ghost use Rattle.std.specs.Prelude.{◌≡◌, ◌<◌, ◌≤◌, ◌^◌, ◌&&◌, IfOk, IfSome};
+ghost use Rattle.std.specs.Prelude.{◌≡◌, ◌<◌, ◌≤◌, ◌^◌, ◌&&◌, IfSome};
 ghost use Rattle.std.specs.Option.{option_map};
 ghost use Rattle.qpack_base.specs.HeaderFields.{field_of, line_of};
 ghost use Rattle.qpack_spec.specs.Chosen.{passes_at};
 ghost use Rattle.qpack_spec.specs.Field.{field_size, has_name, is_field, total_size};
-ghost use Rattle.qpack_spec.specs.Handle.{find_field, found_name, insert_field};
+ghost use Rattle.qpack_spec.specs.Handle.{find_field, insert_field};
 ghost use Rattle.qpack_spec.specs.Reading.{greatest_of};
 ghost use Rattle.qpack_spec.specs.StaticTable.{static_name_index};
 ghost use Rattle.qpack_spec.specs.Table.{below_limit, fields_in, has_room, insert_count, may_reference};
 ghost use Rattle.qpack_spec.specs.Table.{newest_index, window, without_references};
 ghost use Rattle.qpack_spec.specs.Handle.{found_entry};
 ghost use Rattle.qpack_spec.specs.Window.{absolute_entry, maximum_capacity};
-ghost use Rattle.qpack_table.specs.Handles.{Finds, Inserts, Commits, IsFoundIn, IsSoughtIn, lookup_in};
+ghost use Rattle.qpack_table.specs.Handles.{Finds, Inserts, Commits, IsSoughtIn};
 ghost use Rattle.qpack_table.specs.Handles.{AreHashesIn, InsertsIf, referenced_insertion, unreferenced_insertion};
 
 use crate::dynamic::Error;
 use crate::dynamic::entry_index::FindsEntries;
 use crate::dynamic::sorted::SortedIndex;
-use crate::dynamic::sought::{FoundField, SoughtField};
+use crate::dynamic::sought::SoughtField;
 use crate::dynamic::table::DynamicTable;
 use qpack_base::field::{FieldLine, HeaderField};
 use qpack_base::stored_field::StoredField;
@@ -147,48 +147,6 @@ impl<I: FindsEntries, F: StoredField> DynamicTableEncoder<'_, I, F> {
         self.table.find_field(self.base, &field.as_line())
     }
 
-    /// Looks for a borrowed field as `find` does. Its never-indexed mark is ignored.
-    pub fn find_line(&mut self, field: &FieldLine<'_>) -> Result<DynamicLookupResult, Error>
-        ensures same_table { self.new.table.ghost_name ≡ self.old.table.ghost_name }
-        ensures stream { self.new.stream_id ≡ self.old.stream_id }
-        ensures base { self.new.base ≡ self.old.base }
-        ensures found { Finds result (find_field self.old.table.now self.old.base (line_of field.now).field)
-            self.old.table.now self.new.table.now }
-    {
-        self.table.find_field(self.base, field)
-    }
-
-    /// Looks for a borrowed field as `find_line` does; `static_name` is the index of its name in the static table, if
-    /// it has one. The result keeps what was looked up, for `insert_found`.
-    #[inline(always)]
-    pub fn find_and_keep(
-        &mut self,
-        field: &FieldLine<'_>,
-        static_name: Option<usize>,
-    ) -> Result<FoundField, Error>
-        requires { static_name ≡ static_name_index (line_of field.now).field.name }
-        ensures same_table { self.new.table.ghost_name ≡ self.old.table.ghost_name }
-        ensures stream { self.new.stream_id ≡ self.old.stream_id }
-        ensures base { self.new.base ≡ self.old.base }
-        ensures found { Finds (lookup_in result) (find_field self.old.table.now self.old.base (line_of field.now).field)
-            self.old.table.now self.new.table.now }
-        ensures kept { IfOk result (λ found. IsFoundIn self.new.table.now (line_of field.now).field found) }
-    {
-        self.table.find_and_keep(self.base, field, static_name)
-    }
-
-    /// Looks for the name of a borrowed field, in the static table and then among the entries. Of these it references
-    /// the newest, if it may be referenced. On error, which is `Memory` only, nothing changes.
-    pub fn find_line_name(&mut self, field: &FieldLine<'_>) -> Result<DynamicLookupResult, Error>
-        ensures same_table { self.new.table.ghost_name ≡ self.old.table.ghost_name }
-        ensures stream { self.new.stream_id ≡ self.old.stream_id }
-        ensures base { self.new.base ≡ self.old.base }
-        ensures found { Finds result (found_name self.old.table.now self.old.base (line_of field.now).field
-            (static_name_index (line_of field.now).field.name)) self.old.table.now self.new.table.now }
-    {
-        self.table.find_name(self.base, field)
-    }
-
     /// Inserts a field, if one more block may be blocked and there is room: evicts entries as needed, and references
     /// the new one. Otherwise looks for its name, in the static table and then among the entries, and references the
     /// newest of these, if it may be referenced. On error, which is `Memory` only, nothing changes.
@@ -200,24 +158,6 @@ impl<I: FindsEntries, F: StoredField> DynamicTableEncoder<'_, I, F> {
             self.old.table.now self.new.table.now }
     {
         self.table.insert_field(self.base, &field.as_line())
-    }
-
-    /// Inserts a borrowed field as `insert` does, after `find_and_keep` found no entry of it that may be referenced, and
-    /// nothing was inserted since. Its never-indexed mark is ignored. Looks nothing up again.
-    #[inline(always)]
-    pub fn insert_found(
-        &mut self,
-        field: &FieldLine<'_>,
-        found: &FoundField,
-    ) -> Result<DynamicInsertionResult, Error>
-        requires { IsFoundIn self.old.table.now (line_of field.now).field found.now }
-        ensures same_table { self.new.table.ghost_name ≡ self.old.table.ghost_name }
-        ensures stream { self.new.stream_id ≡ self.old.stream_id }
-        ensures base { self.new.base ≡ self.old.base }
-        ensures inserted { Inserts result (insert_field self.old.table.now self.old.base (line_of field.now).field)
-            self.old.table.now self.new.table.now }
-    {
-        self.table.insert_sought(self.base, field, found.sought())
     }
 
     /// Returns how many entries were evicted since the table was empty. The oldest live entry has the next absolute

@@ -36,23 +36,8 @@ impl<I: FindsEntries, F: StoredField> DynamicTable<I, F> {
         self.find_entry(base, newest)
     }
 
-    /// Finds a name: that of a static field, or of the newest entry that has it, which is referenced if it may be.
-    pub(super) fn find_name(
-        &mut self,
-        base: usize,
-        field: &FieldLine<'_>,
-    ) -> Result<DynamicLookupResult, Error>
-        ensures { Finds result (found_name self.old base (line_of field.now).field
-            (static_name_index (line_of field.now).field.name)) self.old self.new }
-    {
-        if let Some(index) = StaticTable::find_name(field.name) {
-            return Ok(DynamicLookupResult::Static(index));
-        }
-        let newest = self.newest_of_name(field.name);
-        self.find_entry(base, newest)
-    }
-
-    /// Looks for the name of a field that was sought, as `find_name` does.
+    /// Finds the name of a field that was sought: that of a static field, or of the newest entry that has it, which is
+    /// referenced if it may be.
     #[inline(always)]
     fn find_sought_name(
         &mut self,

@@ -1,20 +1,17 @@
 //! The newest live entry with a field or with a name, found by the index. A field is looked up once: later questions to
 //! the table about it hash and search nothing again.
 
-ghost use Rattle.std.specs.Prelude.{◌≡◌, None, IfOk, IfSome, length};
+ghost use Rattle.std.specs.Prelude.{◌≡◌, None, IfSome, length};
 ghost use Rattle.qpack_base.specs.HeaderFields.{line_of, field_of};
 ghost use Rattle.qpack_spec.specs.Field.{has_name, is_field};
-ghost use Rattle.qpack_spec.specs.Handle.{find_field};
 ghost use Rattle.qpack_spec.specs.StaticTable.{static_name_index};
 ghost use Rattle.qpack_spec.specs.Table.{newest_index};
-ghost use Rattle.qpack_table.specs.Handles.{AreHashesIn, Finds, IsSoughtIn, IsFoundIn, lookup_in};
+ghost use Rattle.qpack_table.specs.Handles.{AreHashesIn, IsSoughtIn};
 ghost use Rattle.qpack_table.specs.Hashes.{name_hash, field_hash};
 ghost use Rattle.qpack_table.specs.Indexes.{AreSeededHashesOf};
 ghost use Rattle.qpack_table.specs.Rows.{Counts};
 
-use crate::dynamic::Error;
 use crate::dynamic::comparing::Steps;
-use crate::dynamic::encoder::DynamicLookupResult;
 use crate::dynamic::entry_index::FindsEntries;
 use crate::dynamic::index::SeededHashes;
 use crate::dynamic::table::DynamicTable;
@@ -83,23 +80,6 @@ impl SoughtField {
     }
 }
 
-/// A field that was sought, and where it was found.
-#[derive(Debug, Clone, Copy)]
-pub struct FoundField {
-    /// Where it was found.
-    pub lookup: DynamicLookupResult,
-    sought: SoughtField,
-}
-
-impl FoundField {
-    /// Returns what is known of it.
-    pub(super) fn sought(&self) -> &SoughtField
-        ensures { result.now ≡ self.now.sought }
-    {
-        &self.sought
-    }
-}
-
 impl<I: FindsEntries, F: StoredField> DynamicTable<I, F> {
     /// Seeks a field; `static_name` is the index of its name in the static table, if it has one. If there is no entry,
     /// nothing is hashed.
@@ -132,25 +112,8 @@ impl<I: FindsEntries, F: StoredField> DynamicTable<I, F> {
         self.index.key_of_known(field, sought.hashes)
     }
 
-    /// Seeks a field, and finds the newest entry that is it, which is referenced if it may be.
-    #[inline(always)]
-    pub(super) fn find_and_keep(
-        &mut self,
-        base: usize,
-        field: &FieldLine<'_>,
-        static_name: Option<usize>,
-    ) -> Result<FoundField, Error>
-        requires { static_name ≡ static_name_index (line_of field.now).field.name }
-        ensures found { Finds (lookup_in result) (find_field self.old base (line_of field.now).field) self.old
-            self.new }
-        ensures kept { IfOk result (λ found. IsFoundIn self.new (line_of field.now).field found) }
-    {
-        let sought = self.seek(field, static_name);
-        let lookup = self.find_entry(base, sought.newest)?;
-        Ok(FoundField { lookup, sought })
-    }
-
     /// Returns the absolute index of the newest live entry with the name of a field that was sought.
+    #[inline(always)]
     pub(super) fn newest_sought_name(
         &self,
         name: &[u8],
@@ -159,7 +122,7 @@ impl<I: FindsEntries, F: StoredField> DynamicTable<I, F> {
         requires { IfSome sought.now.hashes (λ known. known.hashes.name ≡ name_hash known.seed name.now) }
         ensures { result ≡ newest_index self.now (has_name name.now) }
     {
-        self.newest_known_name(name, sought.hashes)
+        self.index.newest_of_name(&self.entries, self.vas.total_dropped(), name, sought.hashes)
     }
 }
 
@@ -206,22 +169,5 @@ impl<I: FindsEntries, F: StoredField> DynamicTable<I, F> {
             known,
             &mut Steps::new(),
         )
-    }
-
-    /// Returns the absolute index of the newest live entry with the name.
-    pub(super) fn newest_of_name(&self, name: &[u8]) -> Option<AbsoluteIndex>
-        ensures { result ≡ newest_index self.now (has_name name.now) }
-    {
-        self.newest_known_name(name, None)
-    }
-
-    /// Returns the absolute index of the newest live entry with the name, whose hash may be known.
-    #[inline(always)]
-    fn newest_known_name(&self, name: &[u8], known: Option<SeededHashes>) -> Option<AbsoluteIndex>
-        requires { IfSome known (λ known. known.hashes.name ≡ name_hash known.seed name.now) }
-        ensures { result ≡ newest_index self.now (has_name name.now) }
-    {
-        self.index
-            .newest_of_name(&self.entries, self.vas.total_dropped(), name, known)
     }
 }
