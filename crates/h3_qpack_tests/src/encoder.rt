@@ -53,6 +53,7 @@ impl Subject for H3Encoder {
         match word {
             "encodes" | "encodes-chained" | "encodes-repeated" => self.encode(word, call),
             "encodes-on-heap" | "sets-on-heap" => self.call_on_heap(word, call),
+            "encodes-into-heap" => self.encode_into_heap(call),
             "receives" => self.receive(call),
             "sets" => show_set(call, &mut self.encoder, &mut self.stream),
             "writes" => {
@@ -148,6 +149,30 @@ impl H3Encoder {
             .encode(stream, sections, instructions, headers.iter());
         // Other memory was refused if the call ended elsewhere.
         self.lacked_memory |= instructions.len() != written;
+        call.show_value(&encoded);
+    }
+
+    /// Encodes fields with the section on a heap. The words are the bytes of the heap, the room in a vector there, how many
+    /// bytes the encoder stream has once memory is refused, the stream, and the fields.
+    fn encode_into_heap(&mut self, call: &mut Call<'_>) {
+        let (size, room) = (call.count(), call.count());
+        match LocalHeap::new(call.alloc(), size) {
+            Ok(heap) => self.encode_into(call, &mut Vec::new(&heap), room),
+            Err(_) => call.lack_memory(),
+        }
+    }
+
+    /// Encodes fields with the section in an empty vector, which is given this room.
+    fn encode_into(&mut self, call: &mut Call<'_>, section: &mut Vec<u8, &LocalHeap>, room: usize) {
+        let is_held = section.reserve_exact(room).is_ok();
+        call.holds(is_held, "the heap has no room for the section");
+        let (written, stream) = (call.count(), call.number());
+        let headers = call.headers();
+        let encoded = self
+            .encoder
+            .encode(stream, section, &mut self.stream, headers.iter());
+        // Other memory was refused if the call ended elsewhere.
+        self.lacked_memory |= self.stream.len() != written;
         call.show_value(&encoded);
     }
 
