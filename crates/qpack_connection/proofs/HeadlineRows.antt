@@ -25,7 +25,7 @@ use Rattle.qpack_connection.specs.Headline.{EventsAnswerWhatWasHanded}
 -- ---- the run
 
 -- a vector of these elements
-abbrev vec : {X : Type 0} → (xs : List X) → length xs < 2 ^ 63 → Vec X
+abbrev pub vec : {X : Type 0} → (xs : List X) → length xs < 2 ^ 63 → Vec X
 vec xs few =
     record {
       ptr = null_ptr;
@@ -38,7 +38,7 @@ vec xs few =
     }
 
 -- a field of a name and a value of one byte each
-abbrev owned : ℕ → ℕ → Bool → OwnedFieldLine
+abbrev pub owned : ℕ → ℕ → Bool → OwnedFieldLine
 owned name value mark =
     record {
       name = vec (name ∷ []) (omega arith);
@@ -47,10 +47,10 @@ owned name value mark =
       wish = Unmarked;
     }
 
-abbrev line : ℕ → ℕ → Bool → FieldLine
+abbrev pub line : ℕ → ℕ → Bool → FieldLine
 line name value mark = record { field = record { name = name ∷ []; value = value ∷ [] }; never_indexed = mark }
 
-abbrev settings : ℕ → ℕ → ConnectionSettings
+abbrev pub settings : ℕ → ℕ → ConnectionSettings
 settings most limit =
     record {
       decoder = record { max_capacity = 4096; max_blocked = most; max_section_size = limit };
@@ -59,17 +59,17 @@ settings most limit =
     }
 
 -- fields that were answered, in as much memory as it may be
-abbrev shown : List FieldLine → SectionView
+abbrev pub shown : List FieldLine → SectionView
 shown fields = record { fields = fields; text_room = 0; fields_room = 0 }
 
 -- an encode of these fields, and a decode that answered these
-abbrev encode : ℕ → (fields : List OwnedFieldLine) → length fields < 2 ^ 63 → Event
+abbrev pub encode : ℕ → (fields : List OwnedFieldLine) → length fields < 2 ^ 63 → Event
 encode s fields few = event.Encode s (vec fields few)
 
-abbrev decoded : ℕ → List FieldLine → Outcome
+abbrev pub decoded : ℕ → List FieldLine → Outcome
 decoded required fields = Decoded (Ok (Fields required)) (shown fields)
 
-abbrev waits : ℕ → Outcome
+abbrev pub waits : ℕ → Outcome
 waits required = Decoded (Ok (Blocked required)) (shown [])
 
 abbrev events : List Event
@@ -271,7 +271,7 @@ one_more r = grind (r, arith)
 
 -- of five streams with a section each, two may wait at a time. One waits once, however often that is answered; it waits
 -- no longer once enough insertions were received, its section is decoded, or it is cancelled
-abbrev section_of : ℕ → Event
+abbrev pub section_of : ℕ → Event
 section_of s = encode s (owned 1 s false ∷ []) (omega arith)
 
 abbrev waiting_events : List Event

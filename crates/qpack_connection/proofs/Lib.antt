@@ -34,6 +34,8 @@ pub mod HeadlineEnds
 pub mod HeadlineEvents
 pub mod Headline
 pub mod HeadlineRows
+pub mod CancellationRows
+pub mod PromiseRows
 pub mod SettledSections
 pub mod LawfulRows
 pub mod WrittenSections
