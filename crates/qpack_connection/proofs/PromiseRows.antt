@@ -1,6 +1,6 @@
 -- What the laws of each end with any peer promise, on calls that break it: each promise refuses such a call, whatever the
 -- end is before it and after it.
-use Rattle.std.proofs.Common.{◌≡◌, ◌<◌, ◌≤◌, ◌^◌, ℕ, false, List, [], ◌∷◌, length, Option, Some, None, Ok, Err, ap, sym, ◌∙◌, arith}
+use Rattle.std.proofs.Common.{◌≡◌, ◌+◌, ◌<◌, ◌≤◌, ◌^◌, ℕ, false, List, [], ◌∷◌, length, Option, Some, None, Ok, Err, ap, sym, ◌∙◌, arith}
 use Rattle.std.proofs.lemmas.Option.{none-some}
 use Rattle.qpack_spec.specs.Field.{FieldLine}
 use Rattle.qpack_spec.specs.LawfulDecoders.{KeepsNeeded, IsQuiet, IsToBeInserted}
@@ -47,7 +47,7 @@ field_more : (s : ℕ) (k : SentSection) (l : FieldLine) → Breaks (encoders.De
 field_more s k l old new run asked r = omega (arith, ap length r.0.0)
 
 another_count : (s : ℕ) (k : SentSection) → Breaks (encoders.Decode s k k.fields (Ok (Fields (k.required + 1))))
-another_count s k old new run asked r = omega (arith, r.0.1.0)
+another_count s k old new run asked r = omega (arith, r.0.1)
 
 waits_with_a_field : (s : ℕ) (k : SentSection) (l : FieldLine)
     → Breaks (encoders.Decode s k (l ∷ []) (Ok (Blocked k.required)))
@@ -59,7 +59,7 @@ too_early : (s : ℕ) (k : SentSection) (old new : encoders.Decoder)
     (asked : encoders.AreLawful (encoders.Decode s k k.fields (Ok (Fields k.required)) ∷ []) old new run)
     → insert_count old.end.table < k.required
     → encoders.AllAnswer (encoders.Decode s k k.fields (Ok (Fields k.required)) ∷ []) old new run asked → ⊥
-too_early s k old new run asked early r = omega (arith, early, r.0.1.1)
+too_early s k old new run asked early r = omega (arith, early, r.0.2)
 
 -- a section, or a cancellation, is refused as one stream too many
 one_too_many : (s : ℕ) (k : SentSection) → Breaks (encoders.Decode s k [] (Err (decoding.TooManyBlocked s)))
@@ -72,7 +72,7 @@ cancel_refused s old new run asked r = grind (r, arith)
 ended : (call : encoders.Call) (e : DecodingError) (old new : encoders.Decoder)
     (run : encoders.Run (call ∷ []) old new) (asked : encoders.AreLawful (call ∷ []) old new run)
     → run.0.end.failure ≡ Some e → encoders.AllAnswer (call ∷ []) old new run asked → ⊥
-ended call e old new run asked failed r = none-some e (sym r.1.0 ∙ failed)
+ended call e old new run asked failed r = none-some e (sym r.1 ∙ failed)
 
 -- ---- an encoding end, with any peer
 
@@ -80,13 +80,13 @@ ended call e old new run asked failed r = none-some e (sym r.1.0 ∙ failed)
 one_more_at_risk : (settings : EncoderSettings) (call : decoders.Call) (old new : EncodingEnd)
     (run : decoders.Run (call ∷ []) old new) → settings.max_blocked < length (streams_at_risk run.0.table)
     → decoders.AllCareful settings (call ∷ []) old new run → ⊥
-one_more_at_risk settings call old new run many r = omega (arith, many, r.1.0.blocked)
+one_more_at_risk settings call old new run many r = omega (arith, many, r.1.blocked)
 
 -- an entry is evicted that may still be needed
 needed_is_evicted : (settings : EncoderSettings) (call : decoders.Call) (old new : EncodingEnd)
     (run : decoders.Run (call ∷ []) old new) → (KeepsNeeded run.0.table → ⊥)
     → decoders.AllCareful settings (call ∷ []) old new run → ⊥
-needed_is_evicted settings call old new run evicted r = evicted r.1.0.needed
+needed_is_evicted settings call old new run evicted r = evicted r.1.needed
 
 -- a section that was written does not count
 not_counted : (settings : EncoderSettings) (s required : ℕ) (fields : List FieldLine) (wishes : List Wish)
@@ -129,4 +129,4 @@ stops_inserting settings s required l section old new run quiet wanted some room
 encoder_ended : (settings : EncoderSettings) (call : decoders.Call) (e : EncodingError) (old new : EncodingEnd)
     (run : decoders.Run (call ∷ []) old new) → run.0.failure ≡ Some e
     → decoders.AllAnswer settings (call ∷ []) old new run → ⊥
-encoder_ended settings call e old new run failed r = none-some e (sym r.1.0 ∙ failed)
+encoder_ended settings call e old new run failed r = none-some e (sym r.1 ∙ failed)
