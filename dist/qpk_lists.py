@@ -1,6 +1,7 @@
 """Header lists that a program logged without the bytes of QPACK: of qlog, HAR and net logs. qpk-capture reads it."""
 
 import json
+import re
 from typing import Any, Dict, Iterator, List, NamedTuple, Tuple
 from urllib.parse import unquote
 
@@ -10,14 +11,16 @@ from qpk_streams import SourceError, to_bytes
 
 ESCAPED = "%ESCAPED:\u200b "  # before a line of a net log whose bytes above ASCII are written as in addresses
 MOST_LISTS = 1 << 20  # that are kept; others are left out
+HOST_OF_URL = re.compile(r"[a-z]+://([^/?#]*)", re.IGNORECASE)
 
 
 class HeaderList(NamedTuple):
-    """A list of fields, the stream that it is of, and the mark of the end that sent it."""
+    """A list of fields, the stream that it is of, the mark of the end that sent it, and what the log calls its connection."""
 
     mark: str
     stream: int
     fields: List[Tuple[str, str]]
+    connection: str = ""
 
     def line(self) -> str:
         """Returns it as text, of several lines."""
@@ -35,11 +38,11 @@ class OnlyLists(SourceError):
 
     def __init__(self, lists: List[HeaderList]) -> None:
         number = len(lists)
+        self.lists, self.found = lists, f"it has {number} header list{'s' if number != 1 else ''} and no QPACK bytes"
         super().__init__(
-            f"it has {number} header list{'s' if number != 1 else ''} and no QPACK bytes: `qpk show` lists them;"
-            " for the bytes capture its packets, or have the program that wrote it log raw bytes"
+            f"{self.found}: `qpk show` lists them, and `qpk stats --try 0,4096` encodes them; for the bytes capture its packets,"
+            " or have the program that wrote it log raw bytes"
         )
-        self.lists = lists
 
 
 def fields_of_lines(lines: Any) -> List[Tuple[str, str]]:
@@ -67,7 +70,15 @@ def lists_of_har(value: Dict[str, Any]) -> Iterator[HeaderList]:
             it = entry.get(part) if isinstance(entry, dict) else None
             fields = fields_of_lines(it.get("headers")) if isinstance(it, dict) else []
             if fields:
-                yield HeaderList(mark, 4 * number, [(name.lower(), value) for name, value in fields])
+                yield HeaderList(mark, 4 * number, [(name.lower(), value) for name, value in fields], connection_of(entry))
+
+
+def connection_of(entry: Dict[str, Any]) -> str:
+    """Returns what an entry of a HAR tells of its connection: the host, and a number if the browser gave one."""
+    request = entry.get("request")
+    address = str(request.get("url", "")) if isinstance(request, dict) else ""
+    host = HOST_OF_URL.match(address)
+    return ", ".join(it for it in (host[1] if host else "", str(entry.get("connection") or "")) if it)
 
 
 def written_lists(lists: List[HeaderList], is_json: bool) -> Iterator[bytes]:

@@ -81,7 +81,7 @@ class NetLog:
                 stream = params.get("stream_id")
                 fields = fields_of_lines(params.get("headers"))
                 if isinstance(stream, int) and fields:
-                    yield HeaderList(LISTS[name], stream, fields), time, None
+                    yield HeaderList(LISTS[name], stream, fields, f"source {number}"), time, None
             elif isinstance(params.get("address"), str) and len(self.own) + len(self.peer) < MOST_SOCKETS:
                 if name == CONNECT:
                     self.peer[number] = read_address(params["address"])

@@ -333,9 +333,9 @@ def connections_of_records(records: List[dict]) -> List[Connection]:
             for event in events_of(trace):
                 readers.setdefault(event.group, Reader(mark_of(trace))).read(event)
             for group, reader in readers.items():
-                lists += reader.lists
                 names = ", ".join(it for it in (str(trace.get("title") or "a trace"), group) if it)
                 about = {"trace": "".join(it if it.isprintable() else " " for it in names)}
+                lists += [it._replace(connection=about["trace"]) for it in reader.lists]
                 if reader.found or any(reader.streams.gaps()):
                     connections.append(Connection(len(connections), about, reader.lines(), list(reader.missing())))
     except (AttributeError, KeyError, OverflowError, TypeError, ValueError, NotWhole) as error:

@@ -6,7 +6,7 @@ import subprocess
 import sys
 from typing import Any, Dict, Iterator, List
 
-from qpk_main import complain
+from qpk_main import complain, printable
 from qpk_streams import SourceError, to_text
 
 CAPACITIES = (0, 256, 512, 1024, 2048, 4096, 8192, 16384, 32768, 65536)
@@ -35,9 +35,11 @@ def choose(tried: List[Dict[str, int]]) -> Dict[str, int]:
 
 def advise(it: Dict[str, Any]) -> Iterator[str]:
     """Yields what the lists of a direction take at each capacity, and which settings to choose."""
-    end, lists = it.get("from", ""), it["sections"]
-    taken = it["section_bytes"] + it["encoder_stream_bytes"]
-    yield f"{f'the {end}: ' if end else ''}{lists} lists took {taken} bytes, sections and encoder stream"
+    end, has_bytes = it.get("from", ""), "sections" in it
+    lists = it["sections" if has_bytes else "lists"]
+    taken = it["section_bytes"] + it["encoder_stream_bytes"] if has_bytes else it["list_bytes"]
+    what = f"took {taken} bytes, sections and encoder stream" if has_bytes else f"have {taken} bytes of names and values"
+    yield f"{f'the {end}: ' if end else ''}{lists} lists {what}"
     tried = it.get("tried", [])
     if not lists or not tried:
         yield "  there is nothing to encode again: name a recording with sections that can be decoded"
@@ -53,7 +55,7 @@ def advise(it: Dict[str, Any]) -> Iterator[str]:
         yield f"  That saves {saved} of the {tried[0]['bytes']} bytes without a table. More capacity saves less than 1 % of them."
     else:
         yield f"  set SETTINGS_QPACK_MAX_TABLE_CAPACITY to 0 at {setter}, which decodes them: a table saves less than 1 %."
-    blocked = it["blocked_sections"]
+    blocked = it.get("blocked_sections", 0)
     if blocked:
         yield f"  {blocked} of the {lists} sections waited. SETTINGS_QPACK_BLOCKED_STREAMS 0 has none wait, for more bytes."
 
@@ -61,7 +63,8 @@ def advise(it: Dict[str, Any]) -> Iterator[str]:
 def lines(words: List[str], program: str) -> Iterator[str]:
     """Yields what qpk tune prints of a recording or a capture, which words of qpk stats name."""
     for it in count(words, program):
-        if "sections" in it:
-            yield from advise(it)
+        if "connection" in it:
+            name = printable(it.get("log", ""))
+            yield f"connection {it['connection']}{f', {name}' if name else ''}"
         else:
-            yield f"connection {it['connection']}"
+            yield from advise(it)

@@ -202,6 +202,10 @@ def test_tune():
     assert re.findall(r"capacity +(\d+) +(\d+) bytes", output.decode()) == expected and len(expected) == 20
     status, output, said = ask("tune", CAPTURED / "ngtcp2-update.pcapng", "--connection", 1)
     assert status == 0 and output.startswith(b"connection 1\nthe client: "), (output, said)
+    entry = {"request": {"url": "https://a.example/", "headers": [{"name": "Accept", "value": "text/html"}]}}
+    status, output, said = ask("tune", "-", data=json.dumps({"log": {"entries": [entry] * 9}}).encode())
+    assert output.startswith(b"connection 0, a.example\nthe client: 9 lists have 135 bytes of names and values\n"), (output, said)
+    assert (status, output.count(b" a list")) == (0, len(qpk_tune.CAPACITIES)), output
 
 
 # ---- explain

@@ -530,6 +530,53 @@ def test_other_capacities():
     assert "run `make -C " in refuse("stats", RECORDING, "--try", "0", H3_QPACK_LIBRARY="/nonexistent")
 
 
+def trace_without_bytes(shown):
+    """Returns a trace whose events have the lists that qpk show prints of a connection, and no bytes."""
+    events = []
+    for it in shown:
+        if "lines" in it and "refused" not in it:
+            own = it["from"] == "client"
+            frame = {"frame_type": "headers", "headers": [{"name": line["name"], "value": line["value"]} for line in it["lines"]]}
+            data = {"stream_id": it["section"], "frame": frame}
+            events.append({"time": len(events), "name": f"http3:frame_{'created' if own else 'parsed'}", "data": data})
+    return json.dumps({"traces": [{"title": "a\x1b", "vantage_point": {"type": "client"}, "events": events}]})
+
+
+def try_lists(text, lists, *words):
+    """Returns the lines that stats --try prints of a log without bytes, which it says on standard error."""
+    library = str(Path(BUILT.name) / "libh3_qpack.so.0")
+    status, printed, said = start("stats", "-", "--try", *words, text=text, H3_QPACK_LIBRARY=library)
+    assert (status, said) == (0, f"qpk stats: it has {lists} header lists and no QPACK bytes\n"), said
+    return printed.splitlines()
+
+
+def test_lists_without_bytes():
+    """Of a log that has lists and no bytes, --try says what the same recording with bytes takes; each connection is on its own."""
+    shown = subprocess.run([QPK, "show", "--json", "-"], input=RECORDING.read_bytes(), stdout=subprocess.PIPE, check=True).stdout
+    trace = trace_without_bytes(map(json.loads, shown.splitlines()))
+    assert "18 header lists and no QPACK bytes: `qpk show` lists them" in refuse("stats", "-", text=trace)
+    library = Path(BUILT.name) / "libh3_qpack.so.0"
+    if not library.exists():
+        return
+    built = {"H3_QPACK_LIBRARY": str(library)}
+    head, *found = map(json.loads, try_lists(trace, 18, "0,4096", "--json"))
+    assert head == {"connection": 0, "log": "a "} and len(found) == 2
+    for it, other in zip(found, ask_json("stats", RECORDING, "--try", "0,4096", **built)):
+        check(it, lists=other["sections"], **{"from": other["from"], "fields": other["fields"], "list_bytes": other["list_bytes"]})
+        assert it["tried"] == other["tried"]
+    headers = [{"name": name, "value": "value of some length"} for name in ("Accept", "x-\x1b")]
+    entry = {"request": {"url": "https://a.example:1/", "headers": headers}}
+    other = {"request": {"url": "http://b.example", "headers": headers}, "connection": "7"}
+    har = json.dumps({"log": {"entries": [entry, other, entry, 1, {"request": {"headers": headers, "url": 2}}]}})
+    lines = try_lists(har, 4, "4096")
+    assert [it for it in lines if it.startswith("conn")] == ["connection 0, a.example:1", "connection 1, b.example, 7", "connection 2"]
+    sizes = [int(re.search(r" (\d+) bytes", it)[1]) for it in lines if "encoded at" in it]
+    assert len(sizes) == 3 and sizes[1] == sizes[2] < sizes[0] < 2 * sizes[1]  # the second list of a connection is shorter
+    assert try_lists(har, 4, "4096", "--connection", "1") == lines[5:10]
+    refused = refuse("stats", "-", "--try", "4096", "--connection", 3, text=har, **built).splitlines()
+    assert refused[-1] == "qpk stats: it has no connection 3, but 0 to 2", refused
+
+
 # ---- What is refused, and what is wrong
 
 

@@ -1,10 +1,14 @@
-"""qpk stats --try: the lists of a connection, encoded again at other capacities by the library."""
+"""qpk stats --try: the lists of a connection, or of a log without bytes, encoded at other capacities by the library."""
 
 import importlib
 import os
 import sys
 from collections import defaultdict
-from typing import Any, Dict, Iterator, List, Optional, Tuple
+from typing import Any, Dict, Iterable, Iterator, List, Optional, Tuple
+
+from qpk_lines import ENDS
+from qpk_lists import HeaderList
+from qpk_streams import to_bytes
 
 from . import ReportError
 from .connection import Event
@@ -40,6 +44,15 @@ class Lists:
         """Keeps a list."""
         if event.is_list:
             self.directions[event.of].append(fields_with_marks(event, self.library))
+
+
+def lists_of_log(lists: Iterable[HeaderList], library: Any) -> Dict[str, Dict[str, List[List[Any]]]]:
+    """Returns header lists that a log has without bytes, as the library takes them, by connection and end."""
+    found: Dict[str, Dict[str, List[List[Any]]]] = {}
+    for it in lists:
+        fields = [library.Field(to_bytes(name), to_bytes(value), False) for name, value in it.fields]
+        found.setdefault(it.connection, {}).setdefault(ENDS[it.mark], []).append(fields)
+    return found
 
 
 def try_capacities(

@@ -7,9 +7,11 @@ import locale
 import sys
 from typing import Any, Callable, Dict, List, NoReturn, Optional, Protocol
 
-from qpk_main import complain, run
+from qpk_lists import OnlyLists
+from qpk_main import complain, printable, run
 
-from .again import Lists, load_library, try_capacities
+from . import ReportError
+from .again import Lists, lists_of_log, load_library, try_capacities
 from .connection import Connection, Event, Reading
 from .opened import open_page, write_page
 from .page import PageMaker
@@ -74,7 +76,8 @@ sections. The manual page says how each is counted.
 {FILE}
 
 --json             print an object for each direction
---try CAPACITY,..  encode the same lists again by the library, with tables of these capacities, and print their bytes
+--try CAPACITY,..  encode the same lists again by the library, with tables of these capacities, and print their bytes;
+                   also those of a log that has no bytes of QPACK, as HAR
 {OPTIONS}
 Status 2 says that something in the recording was refused.""",
     "table": f"""\
@@ -232,17 +235,47 @@ def run_stats(words: argparse.Namespace, recordings: List[Recording]) -> bool:
                 print_object({**as_object(end, numbers), **({"tried": tried} if tried else {})})
             else:
                 print_numbers(end, numbers, is_unicode())
-                print_tried(tried, numbers.sections)
+                print_tried(tried, numbers.sections, "encoded again")
         is_refused = is_refused or reading.is_refused
     return is_refused
 
 
-def print_tried(tried: List[Dict[str, int]], lists: int) -> None:
+def print_tried(tried: List[Dict[str, int]], lists: int, done: str) -> None:
     """Prints what lists take at other capacities."""
     for it in tried:
         mean = it["bytes"] / lists if lists else 0.0
         parts = f"{it['section_bytes']} sections + {it['encoder_stream_bytes']} encoder stream"
-        print(f"  encoded again at capacity {it['capacity']}: {it['bytes']} bytes, {mean:.1f} a list: {parts}")
+        print(f"  {done} at capacity {it['capacity']}: {it['bytes']} bytes, {mean:.1f} a list: {parts}")
+
+
+def try_lists(words: argparse.Namespace, lists: OnlyLists) -> None:
+    """Prints what the lists of a log without bytes of QPACK take at the capacities, by connection and end."""
+    library = load_library()
+    complain(f"qpk {words.command}: {lists.found}")
+    found = list(enumerate(lists_of_log(lists.lists, library).items()))
+    chosen = [it for it in found if words.connection in (None, it[0])]
+    if not chosen:
+        raise ReportError(f"it has no connection {words.connection}, but 0 to {len(found) - 1}")
+    for place, (name, directions) in chosen:
+        if words.json:
+            print_object({"connection": place, "log": name})
+        else:
+            print(f"connection {place}{f', {printable(name)}' if name else ''}")
+        for end, fields in directions.items():
+            print_lists(words, end, fields, list(try_capacities(fields, None, words.capacities, words.max_blocked, library)))
+
+
+def print_lists(words: argparse.Namespace, end: str, lists: List[List[Any]], tried: List[Dict[str, int]]) -> None:
+    """Prints what the lists of an end have and take, of a log without bytes of QPACK."""
+    fields = sum(map(len, lists))
+    size = sum(len(it.name) + len(it.value) for fields_of_list in lists for it in fields_of_list)
+    if words.json:
+        print_object({"from": end, "lists": len(lists), "fields": fields, "list_bytes": size, "tried": tried})
+        return
+    print(f"{end}'s lists")
+    print(f"  {'lists':<24}{len(lists)}; fields in them {fields}")
+    print(f"  {'names and values':<24}{size} bytes")
+    print_tried(tried, len(lists), "encoded")
 
 
 def run_table(words: argparse.Namespace, recordings: List[Recording]) -> bool:
@@ -315,7 +348,13 @@ def answer(words: argparse.Namespace) -> int:
     source = Source(
         words.file, words.keys, words.pdml, words.connection, words.max_capacity, words.max_blocked, words.qif, words.by
     )
-    recordings = [] if words.file is None and words.pdml is None else read_recordings(source)
+    try:
+        recordings = [] if words.file is None and words.pdml is None else read_recordings(source)
+    except OnlyLists as lists:
+        if words.command != "stats" or not words.capacities:
+            raise
+        try_lists(words, lists)
+        return 0
     return REFUSED_PART if COMMANDS[words.command](words, recordings) else 0
 
 
