@@ -41,6 +41,8 @@ def read_file(file: BinaryIO, wanted: Wanted) -> List[Connection]:
         return read_capture(plain, wanted)
     if is_net_log(head):
         return read_net_log(plain, wanted)
+    if wanted.keys is not None and not head:
+        raise SourceError(f"the file is empty: {CAPTURE_AGAIN}")
     if wanted.keys is not None and not qpk_qlog.is_trace(head):
         raise SourceError("the file is no capture: name one of tcpdump, dumpcap or Wireshark, or leave out --keys")
     data = plain.read(MOST_JSON + 1)
@@ -73,6 +75,8 @@ def read_capture(plain: Any, wanted: Wanted) -> List[Connection]:
         complain(f"qpk-capture: {capture.damage}")
     if not connections:
         raise SourceError(why_no_packets(capture, datagrams) or why_nothing(reader, log))
+    if capture.short:
+        complain(f"qpk-capture: {cut_packets(capture)}")
     tell_left_out(reader)
     return connections
 
@@ -104,13 +108,17 @@ def tell_left_out(reader: Reader) -> None:
 # ---- Why there is nothing
 
 
+def cut_packets(capture: Capture) -> str:
+    """Returns how many packets the snap length cut, and what to do."""
+    return f"{capture.short} of {capture.count} packets are cut to {capture.longest_short} bytes: {CAPTURE_AGAIN}"
+
+
 def why_no_packets(capture: Capture, datagrams: Datagrams) -> str:
     """Returns why a capture has no datagram that can be read, or nothing."""
     if not capture.count:
         return f"the capture has no packets: {CAPTURE_AGAIN}"
     if capture.short * 2 > capture.count:
-        longest = capture.longest_short
-        return f"{capture.short} of {capture.count} packets are cut to {longest} bytes: {CAPTURE_AGAIN}"
+        return cut_packets(capture)
     if not datagrams.count:
         return f"none of the {capture.count} packets is a datagram of UDP: {CAPTURE_AGAIN}"
     return ""

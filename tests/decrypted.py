@@ -244,10 +244,26 @@ def test_why_nothing_is_read():
         (pcap(packets[2:]), "", "there are no secrets: name the key log by --keys"),
         (pcap(packets), "no key log\n", " has no line of a key log: name the file "),
         (b"hello", keys, "the file is no capture: "),
+        (b"", keys, "the file is empty: capture again with "),
         (gzip.compress(b""), keys, "the file can't be decompressed, or has nothing in it: "),
     ):
         said = refusal(data, log)
         assert reason in said and "\n" not in said, (reason, said)
+
+
+def test_packets_that_are_cut():
+    """If the snap length cut some packets, that is said beside what the others have, and no end is accused."""
+    connection = made()
+    packets = ip_packets(connection.datagrams)
+    whole = len(packets) // 2
+    data = pcap(packets[:whole]) + pcap(packets[whole:], snap=40)[len(pcap([])) :]
+    with tempfile.NamedTemporaryFile("w", suffix=".keys") as log:
+        log.write(connection.keys())
+        log.flush()
+        status, output, said = ask("check", "-", "--keys", log.name, data=data)
+    reason = f"{len(packets) - whole} of {len(packets)} packets are cut to 40 bytes: capture again with `dumpcap -s 0 "
+    assert status in (0, 4) and said.startswith(f"qpk-capture: {reason}".encode()), (status, said)
+    assert not any(it.startswith(b"line ") for it in output.splitlines()), output
 
 
 # ---- Traces and logs without bytes

@@ -59,28 +59,28 @@ async function readCapture(bytes, log) {
     const datagram = datagrams.ofPacket(packet.link, packet.data);
     if (datagram) await reader.read(packet.time, {...datagram, packet: packet.number});
   }
-  return finished(reader, log, capture.damage, () => whyNoPackets(capture, datagrams) || whyNothing(reader, log));
+  const said = [capture.damage, capture.short ? cutPackets(capture) : ''].filter(it => it);
+  return finished(reader, log, said, () => whyNoPackets(capture, datagrams) || whyNothing(reader, log));
 }
 
 async function readNetLog(text, log) {
   const netLog = new NetLog(text), reader = new PacketReader(log), begun = performance.now();
-  let damage = '';
+  const said = [];
   for (const [time, datagram] of netLog.datagrams()) {
     if (isLate(begun)) {
-      damage = `the packets took longer than ${MOST_SECONDS} seconds, so the others are left out`;
+      said.push(`the packets took longer than ${MOST_SECONDS} seconds, so the others are left out`);
       break;
     }
     await reader.read(time, datagram);
   }
-  return finished(reader, log, damage, () => reader.connections.length ? whyNothing(reader, log) : whyNoBytes(netLog));
+  return finished(reader, log, said, () => reader.connections.length ? whyNothing(reader, log) : whyNoBytes(netLog));
 }
 
-// Returns the connections that were read, and what is said of the others, or fails with why there are none.
-async function finished(reader, log, damage, why) {
+// Returns the connections that were read, and what is said of the file and of the others, or fails with why there are none.
+async function finished(reader, log, said, why) {
   await reader.finish();
   const connections = Array.from(reader.connectionsRead(), it => ({...it, text: it.lines.map(line => `${line}\n`).join('')}));
   if (!connections.length) throw new Refusal(why());
-  const said = damage ? [damage] : [];
   for (const [number, it] of reader.connections.entries()) {
     if (!it.random || it.isRead) continue;
     const reason = log.secrets.has(it.random) ? 'no packets that its secrets open' : 'no secrets';
@@ -93,10 +93,14 @@ async function finished(reader, log, damage, why) {
 
 // ---- Why there is nothing
 
+function cutPackets({count, short, longestShort}) {
+  return `${short} of ${count} packets are cut to ${longestShort} bytes: ${CAPTURE_AGAIN}`;
+}
+
 function whyNoPackets(capture, datagrams) {
-  const {count, short, longestShort} = capture;
+  const {count, short} = capture;
   if (!count) return `the capture has no packets: ${CAPTURE_AGAIN}`;
-  if (short * 2 > count) return `${short} of ${count} packets are cut to ${longestShort} bytes: ${CAPTURE_AGAIN}`;
+  if (short * 2 > count) return cutPackets(capture);
   return datagrams.count ? '' : `none of the ${count} packets is a datagram of UDP: ${CAPTURE_AGAIN}`;
 }
 

@@ -17,6 +17,8 @@ import gzip
 import itertools
 import json
 import random
+import re
+import struct
 import subprocess
 import sys
 import zlib
@@ -219,6 +221,30 @@ def check_refused(tab, _):
     return f'{len(REFUSED)} files'
 
 
+def cut_packets(data, kept):
+    """Returns a file of pcapng in which packets have that many bytes, those of every fourth block."""
+    at, number, parts = 0, 0, []
+    while at < len(data):
+        kind, size = struct.unpack('<II', data[at:at + 8])
+        block, at, number = data[at:at + size], at + size, number + 1
+        if kind == 6 and number % 4 == 0:
+            body = block[8:20] + struct.pack('<I', kept) + block[24:28 + kept]
+            block = struct.pack('<II', 6, len(body) + 12) + body + struct.pack('<I', len(body) + 12)
+        parts.append(block)
+    return b''.join(parts)
+
+
+def check_cut_packets(tab, room):
+    """Of a capture in which the snap length cut some packets, the page shows the others, and says what qpk says."""
+    path = Path(room) / 'cut.pcapng'
+    path.write_bytes(cut_packets(CAPTURE.read_bytes(), 40))
+    count = compare(tab, path)
+    reason = re.search(r'\d+ of \d+ packets are cut to 40 bytes: .*', run('show', path).stderr.decode())[0]
+    if not count or reason not in tab.said():
+        raise Failure(f'{count} events; qpk says {reason}, and the page {tab.said()}')
+    return f'{count} events'
+
+
 def check_keys_later(tab, _):
     """A net log without its key log is refused, and read once the key log is dropped too."""
     if tab.drop((NET_LOG.name, NET_LOG.read_bytes())) or 'key log' not in tab.said():
@@ -292,6 +318,7 @@ CHECKS = {
     'files': check_files,
     'damaged files': check_damaged,
     'files of other kinds': check_refused,
+    'packets that are cut': check_cut_packets,
     'the key log later': check_keys_later,
     'typing': check_typing,
     'everybody': check_everybody,
