@@ -3,9 +3,9 @@
 import hmac
 from typing import Dict, Iterable, Iterator, List, NamedTuple, Optional, Tuple
 
-from qpk_libcrypto import AES_128, AES_256, CHACHA20, SAMPLE, Masks, Payloads, Suite
+from qpk_libcrypto import AES_128, AES_128_CCM, AES_256, CHACHA20, SAMPLE, Masks, Payloads, Suite, payloads_of
 
-SUITES = {32: (AES_128, CHACHA20), 48: (AES_256,)}  # by the length of a secret
+SUITES = {32: (AES_128, CHACHA20, AES_128_CCM), 48: (AES_256,)}  # by the length of a secret
 SHORTEST = 4 + SAMPLE  # bytes of a packet from its number on
 MOST_SECRETS = 1 << 16  # connections of a key log that are kept; the others are left out
 LONGEST_SECRET = 64  # bytes
@@ -139,7 +139,7 @@ class Keys:
 
     def payloads_of(self, secret: bytes) -> Payloads:
         """Returns what opens payloads by the keys of a secret."""
-        return Payloads(self.suite, self.derive(secret, b" key", self.suite.size), self.derive(secret, b" iv", 12))
+        return payloads_of(self.suite, self.derive(secret, b" key", self.suite.size), self.derive(secret, b" iv", 12))
 
     def at_generation(self, number: int) -> Optional[Payloads]:
         """Returns what opens payloads of a generation. Each is made of the one before it; old ones are left out."""

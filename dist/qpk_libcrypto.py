@@ -8,7 +8,8 @@ from typing import Any, NamedTuple, Optional
 LIBRARIES = ("libcrypto.so.3", "libcrypto.so.1.1", "libcrypto.so")  # before what ctypes finds, by running programs
 TAG = 16  # bytes of the tag behind a payload
 SAMPLE = 16  # bytes that mask a header, from four bytes after the begin of its packet number on
-SET_TAG = 0x11  # EVP_CTRL_AEAD_SET_TAG
+SET_NONCE_SIZE, SET_TAG = 0x9, 0x11  # EVP_CTRL_AEAD_SET_IVLEN, EVP_CTRL_AEAD_SET_TAG
+NONCE = 12  # bytes of a nonce
 MOST_PAYLOAD = 1 << 16  # bytes of a payload, which a datagram of UDP has at most
 
 
@@ -24,6 +25,8 @@ class Suite(NamedTuple):
 AES_128 = Suite("sha256", 16, "EVP_aes_128_gcm", "EVP_aes_128_ecb")
 AES_256 = Suite("sha384", 32, "EVP_aes_256_gcm", "EVP_aes_256_ecb")
 CHACHA20 = Suite("sha256", 32, "EVP_chacha20_poly1305", "EVP_chacha20")
+AES_128_CCM = Suite("sha256", 16, "EVP_aes_128_ccm", "EVP_aes_128_ecb")
+ALL = (AES_128, AES_256, CHACHA20, AES_128_CCM)
 
 
 # ---- The library
@@ -43,7 +46,7 @@ def load() -> Any:
 def declared(library: Any) -> Any:
     """Returns the library, with the types of its functions."""
     context, number, text = ctypes.c_void_p, ctypes.c_int, ctypes.c_char_p
-    ciphers = [name for suite in (AES_128, AES_256, CHACHA20) for name in (suite.cipher, suite.mask)]
+    ciphers = [name for suite in ALL for name in (suite.cipher, suite.mask)]
     for name in ("EVP_CIPHER_CTX_new", *ciphers):
         getattr(library, name).restype = context
     for name in ("EVP_DecryptInit_ex", "EVP_EncryptInit_ex"):
@@ -104,13 +107,41 @@ class Payloads(Context):
         size = len(sealed) - TAG
         if not 0 <= size <= MOST_PAYLOAD:
             return None
-        nonce = (self.iv ^ number).to_bytes(12, "big")
+        nonce = (self.iv ^ number).to_bytes(NONCE, "big")
         library.EVP_DecryptInit_ex(handle, None, None, None, nonce)
         library.EVP_CIPHER_CTX_ctrl(handle, SET_TAG, TAG, sealed[size:])
         library.EVP_DecryptUpdate(handle, None, size_of, head, len(head))
         library.EVP_DecryptUpdate(handle, self.room, size_of, sealed, size)
         is_open = library.EVP_DecryptFinal_ex(handle, None, size_of) == 1
         return ctypes.string_at(self.room, size) if is_open else None
+
+
+class PayloadsOfCcm(Payloads):
+    """The same where the tag and the length come before the bytes: AES-CCM (RFC 5116, section 5.3)."""
+
+    def __init__(self, suite: Suite, key: bytes, iv: bytes) -> None:
+        super().__init__(suite, key, iv)
+        self.key = key
+        self.library.EVP_CIPHER_CTX_ctrl(self.handle, SET_NONCE_SIZE, NONCE, None)
+
+    def open(self, number: int, head: bytes, sealed: bytes) -> Optional[bytes]:
+        """Returns the payload of the packet with a number, or nothing if the key does not open it."""
+        library, handle, size_of = self.library, self.handle, self.size_of
+        size = len(sealed) - TAG
+        if not 0 < size <= MOST_PAYLOAD:
+            return None
+        nonce = (self.iv ^ number).to_bytes(NONCE, "big")
+        library.EVP_CIPHER_CTX_ctrl(handle, SET_TAG, TAG, sealed[size:])
+        library.EVP_DecryptInit_ex(handle, None, None, self.key, nonce)
+        library.EVP_DecryptUpdate(handle, None, size_of, None, size)
+        library.EVP_DecryptUpdate(handle, None, size_of, head, len(head))
+        is_open = library.EVP_DecryptUpdate(handle, self.room, size_of, sealed, size) == 1
+        return ctypes.string_at(self.room, size) if is_open else None
+
+
+def payloads_of(suite: Suite, key: bytes, iv: bytes) -> Payloads:
+    """Returns what opens payloads by a key of a suite."""
+    return (PayloadsOfCcm if suite is AES_128_CCM else Payloads)(suite, key, iv)
 
 
 class Masks(Context):

@@ -27,7 +27,7 @@ from qpk_streams import SourceError
 from sealed import CLIENT, SERVER, Made, ack_frame, crypto_frame, ip_packets, pcapng, stream_frame
 
 RFC_9001 = "8394c8f03e515708"  # the client's connection ID in its appendix A, and in that of RFC 9369
-SUITES = (qpk_libcrypto.AES_128, qpk_libcrypto.AES_256, qpk_libcrypto.CHACHA20)
+SUITES = qpk_libcrypto.ALL
 VERSIONS = (qpk_keys.VERSION_1, qpk_keys.VERSION_2)
 
 

@@ -5,7 +5,7 @@ import struct
 
 # captures.py puts dist/ into the path of modules.
 from qpk_keys import EARLY, INITIAL, RETRY, VERSION_1, expand, initial_secrets
-from qpk_libcrypto import AES_128, AES_256, CHACHA20, Library
+from qpk_libcrypto import AES_128, AES_128_CCM, AES_256, CHACHA20, Library
 
 CLIENT, SERVER = (bytes([10, 0, 0, 1]), 50000), (bytes([10, 0, 0, 2]), 443)
 SECRET_NAMES = {">": "CLIENT_TRAFFIC_SECRET_0", "<": "SERVER_TRAFFIC_SECRET_0", EARLY: "CLIENT_EARLY_TRAFFIC_SECRET"}
@@ -32,7 +32,13 @@ def seal(suite, key, nonce, head, payload):
     """Returns a payload that is sealed, with its tag."""
     crypto, size = library(), ctypes.c_int()
     context = crypto.EVP_CIPHER_CTX_new()
-    crypto.EVP_EncryptInit_ex(context, getattr(crypto, suite.cipher)(), None, key, nonce)
+    crypto.EVP_EncryptInit_ex(context, getattr(crypto, suite.cipher)(), None, None, None)
+    if suite is AES_128_CCM:  # which has to know the lengths before the bytes
+        crypto.EVP_CIPHER_CTX_ctrl(context, 0x9, len(nonce), None)
+        crypto.EVP_CIPHER_CTX_ctrl(context, 0x11, 16, None)
+    crypto.EVP_EncryptInit_ex(context, None, None, key, nonce)
+    if suite is AES_128_CCM:
+        crypto.EVP_EncryptUpdate(context, None, ctypes.byref(size), None, len(payload))
     crypto.EVP_EncryptUpdate(context, None, ctypes.byref(size), head, len(head))
     room, tag = ctypes.create_string_buffer(len(payload) + 16), ctypes.create_string_buffer(16)
     crypto.EVP_EncryptUpdate(context, room, ctypes.byref(size), payload, len(payload))

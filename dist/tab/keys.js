@@ -3,9 +3,11 @@
 'use strict';
 
 const SAMPLE = 16, TAG = 16; // bytes that mask a header, and bytes behind a payload
+const BLOCK = 16; // bytes of a block of AES
 const AES_128 = {digest: 'SHA-256', size: 16}, AES_256 = {digest: 'SHA-384', size: 32};
 const CHACHA20 = {digest: 'SHA-256', size: 32, isChacha: true};
-const SUITES = {32: [AES_128, CHACHA20], 48: [AES_256]}; // by the length of a secret
+const AES_128_CCM = {digest: 'SHA-256', size: 16, isCcm: true};
+const SUITES = {32: [AES_128, CHACHA20, AES_128_CCM], 48: [AES_256]}; // by the length of a secret
 const SHORTEST = 4 + SAMPLE; // bytes of a packet from its number on
 const MOST_SECRETS = 1 << 16; // connections of a key log that are kept; the others are left out
 const LONGEST_SECRET = 64; // bytes
@@ -64,7 +66,8 @@ class KeyLog {
 class Payloads {
   static async of(suite, key, iv) {
     const made = new Payloads();
-    const imported = suite.isChacha ? key : await crypto.subtle.importKey('raw', key, 'AES-GCM', false, ['decrypt']);
+    const imported = suite.isChacha ? key : suite.isCcm ? await keysOfCcm(key) :
+      await crypto.subtle.importKey('raw', key, 'AES-GCM', false, ['decrypt']);
     return Object.assign(made, {suite, key: imported, iv});
   }
 
@@ -74,6 +77,7 @@ class Payloads {
     const nonce = this.iv.slice();
     for (let at = 11, rest = number; at > 3; at--, rest = Math.floor(rest / 256)) nonce[at] ^= rest % 256;
     if (this.suite.isChacha) return openByChacha(this.key, nonce, head, sealed);
+    if (this.suite.isCcm) return openByCcm(this.key, nonce, head, sealed);
     try {
       return new Uint8Array(await crypto.subtle.decrypt({name: 'AES-GCM', iv: nonce, additionalData: head}, this.key, sealed));
     } catch {
@@ -81,6 +85,34 @@ class Payloads {
     }
   }
 }
+
+// Returns the keys of AES-CCM, of which the browser has the parts: blocks that are counted, and blocks that are chained.
+async function keysOfCcm(key) {
+  return {
+    counted: await crypto.subtle.importKey('raw', key, 'AES-CTR', false, ['decrypt']),
+    chained: await crypto.subtle.importKey('raw', key, 'AES-CBC', false, ['encrypt']),
+  };
+}
+
+// Opens what AES-CCM sealed with a nonce of 12 bytes and a tag of 16 (RFC 3610): lengths are of 3 bytes. The block with the
+// count 0 masks the tag, which is the last one of a chain of the lengths, the head and the payload.
+async function openByCcm(keys, nonce, head, sealed) {
+  const size = sealed.length - TAG, masked = new Uint8Array(sealed.length);
+  masked.set(sealed.subarray(size));
+  masked.set(sealed.subarray(0, size), TAG);
+  const counter = Uint8Array.of(2, ...nonce, 0, 0, 0);
+  const clear = new Uint8Array(await crypto.subtle.decrypt({name: 'AES-CTR', counter, length: 24}, keys.counted, masked));
+  const begin = BLOCK + wholeBlocks(2 + head.length), blocks = new Uint8Array(begin + wholeBlocks(size));
+  blocks.set([0x7a, ...nonce, size >> 16, size >> 8 & 255, size & 255]);
+  blocks.set([head.length >> 8, head.length & 255, ...head], BLOCK);
+  blocks.set(clear.subarray(TAG), begin);
+  const chain = new Uint8Array(await crypto.subtle.encrypt({name: 'AES-CBC', iv: new Uint8Array(BLOCK)}, keys.chained, blocks));
+  const tag = chain.subarray(blocks.length - BLOCK);
+  return clear.subarray(0, TAG).every((byte, at) => byte === tag[at]) ? clear.slice(TAG) : null;
+}
+
+// Returns the bytes of the blocks that as many bytes fill.
+function wholeBlocks(size) { return Math.ceil(size / BLOCK) * BLOCK; }
 
 // Makes the masks of headers by a key (RFC 9001, section 5.4). A block of AES alone is the first one of a chain of blocks.
 class Masks {

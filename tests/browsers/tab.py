@@ -31,6 +31,10 @@ import keyboard
 from nghttp3 import Failure
 
 TOP = Path(__file__).resolve().parents[2]
+sys.path[:0] = [str(TOP / 'dist'), str(TOP / 'tests')]
+import qpk_libcrypto  # noqa: E402 # pylint: disable=wrong-import-position
+from sealed import Made, ip_packets, pcapng  # noqa: E402 # pylint: disable=wrong-import-position
+
 QPK, PROGRAM = TOP / 'qpk', TOP / 'dist' / 'qpk-wasm64.wasm'
 CAPTURED, TRACES = TOP / 'tests' / 'captured', TOP / 'tests' / 'qlog'
 RECORDING, CAPTURE = CAPTURED / 'chromium.txt', CAPTURED / 'ngtcp2-gso.pcapng'
@@ -194,6 +198,19 @@ def damage(data, chance):
     return bytes(data)
 
 
+def check_ciphers(tab, room):
+    """A capture by each cipher of QUIC, of the lines of the recording."""
+    if qpk_libcrypto.Library.get() is None:
+        raise checks.NotShown('without libcrypto')
+    lines = RECORDING.read_text('utf-8').splitlines()[1:]
+    for number, suite in enumerate(qpk_libcrypto.ALL):
+        made, path = Made(suite=suite).begin().take(lines), Path(room) / f'{number}.pcapng'
+        path.write_bytes(pcapng(ip_packets(made.datagrams), secrets=made.keys()))
+        if not compare(tab, path):
+            raise Failure(f'{suite.cipher}: there are no events')
+    return f'{len(qpk_libcrypto.ALL)} ciphers'
+
+
 def check_damaged(tab, room):
     """Recordings and captures with faults by chance. JavaScript must have an answer, which may be another one."""
     chance, refused = random.Random(99), 0
@@ -316,6 +333,7 @@ def take_pictures(tab, folder):
 CHECKS = {
     'the program': check_program,
     'files': check_files,
+    'ciphers': check_ciphers,
     'damaged files': check_damaged,
     'files of other kinds': check_refused,
     'packets that are cut': check_cut_packets,
