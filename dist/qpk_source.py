@@ -19,6 +19,7 @@ from qpk_streams import Connection, SourceError, to_text
 from qpk_tshark import connect, run_tshark
 
 HEAD = 64  # bytes of a file that say what it is
+MOST_KEY_LINE = 1 << 12  # characters of a line of a key log; a longer one is read in parts, of which none is of a key log
 MOST_JSON = 1 << 29  # bytes of a trace that is read
 LIBCRYPTO, TSHARK = "libcrypto", "tshark"  # what may decrypt a capture
 CAPTURE_AGAIN = "capture again with `dumpcap -s 0 -f 'udp port 443'`"
@@ -88,7 +89,8 @@ def read_key_log(wanted: Wanted) -> KeyLog:
     log = KeyLog()
     if wanted.keys is not None:
         with open_file(wanted.keys) as file:
-            for line in TextIOWrapper(file, "utf-8", "replace"):
+            text = TextIOWrapper(file, "utf-8", "replace")
+            for line in iter(lambda: text.readline(MOST_KEY_LINE), ""):
                 log.learn(line)
         if not log.lines:
             raise SourceError(f"{wanted.keys} has no line of a key log: name the file that SSLKEYLOGFILE named")

@@ -21,9 +21,9 @@ import tempfile
 from pathlib import Path
 from urllib.parse import unquote
 
-from captures import CAPTURED, ENVIRONMENT, KEPT, ask, ask_fork, logged, mutated
+from captures import CAPTURED, ENVIRONMENT, KEPT, SCRIPT, ask, ask_fork, logged, mutated
 from connections import LINES, WHOLE, assert_whole, file_of, made, read, refusal, run_with_libcrypto
-from running import assert_linear, shows_no_fault_of_a_script
+from running import assert_linear, cost_of, shows_no_fault_of_a_script
 
 # These are in dist/, which captures.py puts into the path of modules.
 import qpk_datagrams
@@ -218,6 +218,24 @@ def test_fragments_that_never_end():
             assert len(datagrams.fragmented) <= qpk_datagrams.MOST_FRAGMENTED
 
     assert_linear(fill, 4000)
+
+
+def test_a_key_log_with_a_long_line():
+    """What has no end of a line for long, as a file that is no key log, takes no memory, and the lines after it are read."""
+    connection = made()
+    with tempfile.TemporaryDirectory() as room:
+        capture, log = Path(room) / "a.pcapng", Path(room) / "keys"
+        capture.write_bytes(pcapng(ip_packets(connection.datagrams)))
+        with open(log, "wb") as file:
+            file.truncate(64 << 20)
+            file.seek(0, os.SEEK_END)
+            file.write(b"\n" + connection.keys().encode())
+        with open(Path(room) / "output", "wb") as output:
+            words = [SCRIPT, "check", capture, "--keys", log]
+            _, kilobytes = cost_of(words, subprocess.DEVNULL, output, env=ENVIRONMENT)
+        said = (Path(room) / "output").read_bytes()
+    assert said.endswith(b"nothing found: sections 18, encoder instructions 110, decoder instructions 24\n"), said
+    assert kilobytes < 60 << 10, kilobytes
 
 
 # ---- Why there is nothing
