@@ -21,7 +21,7 @@ DOCUMENT = TOP / 'docs' / 'PERFORMANCE.md'
 HEAD = '## The page of `qpk report`'
 IN_THE_GATE, ALL = (1_000, 10_000), (1_000, 10_000, 100_000)
 # Of 10,000 requests: bytes, KB, and seconds of the processor. In the gate a slow processor has longer, by as much as it is slower.
-MOST_BYTES, MOST_MEMORY, MOST_SECONDS, MOST_READY, MOST_ANSWER = 5_000_000, 150_000, 10, 2.0, 0.2
+MOST_BYTES, MOST_MEMORY, MOST_SECONDS, MOST_READY, MOST_ANSWER = 5_000_000, 150_000, 3, 1.0, 0.2
 MOST_OPEN = 5.0  # seconds by the clock until a page is ready that --sizes measures
 ABOUT = """`tests/browsers/report.py --sizes` measured these on {date}, in headless Chromium, beside other work on the machine. Each
 request has 17 fields, and its response 8. The seconds of `report` are those of the processor, with what it starts. Until the page
