@@ -9,7 +9,8 @@ import time
 from browsers import GIVEN_UP
 from nghttp3 import Failure
 
-QPK = os.path.join(os.path.dirname(os.path.abspath(__file__)), '..', '..', 'qpk')
+TOP = os.path.join(os.path.dirname(os.path.abspath(__file__)), '..', '..')
+QPK, LINES = os.path.join(TOP, 'qpk'), os.path.join(TOP, 'dist', 'qpk-capture')
 
 
 def is_possible():
@@ -33,9 +34,9 @@ def start(port, room):
     return process
 
 
-def run_qpk(*words):
+def run_qpk(*words, program=QPK):
     """Returns what qpk prints of a capture in which nothing is wrong."""
-    ran = subprocess.run([QPK, *words], capture_output=True, encoding='utf-8', check=False)
+    ran = subprocess.run([program, *words], capture_output=True, encoding='utf-8', check=False)
     if ran.returncode:
         raise Failure(f'qpk {words[0]} ended with {ran.returncode}: {(ran.stderr or ran.stdout).strip()[:300]}')
     return ran.stdout
@@ -59,15 +60,40 @@ def read_lists(printed):
     return lists
 
 
+def read_streams(*words):
+    """Returns the bytes of the instruction streams of each connection that has any, in hexadecimal, by end and kind."""
+    connections = []
+    for line in run_qpk('lines', *words, program=LINES).splitlines():
+        mark, kind, *_, last = line.split()[line.startswith('@'):]
+        if mark == '#':
+            connections.append(collections.defaultdict(str))
+        elif kind in ('e', 'd'):
+            connections[-1][mark, kind] += last
+    return [it for it in connections if it]
+
+
+def compare_streams(name, found, expected):
+    """Checks that the instruction streams of a file are those of the capture. One of both may end before the other."""
+    if len(found) != len(expected):
+        raise Failure(f'the {name} has instructions of {len(found)} connections, and the capture of {len(expected)}')
+    for own, other in zip(found, expected):
+        for mark, kind in {*own, *other}:
+            short, long = sorted((own[mark, kind], other[mark, kind]), key=len)
+            if not short or not long.startswith(short):
+                raise Failure(f'qpk reads other bytes of the stream {mark} {kind} in the {name} than in the capture')
+
+
 def compare(room, received, sent):
     """Checks that qpk reads the lists that the server received and sent in the capture, in the browser's net log, if it has
-    one, and in the server's own log, and finds nothing wrong in any. Returns how many lists it read of each. Of as many
-    streams as are given up, a list may be sent and not received, or encoded and not sent."""
+    one, and in the server's own log, and finds nothing wrong in any; and that their instructions have the same bytes.
+    Returns how many lists it read of each. Of as many streams as are given up, a list may be sent and not received, or
+    encoded and not sent."""
     keys = ('--keys', f'{room}/secrets')
     files = {'capture': (f'{room}/capture.pcapng', *keys), 'net log': (f'{room}/net.json', *keys), 'server log': (f'{room}/log',)}
-    compared, lists = {}, {}
+    compared, lists, streams = {}, {}, read_streams(*files['capture'])
     for name, words in files.items():
         if os.path.exists(words[0]):
+            compare_streams(name, read_streams(*words), streams)
             lists[name] = read_lists(run_qpk('show', *words, '--json'))
             compared[name] = compare_lists(name, lists[name], received, sent)
             run_qpk('check', *words)
