@@ -1,12 +1,18 @@
 // The verdict of all connections, worst first, and what was found on one.
 
-const STATES = {wrong: {sign: '✕', rank: 0}, perhaps: {sign: '?', rank: 1}, right: {sign: '✓', rank: 2}};
+const STATES = {
+  wrong: {sign: '✕', rank: 0}, perhaps: {sign: '?', rank: 1},
+  lacking: {sign: '?', rank: 2}, // nothing is found, and the file has not all of the connection
+  right: {sign: '✓', rank: 3},
+};
 const MOST_NAMED = 6; // connections, and findings, that are listed before the others are asked for
 
-function stateOf({verdict: {certain, explained}}) { return certain ? 'wrong' : explained ? 'perhaps' : 'right'; }
+function stateOf({verdict: {certain, explained, lacks}}) {
+  return certain ? 'wrong' : explained ? 'perhaps' : lacks ? 'lacking' : 'right';
+}
 
-function verdictText({verdict: {certain, explained}}) {
-  if (!certain && !explained) return 'Nothing is wrong';
+function verdictText({verdict: {certain, explained, lacks}}) {
+  if (!certain && !explained) return lacks ? 'Nothing is found, and not all could be read' : 'Nothing is wrong';
   const parts = [certain ? counted(certain, 'finding') : '', explained ? `${counted(explained, 'finding')} that what is missing may explain` : ''];
   return parts.filter(it => it).join(', ');
 }
@@ -27,11 +33,12 @@ function worstFirst(connections) {
 function summary(ranked) {
   const {state, connection} = ranked[0], all = ranked.length;
   if (all === 1) return element('p', 'summary ' + state, sign(state), verdictText(connection) + ' on this connection.');
-  const worse = ranked.filter(it => it.state !== 'right').length, {certain, explained} = connection.verdict;
+  const worse = ranked.filter(it => it.connection.faults.length).length, {certain, explained} = connection.verdict;
   const worst = connection.faults.find(it => !it.perhaps) ?? connection.faults[0], rest = certain + explained - 1;
   const more = rest ? `, and ${counted(rest, 'more finding')}` : '';
   const text = worst ? `${worst.perhaps ? 'Perhaps on' : 'On'} ${connection.name}: ${worst.fault}${more}. Findings on ${worse} of ${all} connections.`
-    : `Nothing is wrong on ${all} connections.`;
+    : state === 'right' ? `Nothing is wrong on ${all} connections.`
+    : `Nothing is found on ${all} connections, of which not all of ${ranked.filter(it => it.state === state).length} could be read.`;
   return element('p', 'summary ' + state, sign(state), text);
 }
 

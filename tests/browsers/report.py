@@ -34,12 +34,17 @@ import sizes
 from nghttp3 import Failure
 
 TOP = Path(__file__).resolve().parents[2]
+sys.path += [str(TOP / 'dist'), str(TOP / 'tests')]
+from sealed import Made, ack_frame, ip_packets, pcapng  # noqa: E402 # pylint: disable=wrong-import-position
+
 CAPTURED = TOP / 'tests' / 'captured'
 RECORDING = CAPTURED / 'chromium.txt'
 # Lines of the recording after which the tables are compared: at its ends, in a direction each, and around evictions.
 MOMENTS = [2, 4, 5, 7, 12, 21, 40, 46, 47, 52, 55]
 # Faults of the data of a page: a line of a section, and an entry of a table.
 PLANTED = [(b':method: GET', b':method: PUT'), (b':authority: localhost', b':authority: elsewhere')]
+# The lines of a connection with a request, and its response.
+WHOLE_REQUEST = ['< s 4096 0', '> s 0 0', '> b 0 0000d1d7c1500161', '< b 0 0000d9']
 # What tshark prints of three connections, each with a request of static fields: a GET, a POST, and a GET that is cut.
 PACKET = '''<packet><field name="frame.number" show="{}"/><field name="frame.time_relative" show="1.5"/>
 <field name="ip.src" show="10.0.0.1"/>
@@ -270,6 +275,27 @@ def check_connections(pages):
     return 'three, the worst first'
 
 
+def check_lacking(pages):
+    """Of a connection of which packets are missing, and nothing is found, the page does not say that nothing is wrong."""
+    if not find_library('crypto'):
+        raise checks.NotShown('without libcrypto')
+    said = []
+    for is_whole in (True, False):
+        made = Made().begin().take([f'@0 {it}' for it in WHOLE_REQUEST], acknowledge=0)
+        made.send('<', made.packet('<', ack_frame(0, made.numbers['>'] - 1)))
+        datagrams = made.datagrams if is_whole else made.datagrams[:3] + made.datagrams[4:]
+        path = Path(pages.room) / 'lacking.pcapng'
+        path.write_bytes(pcapng(ip_packets(datagrams), secrets=made.keys()))
+        page = pages.open(run('report', path))
+        said.append(page.ask("['.summary', '.seen'].map(it => document.querySelector(it)).map(it => `${it.className}: ${it.textContent}`)"))
+    (whole, _), (lacking, seen) = said
+    if not re.fullmatch('summary right: .*Nothing is wrong on this connection.', whole):
+        raise Failure(f'of a whole connection the page says {whole}')
+    if not re.fullmatch('summary lacking: .*Nothing is found, and not all could be read on this connection.', lacking):
+        raise Failure(f'of a connection of which packets are missing the page says {lacking}')
+    return seen
+
+
 def check_script(pages):
     """A field that has the text of a script is a text."""
     value = b'</script><script>planted=1</script><img src=x onerror=planted=1><!--&lt;\\\xff\x00"'
@@ -322,6 +348,7 @@ CHECKS = {
     'links': check_links,
     'a fault in the recording': check_fault,
     'connections': check_connections,
+    'a connection that lacks packets': check_lacking,
     'a script in a field': check_script,
     'planted faults': check_planted,
     'the keyboard': keyboard.check,
