@@ -5,6 +5,7 @@ from typing import Dict, List, NamedTuple, Tuple
 import h3_qpack
 
 from ._errors import DecompressionFailed, EncoderStreamError, StreamBlocked
+from ._increments import sum_increments, write_increment
 
 NO_LIMIT = (1 << 64) - 1
 
@@ -30,6 +31,7 @@ class Decoder:
             max_capacity=max_table_capacity, max_blocked=blocked_streams, max_section_size=NO_LIMIT
         )
         self._kept: Dict[int, Kept] = {}
+        self._unreported = 0  # insertions that no bytes for the decoder stream report yet
 
     def feed_encoder(self, data: bytes) -> List[int]:
         """Reads the next bytes of the peer's encoder stream, in pieces of any size.
@@ -43,6 +45,8 @@ class Decoder:
             self._decoder.receive(data)
         except h3_qpack.QpackConnectionError as error:
             raise EncoderStreamError("lsqpack_dec_enc_in failed") from error
+        # The interface returns no bytes here. A number in their place does not grow with each piece.
+        self._unreported += sum_increments(self._decoder.take_decoder_stream())
         arrived = self._decoder.insert_count
         return [stream_id for stream_id, kept in self._kept.items() if kept.required <= arrived]
 
@@ -64,11 +68,18 @@ class Decoder:
         Raises:
             StreamBlocked: the insertions have not arrived. The section stays kept.
             DecompressionFailed: the section is invalid.
+            h3_qpack.OutOfMemory: there is no memory. The section stays kept.
             ValueError: no section of the stream is kept.
         """
         if stream_id not in self._kept:
             raise ValueError(f"no pending header block for stream {stream_id}")
-        return self._decode(stream_id, self._kept.pop(stream_id).section, "lsqpack_dec_header_read")
+        try:
+            decoded = self._decode(stream_id, self._kept[stream_id].section, "lsqpack_dec_header_read")
+        except DecompressionFailed:
+            del self._kept[stream_id]
+            raise
+        del self._kept[stream_id]
+        return decoded
 
     def _decode(self, stream_id: int, section: bytes, call: str) -> Tuple[bytes, List[Tuple[bytes, bytes]]]:
         """Decodes a section, or keeps it. An invalid one is an error of that call of ls-qpack."""
@@ -79,4 +90,10 @@ class Decoder:
             raise StreamBlocked(f"stream {stream_id} is blocked") from error
         except h3_qpack.QpackConnectionError as error:
             raise DecompressionFailed(f"{call} for stream {stream_id} failed") from error
-        return self._decoder.take_decoder_stream(), [(field.name, field.value) for field in fields]
+        return self._take_instructions(), [(field.name, field.value) for field in fields]
+
+    def _take_instructions(self) -> bytes:
+        """Returns the bytes for the decoder stream: one increment for all insertions since, and what follows."""
+        increment = write_increment(self._unreported) if self._unreported else b""
+        self._unreported = 0
+        return increment + self._decoder.take_decoder_stream()

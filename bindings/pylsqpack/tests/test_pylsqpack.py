@@ -3,6 +3,7 @@
 import doctest
 import unittest
 from typing import Any, Callable, List, Tuple, Type
+from unittest import mock
 
 import h3_qpack
 import pylsqpack
@@ -147,6 +148,33 @@ class PylsqpackTest(unittest.TestCase):
         self.refused(ValueError, "a header block for stream 4 already exists", decoder.feed_header, 4, section)
         self.assertEqual(decoder.resume_header(4)[1], REQUEST)
         self.refused(ValueError, "no pending header block for stream 4", decoder.resume_header, 4)
+
+    def test_a_section_that_got_no_memory_stays_kept(self) -> None:
+        encoder, decoder, instructions = self.pair()
+        control, section = encoder.encode(4, REQUEST)
+        with self.assertRaises(StreamBlocked):
+            decoder.feed_header(4, section)
+        self.assertEqual(decoder.feed_encoder(instructions + control), [4])
+        with mock.patch.object(h3_qpack.Decoder, "decode", side_effect=h3_qpack.OutOfMemory()):
+            with self.assertRaises(MemoryError):
+                decoder.resume_header(4)
+        self.assertEqual(decoder.feed_encoder(b""), [4])
+        self.assertEqual(decoder.resume_header(4)[1], REQUEST)
+
+    def test_insertions_without_sections_add_up_to_one_increment(self) -> None:
+        """Else a peer that sends instructions alone would have the decoder keep a byte for each piece."""
+        for count, increment in ((1, "01"), (62, "3e"), (63, "3f00"), (64, "3f01"), (191, "3f8001"), (1000, "3fa907")):
+            encoder, decoder, instructions = self.pair()
+            control = b"".join(encoder.encode(4 * number, [(b"x-number", b"%d" % number)])[0] for number in range(16))
+            decoder.feed_encoder(instructions + control[:-1])
+            decoder.feed_encoder(control[-1:])
+            first, _ = decoder.feed_header(64, bytes.fromhex("0000d1"))
+            self.assertEqual(first, b"\x10")
+            encoder.feed_decoder(first)
+            for _ in range(count):
+                decoder.feed_encoder(bytes.fromhex("c10161"))
+            self.assertEqual(decoder.feed_header(68, bytes.fromhex("0000d1"))[0].hex(), increment)
+            self.assertEqual(decoder.feed_header(72, bytes.fromhex("0000d1"))[0], b"")
 
     def test_one_stream_too_many_is_blocked(self) -> None:
         decoder = Decoder(4096, 1)
