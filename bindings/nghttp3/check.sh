@@ -56,6 +56,7 @@ test_all() {
     try "nghttp3's tests" run_tests
     tail -n 2 "$room/told" | sed "s|^|$script: over h3_qpack: |"
     try "a shared library" run_shared
+    try "a decoder stream that nobody reads" "$built/unread"
     local most
     for most in 1 40 100000; do
         try "pieces of at most $most bytes" run_pieces chromium "$most" 0

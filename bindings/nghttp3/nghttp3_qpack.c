@@ -291,11 +291,29 @@ void nghttp3_qpack_decoder_free(nghttp3_qpack_decoder *decoder) {
   h3_qpack_decoder_del(&decoder->own.end);
 }
 
+/* Moves what the decoder has to send to |dbuf|, where nghttp3 has it. */
+static int keep_instructions(nghttp3_qpack_decoder *decoder) {
+  size_t length = h3_qpack_decoder_get_decoder_streamlen(&decoder->own.end);
+  if (!length) return 0;
+  if (make_room(&decoder->dbuf, length, decoder->ctx.mem)) return NGHTTP3_ERR_NOMEM;
+  decoder->dbuf.last += h3_qpack_decoder_write_decoder(&decoder->own.end, decoder->dbuf.last, length);
+  return 0;
+}
+
+/* Drops the increments that the decoder has to send. As in nghttp3 one is made for all insertions when it is written, so
+ * that they do not add up while the peer does not let them go. */
+static void drop_increments(nghttp3_qpack_decoder *decoder) {
+  uint8_t dropped[MOST_INSTRUCTION];
+  while (h3_qpack_decoder_write_decoder(&decoder->own.end, dropped, sizeof dropped)) continue;
+}
+
 nghttp3_ssize nghttp3_qpack_decoder_read_encoder(nghttp3_qpack_decoder *decoder, const uint8_t *src, size_t srclen) {
   h3_qpack_received received;
   if (decoder->ctx.bad) return NGHTTP3_ERR_QPACK_FATAL;
+  if (keep_instructions(decoder)) return fail(decoder, H3_QPACK_ERR_NO_MEMORY);
   received = h3_qpack_decoder_read_encoder(&decoder->own.end, src, srclen);
   if (received.status) return fail(decoder, received.status);
+  drop_increments(decoder);
   note_decoder(decoder);
   return (nghttp3_ssize)srclen;
 }
@@ -313,13 +331,10 @@ void nghttp3_qpack_decoder_set_max_concurrent_streams(nghttp3_qpack_decoder *dec
 
 uint64_t nghttp3_qpack_decoder_get_icnt(const nghttp3_qpack_decoder *decoder) { return decoder->ctx.next_absidx; }
 
-/* Moves what the decoder has to send to |dbuf|, where nghttp3 has it. */
-static int keep_instructions(nghttp3_qpack_decoder *decoder) {
-  size_t length = h3_qpack_decoder_get_decoder_streamlen(&decoder->own.end);
-  if (!length) return 0;
-  if (make_room(&decoder->dbuf, length, decoder->ctx.mem)) return NGHTTP3_ERR_NOMEM;
-  decoder->dbuf.last += h3_qpack_decoder_write_decoder(&decoder->own.end, decoder->dbuf.last, length);
-  return 0;
+/* Returns how many insertions no instruction reports. */
+static uint64_t unreported(const nghttp3_qpack_decoder *decoder) {
+  uint64_t received = decoder->ctx.next_absidx;
+  return received > decoder->written_icnt ? received - decoder->written_icnt : 0;
 }
 
 /* Whether the peer lets more pile up than nghttp3 allows: two instructions for each stream. */
@@ -329,15 +344,21 @@ static int is_too_much(nghttp3_qpack_decoder *decoder) {
 }
 
 size_t nghttp3_qpack_decoder_get_decoder_streamlen(nghttp3_qpack_decoder *decoder) {
-  return nghttp3_buf_len(&decoder->dbuf) + h3_qpack_decoder_get_decoder_streamlen(&decoder->own.end);
+  uint64_t count = unreported(decoder);
+  return nghttp3_buf_len(&decoder->dbuf) + h3_qpack_decoder_get_decoder_streamlen(&decoder->own.end) +
+         (count ? nghttp3_qpack_put_varint_len(count, 6) : 0);
 }
 
 void nghttp3_qpack_decoder_write_decoder(nghttp3_qpack_decoder *decoder, nghttp3_buf *dbuf) {
+  uint64_t count = unreported(decoder);
   if (nghttp3_buf_len(&decoder->dbuf))
     dbuf->last = nghttp3_cpymem(dbuf->last, decoder->dbuf.pos, nghttp3_buf_len(&decoder->dbuf));
   nghttp3_buf_reset(&decoder->dbuf);
   dbuf->last += h3_qpack_decoder_write_decoder(&decoder->own.end, dbuf->last, nghttp3_buf_left(dbuf));
-  decoder->written_icnt = h3_qpack_decoder_get_icnt(&decoder->own.end);
+  if (!count) return;
+  *dbuf->last = 0; /* an Insert Count Increment */
+  dbuf->last = nghttp3_qpack_put_varint(dbuf->last, count, 6);
+  decoder->written_icnt = decoder->ctx.next_absidx;
 }
 
 int nghttp3_qpack_decoder_cancel_stream(nghttp3_qpack_decoder *decoder, int64_t stream_id) {

@@ -8,7 +8,7 @@ import sys
 from pathlib import Path
 
 # What both the library and its tests need: the token of a name, and an integer that is written.
-NEEDED = ["memeq", "qpack_lookup_token", "nghttp3_qpack_put_varint"]
+NEEDED = ["memeq", "qpack_lookup_token", "nghttp3_qpack_put_varint", "nghttp3_qpack_put_varint_len"]
 # The books of what is not acknowledged, and what the tests call.
 BOOKS = """
     nghttp3_blocked_streams_key max_cnt_greater ref_min_cnt_less ref_max_cnt_greater map_stream_free
