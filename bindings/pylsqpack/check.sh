@@ -3,8 +3,9 @@
 # aioquic 1.3.0, which runs over it unchanged. Each runs over pylsqpack itself too. It needs a C compiler, make and
 # Debian's python3 with its headers. aioquic needs OpenSSL, some packages of Python (Debian: python3-dev,
 # python3-cryptography, python3-openssl, python3-certifi, python3-service-identity and libssl-dev), and of cryptography
-# version 42, which Debian has since 13. It installs by apt-get what is not there, which only root can, and gets the sources
-# by bindings/source. What can't be had is named as not shown. The last line is 'N passed, M failed'.
+# version 42, which Debian has since 13. With --pylsqpack it runs pylsqpack's own tests alone, which need none of these
+# packages but python3-dev. It installs by apt-get what is not there, which only root can, and gets the sources by
+# bindings/source. What can't be had is named as not shown. The last line is 'N passed, M failed'.
 set -uo pipefail
 cd "$(dirname "$0")/.." || exit 1
 script=bindings/pylsqpack/check.sh
@@ -13,13 +14,21 @@ script=bindings/pylsqpack/check.sh
 room=$(mktemp -d) || exit 1
 trap 'rm -rf --one-file-system "$room"' EXIT
 python=/usr/bin/python3
+packages='pylsqpack aioquic'
+[ "${1-}" != --pylsqpack ] || packages=pylsqpack
 export PYTHONDONTWRITEBYTECODE=1
+
+# Whether the tests of a package are to be run.
+is_tested() {
+    [[ " $packages " = *" $1 "* ]]
+}
 
 # Prints the packages of Debian that are not there.
 list_lacking_packages() {
     local include module
     include=$("$python" -c 'import sysconfig; print(sysconfig.get_path("include"))')
     [ -f "$include/Python.h" ] || echo python3-dev
+    is_tested aioquic || return 0
     [ -f /usr/include/openssl/ssl.h ] || echo libssl-dev
     for module in cryptography:cryptography OpenSSL:openssl certifi:certifi service_identity:service-identity; do
         "$python" -c "import ${module%:*}" 2>/dev/null || echo "python3-${module#*:}"
@@ -42,6 +51,14 @@ compile_extension() {
 build_aioquic() {
     local to=$room/aioquic/src/aioquic
     compile_extension "$to/_buffer" "$to/_buffer.c" && compile_extension "$to/_crypto" "$to/_crypto.c" -lcrypto
+}
+
+# Gets the sources of the packages. Says why if one can't be had.
+get_sources() {
+    local package
+    for package in $packages; do
+        ./source "$package" "$room/$package" 2>"$room/why" || return
+    done
 }
 
 # Builds pylsqpack itself, to compare.
@@ -95,6 +112,7 @@ test_all() {
     try "the tests of pylsqpack" compare_tests pylsqpack "$room/tests-alone" \
         tests.test_decoder tests.test_encoder tests.test_roundtrip
     tell_tests pylsqpack
+    is_tested aioquic || return 0
     has_cryptography || { not_shown "the tests of aioquic" "without version 42 of python3-cryptography, as Debian 13 has"; return; }
     try "build aioquic" build_aioquic || return
     try "the tests of aioquic" compare_tests aioquic "$room/aioquic" tests.test_h3 tests.test_webtransport
@@ -103,7 +121,7 @@ test_all() {
 }
 
 if [ ! -x "$python" ]; then
-    not_shown "the tests of pylsqpack and aioquic" "without $python"
+    not_shown "the tests of ${packages/ / and }" "without $python"
     tell_count
     exit
 fi
@@ -111,9 +129,9 @@ fi
 install_packages $(list_lacking cc make) $(list_lacking_packages) || true
 missing=$(list_lacking_packages | paste -s -d ' ')
 if [ -n "$missing" ]; then
-    not_shown "the tests of pylsqpack and aioquic" "without $missing"
-elif ! ./source pylsqpack "$room/pylsqpack" 2>"$room/why" || ! ./source aioquic "$room/aioquic" 2>"$room/why"; then
-    not_shown "the tests of pylsqpack and aioquic" "$(tail -n 1 "$room/why")"
+    not_shown "the tests of ${packages/ / and }" "without $missing"
+elif ! get_sources; then
+    not_shown "the tests of ${packages/ / and }" "$(tail -n 1 "$room/why")"
 else
     test_all
 fi
