@@ -79,6 +79,7 @@ impl<'a> Connection<'a> {
                 assert!(required > self.decoder.insert_count() && self.decoder.blocked() <= self.max_blocked);
                 false
             }
+            other => panic!("the section was neither decoded nor blocked: {other:?}"),
         }
     }
 

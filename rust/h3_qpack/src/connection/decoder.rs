@@ -61,6 +61,7 @@ pub fn longest_section(max_section_size: u64) -> u64 {
 
 /// The result of decoding a section.
 #[derive(Debug, Clone, Copy, PartialEq, Eq)]
+#[non_exhaustive]
 pub enum Reading {
     /// The section was decoded. Get its fields from [`ConnectionDecoder::fields`].
     Fields {
