@@ -1,5 +1,5 @@
-//! Safe calls of the exports of the proved library, as `include/h3_qpack.h` declares them: all of this crate's unsafe
-//! code. This module keeps what the header asks of a caller:
+//! Safe calls of the exports of the proved library, as `include/h3_qpack.h` declares them. Besides, only `heap` has unsafe
+//! code, and `generated` the assembly. This module keeps what the header asks of a caller:
 //!
 //! - An end is what its `_new` wrote. `Drop` frees it once, and it is never copied, for its handle is private.
 //! - All memory that is passed is a slice, or the room of a vector. So it is not null, it is as long as it says, and no
