@@ -2,7 +2,8 @@
 """Writes docs/API.md, and pages for man, from the comments of include/h3_qpack.h.
 
     tests/api.py                 writes docs/API.md
-    tests/api.py --check         compares it with what would be written; the exit status is 1 if it differs
+    tests/api.py --check         compares it with what would be written, and has groff read the pages for man, if it is
+                                 there; the exit status is 1 if it differs, or groff warns of a page
     tests/api.py --man FOLDER    writes a page of section 3 for each call to a folder
 
 A part of the header begins with a comment of four hyphens. In it a block ends with an empty line: a comment, and below it
@@ -11,7 +12,10 @@ after the exports is left out. The exit status is 2 if a call has no comment, wa
 that neither it nor a struct has.
 """
 import re
+import shutil
+import subprocess
 import sys
+import tempfile
 from pathlib import Path
 
 TOP = Path(__file__).resolve().parent.parent
@@ -276,21 +280,40 @@ def write_man(call):
     return "\n".join([*lines, ".SH SEE ALSO", ".BR qpk (1)", ""])
 
 
+def write_pages(header, folder):
+    """Writes the pages for man to a folder, and returns their paths."""
+    folder.mkdir(parents=True, exist_ok=True)
+    paths = [folder / f"{call.name}.3" for call in header.calls]
+    for path, call in zip(paths, header.calls):
+        path.write_text(write_man(call), encoding="ascii")
+    return paths
+
+
+def read_by_groff(header):
+    """Returns what groff warns of in the pages for man."""
+    with tempfile.TemporaryDirectory() as room:
+        pages = write_pages(header, Path(room))
+        return subprocess.run(["groff", "-man", "-Tutf8", "-ww", "-z", *pages], capture_output=True, text=True).stderr
+
+
+def check(header, page):
+    """Returns the exit status of --check, and says what it found."""
+    is_same = PAGE.is_file() and PAGE.read_text(encoding="utf-8") == page
+    says = "is what tests/api.py writes" if is_same else "is not what tests/api.py writes: run it"
+    warned = read_by_groff(header) if shutil.which("groff") else ""
+    print(warned, end="")
+    print(f"api: docs/API.md, of {len(header.calls)} calls, {says}")
+    return 0 if is_same and not warned else 1
+
+
 def main(words):
     header = Header()
     if words[:1] == ["--man"] and len(words) == 2:
-        folder = Path(words[1])
-        folder.mkdir(parents=True, exist_ok=True)
-        for call in header.calls:
-            (folder / f"{call.name}.3").write_text(write_man(call), encoding="ascii")
-        print(f"api: {len(header.calls)} pages in {folder}")
+        print(f"api: {len(write_pages(header, Path(words[1])))} pages in {words[1]}")
         return 0
     page = write_page(header)
     if words == ["--check"]:
-        is_same = PAGE.is_file() and PAGE.read_text(encoding="utf-8") == page
-        says = "is what tests/api.py writes" if is_same else "is not what tests/api.py writes: run it"
-        print(f"api: docs/API.md, of {len(header.calls)} calls, {says}")
-        return 0 if is_same else 1
+        return check(header, page)
     if words:
         fail("the words are none, --check, or --man FOLDER")
     PAGE.write_text(page, encoding="utf-8")
