@@ -3,8 +3,8 @@
 
     tests/workflow.py
 
-A command that calls a script is taken apart at blanks. The exit status is 1 if a script is not there, or the file has no
-command.
+A command that calls a script is taken apart at blanks, and may begin with sudo. The exit status is 1 if a script is not
+there, or the file has no command.
 """
 import os
 import re
@@ -15,7 +15,7 @@ TOP = Path(__file__).resolve().parent.parent
 FILE = TOP / ".github" / "workflows" / "tests.yml"
 COMMAND = re.compile(r"^ +- run: (.*)$", re.M)
 # Programs of the machine that a command may begin with.
-PROGRAMS = {"make", "sudo"}
+PROGRAMS = {"make", "apt-get"}
 
 
 def find_faults():
@@ -24,7 +24,7 @@ def find_faults():
     if not commands:
         yield f"{FILE.name} has no command"
     for command in commands:
-        program = command.split()[0]
+        program = next(it for it in command.split() if it != "sudo")
         if program not in PROGRAMS and not os.access(TOP / program, os.X_OK):
             yield f"{FILE.name}: {program} is not there, or can't be run"
 
