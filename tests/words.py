@@ -80,7 +80,8 @@ def list_files():
     patterns = {
         prose_of_markdown: [
             "*.md", "docs/*.md", "docs/dev/*.md", "dist/README.md", "rust/README.md", "c/README.md", "crates/README.md",
-            "tests/*.md", "bindings/README.md", "bindings/*/README.md", "examples/*/README.md",
+            "include/README.md", "tests/*.md", "bindings/README.md", "bindings/*/README.md", "examples/README.md",
+            "examples/*/README.md",
         ],
         prose_of_c: ["include/h3_qpack.h"],
         prose_of_rust: ["rust/h3_qpack/src/**/*.rs"],
