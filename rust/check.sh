@@ -66,6 +66,46 @@ check_target() {
         src/lib.rs >"$room/none" 2>&1 && grep 'h3_qpack has no assembly for this target. Depend on it' "$room/none"
 }
 
+# Prints targets of the systems and processors that the crate's README has in its cfg, and of some others.
+list_targets() {
+    local processors='x86_64|aarch64|aarch64_be|riscv64gc|i686|s390x'
+    local systems='unknown-(linux-gnu|linux-gnux32|freebsd|netbsd|openbsd|dragonfly|illumos|fuchsia|none)|linux-android'
+    rustc --print target-list | grep -xE "($processors)-($systems|pc-solaris|pc-windows-(gnu|msvc)|apple-(darwin|ios))"
+}
+
+# Runs the build script for a target. Prints 1 if it has assembly for it, and else 0.
+count_texts() {
+    rm -rf "$room/chosen" && mkdir "$room/chosen"
+    # shellcheck disable=SC2046 # words
+    env -u H3_QPACK_LIB OUT_DIR="$room/chosen" $(rustc --print cfg --target "$1" |
+        sed -nE 's/^target_(arch|os|endian|pointer_width)="(.*)"$/CARGO_CFG_TARGET_\U\1\E=\2/p') "$room/build-script" |
+        grep -c 'rustc-cfg=h3_qpack_assembly' || true
+}
+
+# A crate that depends on this one by the cfg of README has it for each target with assembly, and for no other.
+check_cfg() {
+    local crate=$room/chooses cfg target chosen targets=0
+    cfg=$(sed -n '/^cfg(any($/,/^```$/p' ../README.md | grep -v '^```' | paste -s -d ' ' | tr -s ' ')
+    mkdir -p "$crate/src" && touch "$crate/src/lib.rs" && cat >"$crate/Cargo.toml" <<END || return
+[package]
+name = "chooses"
+version = "0.0.0"
+edition = "2021"
+
+[target.'$cfg'.dependencies]
+h3_qpack = { path = "$PWD" }
+
+[workspace]
+END
+    rustc --edition 2021 build.rs -o "$room/build-script" || return
+    for target in $(list_targets); do
+        chosen=$(cd "$crate" && cargo tree --offline --prefix none --target "$target" | grep -c '^h3_qpack') || true
+        [ "$chosen" = "$(count_texts "$target")" ] || { echo "$target: $chosen by the cfg of README"; return 1; }
+        targets=$((targets + chosen))
+    done
+    [ "$targets" -ge 10 ] || { echo "only $targets targets with assembly"; return 1; }
+}
+
 # The package has the licence.
 check_package() {
     cargo package --offline --allow-dirty --no-verify && tar -C "$room" -xzf "$CARGO_TARGET_DIR"/package/h3_qpack-*.crate &&
@@ -130,6 +170,7 @@ export CARGO_TARGET_DIR=$room/target
 cd h3_qpack
 run check_choice
 run check_target
+run check_cfg
 run check_package
 run_tests
 lint --all-targets
