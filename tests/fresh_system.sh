@@ -1,7 +1,7 @@
 #!/usr/bin/env bash
-# Runs the commands of README, USING and FAQ, by tests/snippets.py, in a Debian system of their own that has a C and a C++
-# compiler, make, pkg-config, cargo, Go and Python: as a user who is not root, without a network, without this library and
-# without the kit:
+# Runs the commands of README, USING and FAQ, by tests/snippets.py, and then README's ./test, in a Debian system of their own
+# that has a C and a C++ compiler, make, pkg-config, cargo, Go and Python: as a user who is not root, without a network,
+# without this library and without the kit:
 #   tests/fresh_system.sh [FOLDER]     keeps the system in FOLDER, or makes it again where there is none
 # mmdebstrap makes the system; that needs root, a mirror as apt has it, 2 GB and some minutes. Without it nothing is
 # tested, and a line says so. The last line is 'N passed, M failed'.
@@ -27,6 +27,12 @@ run_snippets() {
         ! grep -E 'nothing was run|not run, without' "$room/ran"
 }
 
+# All tests that need no kit. None may fail.
+run_tests() {
+    run_there sh -c 'cd /home/someone/h3_qpack && ./test' | tee "$room/tested"
+    tail -n 1 "$room/tested" | grep -E '^[0-9]+ passed, 0 failed'
+}
+
 if [ "$(id -u)" != 0 ] || ! command -v mmdebstrap >/dev/null; then
     not_shown "the commands of the documents in a system of their own" "without root and mmdebstrap"
     tell_count
@@ -35,5 +41,6 @@ fi
 [ -d "$root/usr" ] || try "make the system" make_system || { tell_count; exit; }
 try "copy the repository" copy_repository &&
     try "no root, network, kit or library" check_system &&
-    try "the commands of README, USING and FAQ" run_snippets && tail -n 1 "$room/told"
+    try "the commands of README, USING and FAQ" run_snippets && tail -n 1 "$room/told" &&
+    try "./test" run_tests && tail -n 1 "$room/told"
 tell_count

@@ -227,6 +227,8 @@ def test_what_a_capture_is():
         (ROOM / "head").write_bytes(bytes.fromhex(head) + b"\0\xff")
         said = b"the capture has no packets: " if head in captures else b"the input is no text; --qif reads a recording "
         said = b"the file can't be decompressed" if head in compressed else said
+        if head == "28b52ffd" and not shutil.which("zstd"):
+            said = b"the file "  # and then that it can't be decompressed by a module, or that zstd is to be installed
         for words in (*((it, "show") for it in FRONTS), (INSTALLED, "stats"), (f"{INSTALLED}-capture", "show")):
             status, output, faults = run(*words, ROOM / "head", env={**os.environ, "QPK": str(PROGRAM)})
             assert (status, output) == (1, b"") and said in faults, (head, words, faults)

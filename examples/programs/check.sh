@@ -30,6 +30,12 @@ test_language() {
     for program in $programs; do try "$program in $language" compare "$language" "$program"; done
 }
 
+# cargo of rustc 1.63, which the crate is for, reads lock files up to version 3.
+check_lock() {
+    grep -x 'version = 3' rust/Cargo.lock
+}
+
+try "the lock file in rust" check_lock
 if ! try "build dist/" make -s -C ../../dist BUILD="$room/build"; then
     tell_count
     exit
