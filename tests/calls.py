@@ -19,7 +19,7 @@ PAGE = TOP / "docs" / "CALLS.md"
 # The crates with calls, those that a user begins with first. The header is over the calls of h3_qpack_c.
 OF_CALLS = [
     "qpack_ends", "qpack_connection", "h3_qpack", "qpack_codec", "qpack_table", "qpack_wire", "qpack_base", "h3_qpack_c",
-    "qpk_show", "qpk_view", "qpk_qif", "qpk",
+    "qpk_show", "qpk_view", "qpk_check", "qpk_qif", "qpk",
 ]
 # What a type, a trait or a call begins with, at the start of a line or in the block of a type.
 BLOCK = re.compile(r"^(?:impl(?:<.*?>)? (?:[\w<>', ]+ for )?|pub trait )(\w+)")

@@ -6,7 +6,7 @@
 
 qpk check judges the recordings of tests/causes.txt, and those of crates/qpack_tests/data/checked.txt. A row of the page is
 a finding of one of them, in the words that qpk prints. The exit status is 2 if no recording has a cause of
-crates/qpk_view/src/causes.rt. If dist/ is of other sources, nothing is compared, and the last line says so.
+crates/qpk_check/src/causes.rt. If dist/ is of other sources, nothing is compared, and the last line says so.
 """
 import json
 import re
@@ -17,7 +17,7 @@ from captures import PROGRAM, build
 from running import TOP
 
 RECORDINGS = [TOP / "crates" / "qpack_tests" / "data" / "checked.txt", TOP / "tests" / "causes.txt"]
-CAUSES = TOP / "crates" / "qpk_view" / "src" / "causes.rt"
+CAUSES = TOP / "crates" / "qpk_check" / "src" / "causes.rt"
 PAGE = TOP / "docs" / "CAUSES.md"
 # A call of qpk check and its input, up to the output that is foretold.
 CASE = re.compile(r"^= check((?: --max-\w+ \d+)*)\n(.*?)(?=^--$|^= |\Z)", re.M | re.S)

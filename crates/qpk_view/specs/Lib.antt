@@ -1,3 +1,2 @@
-pub mod Duties
-pub mod Findings
+pub mod Places
 pub mod Texts

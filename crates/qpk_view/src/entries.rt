@@ -20,11 +20,6 @@ pub(crate) fn live_entries(table: &ReceivedTable) -> LiveEntries<'_> {
     }
 }
 
-/// Returns how many entries were evicted.
-pub(crate) fn evicted_from(table: &ReceivedTable) -> usize {
-    table.total_inserted() - table.count()
-}
-
 /// Live entries that are still to come.
 #[derive(Drop)]
 pub(crate) struct LiveEntries<'a> {

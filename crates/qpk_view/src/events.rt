@@ -15,7 +15,7 @@ pub enum End {
 
 impl End {
     /// Returns the other end.
-    pub(crate) fn other(self) -> End {
+    pub fn other(self) -> End {
         match self {
             End::Client => End::Server,
             End::Server => End::Client,

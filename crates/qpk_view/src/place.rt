@@ -1,7 +1,6 @@
 //! Where something came from: the line of the recording, its time, and the end that sent it.
 
-ghost use Rattle.std.specs.Prelude.{true};
-ghost use Rattle.qpk_view.specs.Findings.{finding_front};
+ghost use Rattle.qpk_view.specs.Places.{object_front};
 ghost use Rattle.qpk_view.specs.Texts.{BeginsWith, Extends};
 
 use crate::events::End;
@@ -9,18 +8,18 @@ use crate::text::Text;
 
 /// Where something came from.
 #[derive(Clone, Copy)]
-pub(crate) struct Place<'a> {
+pub struct Place<'a> {
     /// The number of the line that came last, from 1.
-    pub(crate) line: usize,
+    pub line: usize,
     /// When it came, if the recording says so.
-    pub(crate) time: &'a str,
+    pub time: &'a str,
     /// The end that sent it, if the recording says so.
-    pub(crate) end: Option<End>,
+    pub end: Option<End>,
 }
 
 impl Place<'_> {
     /// Appends the time and the mark of the end, if they are known.
-    pub(crate) fn push(&self, text: &mut Text)
+    pub fn push(&self, text: &mut Text)
         ensures { Extends text.old text.new }
     {
         if !self.time.is_empty() {
@@ -35,8 +34,8 @@ impl Place<'_> {
     }
 
     /// Appends the first members of an object: the line, and the time and the end, if they are known.
-    pub(crate) fn push_members(&self, text: &mut Text)
-        ensures { BeginsWith (finding_front true) text.old text.new }
+    pub fn push_members(&self, text: &mut Text)
+        ensures { BeginsWith object_front text.old text.new }
     {
         text.push_between("{\"line\":", &self.line, ",");
         if !self.time.is_empty() {

@@ -2,10 +2,7 @@
 
 ghost use Rattle.qpk_view.specs.Texts.{Extends};
 
-use crate::duties::{Duties, Early, Kept};
 use crate::entries::live_entries;
-use crate::findings::Released;
-use crate::judged::Waiting;
 use crate::text::Text;
 use qpack_base::parse_error::ParseError;
 use qpack_base::prefix_string::{self, HuffmanDecodingError};
@@ -18,7 +15,7 @@ use qpk_show::awaited::HearingFault;
 use qpk_show::section::{LineFault, PrefixRefusal};
 
 /// Appends why an encoder instruction is refused; the table is as it was before it.
-pub(crate) fn push_not_applied(
+pub fn push_not_applied(
     text: &mut Text,
     line: &EncoderLine,
     error: &DecoderError,
@@ -50,12 +47,12 @@ fn push_above_maximum(text: &mut Text, size: usize, table: &ReceivedTable)
 }
 
 /// Returns whether an encoder instruction at an offset is what the type of its stream, left in, would be.
-pub(crate) fn is_encoder_type(offset: usize, line: &EncoderLine) -> bool {
+pub fn is_encoder_type(offset: usize, line: &EncoderLine) -> bool {
     offset == 0 && matches!(line, EncoderLine::Duplicate(Duplicate(2)))
 }
 
 /// Returns whether a decoder instruction at an offset is what the type of its stream, left in, would be.
-pub(crate) fn is_decoder_type(offset: usize, line: &DecoderLine) -> bool {
+pub fn is_decoder_type(offset: usize, line: &DecoderLine) -> bool {
     offset == 0
         && matches!(
             line,
@@ -109,7 +106,7 @@ fn push_no_entry(text: &mut Text, index: usize, table: &ReceivedTable)
 }
 
 /// Appends why a decoder instruction is refused; the table has had its insertions.
-pub(crate) fn push_hearing(text: &mut Text, fault: HearingFault, table: &ReceivedTable)
+pub fn push_hearing(text: &mut Text, fault: HearingFault, table: &ReceivedTable)
     ensures { Extends text.old text.new }
 {
     match fault {
@@ -128,14 +125,14 @@ pub(crate) fn push_hearing(text: &mut Text, fault: HearingFault, table: &Receive
 }
 
 /// Appends why bytes can't be read.
-pub(crate) fn push_unreadable(text: &mut Text, error: ParseError)
+pub fn push_unreadable(text: &mut Text, error: ParseError)
     ensures { Extends text.old text.new }
 {
     push_error(text, &DecoderError::from(error));
 }
 
 /// Appends why a section has no lines.
-pub(crate) fn push_prefix_refusal(text: &mut Text, refusal: &PrefixRefusal)
+pub fn push_prefix_refusal(text: &mut Text, refusal: &PrefixRefusal)
     ensures { Extends text.old text.new }
 {
     match refusal {
@@ -158,7 +155,7 @@ fn push_bad_base(text: &mut Text, base: isize)
 }
 
 /// Appends why a line of a section gives no field.
-pub(crate) fn push_line_fault(text: &mut Text, fault: &LineFault)
+pub fn push_line_fault(text: &mut Text, fault: &LineFault)
     ensures { Extends text.old text.new }
 {
     match fault {
@@ -171,7 +168,7 @@ pub(crate) fn push_line_fault(text: &mut Text, fault: &LineFault)
 }
 
 /// Appends that a section would be blocked if more streams might be.
-pub(crate) fn push_too_many_blocked(text: &mut Text, required: usize)
+pub fn push_too_many_blocked(text: &mut Text, required: usize)
     ensures { Extends text.old text.new }
 {
     text.push_between(
@@ -179,99 +176,6 @@ pub(crate) fn push_too_many_blocked(text: &mut Text, required: usize)
         &required,
         ", and no more streams may be blocked",
     );
-}
-
-/// Appends in which line the sections of a stream were released, if an instruction did it.
-pub(crate) fn push_release(text: &mut Text, released: Released)
-    ensures { Extends text.old text.new }
-{
-    match released {
-        Released::Acknowledged(Some(line)) => text.push_value(
-            ": the last was acknowledged in line ",
-            &line,
-        ),
-        Released::Cancelled(line) => text.push_value(": it was cancelled in line ", &line),
-        _ => {}
-    }
-}
-
-/// Appends which entry a line references, and in which line that was evicted, if it was.
-pub(crate) fn push_eviction(text: &mut Text, fault: &LineFault, base: usize, duties: &Duties)
-    ensures { Extends text.old text.new }
-{
-    let Some(entry) = entry_of(fault, base) else {
-        return;
-    };
-    if let Some(line) = duties.line_of_eviction(entry) {
-        text.push_value(": entry ", &entry);
-        text.push_value(", evicted in line ", &line);
-    }
-}
-
-/// Returns the entry that a line references, by its absolute index from 1, if there ever was one.
-fn entry_of(fault: &LineFault, base: usize) -> Option<usize> {
-    match fault {
-        LineFault::Meaningless(DecoderError::DynamicTable(dynamic::Error::BadRelativeIndex(index)))
-            if *index < base => Some(base.saturating_sub(*index)),
-        LineFault::Meaningless(
-            DecoderError::DynamicTable(dynamic::Error::BadPostbaseIndex(index)),
-        ) => Some(base.saturating_add(*index).saturating_add(1)),
-        _ => None,
-    }
-}
-
-/// How many streams are named at most that are blocked.
-const MOST_NAMED: usize = 4;
-
-/// Appends how many streams may be blocked, and the first of those that are.
-pub(crate) fn push_blocked(text: &mut Text, limit: usize, waiting: &[Waiting])
-    ensures { Extends text.old text.new }
-{
-    text.push_between(": at most ", &limit, " may be, and these are:");
-    for section in waiting.iter().take(MOST_NAMED) {
-        text.push_value(" ", &section.stream);
-    }
-    if waiting.len() > MOST_NAMED {
-        text.push_str(" ..");
-    }
-}
-
-/// Appends that an instruction evicts an entry that may not be evicted yet.
-pub(crate) fn push_early(text: &mut Text, early: Early)
-    ensures { Extends text.old text.new }
-{
-    text.push_value("it evicts entry ", &early.entry);
-    match early.kept {
-        Kept::Referenced(stream, line) => {
-            text.push_value(", which the section of stream ", &stream);
-            text.push_value(" in line ", &line);
-            text.push_str(" references, and that is not acknowledged");
-        }
-        Kept::Unacknowledged => text.push_str(", whose insertion is not acknowledged"),
-    }
-}
-
-/// Appends how many streams could be blocked with a section, of how many, and the first of them.
-pub(crate) fn push_at_risk(text: &mut Text, streams: usize, limit: usize, duties: &Duties)
-    ensures { Extends text.old text.new }
-{
-    text.push_value("streams that could be blocked with it: ", &streams);
-    text.push_value(", of at most ", &limit);
-    text.push_str(";");
-    for stream in duties.at_risk().iter().take(MOST_NAMED) {
-        text.push_value(" ", &stream.stream);
-    }
-    if streams > MOST_NAMED {
-        text.push_str(" ..");
-    }
-}
-
-/// Appends that a decoder acknowledges no section.
-pub(crate) fn push_silence(text: &mut Text, sections: usize)
-    ensures { Extends text.old text.new }
-{
-    text.push_value("of ", &sections);
-    text.push_str(" sections that wait for it none is acknowledged");
 }
 
 /// Appends an error of bytes, or of what they reference.

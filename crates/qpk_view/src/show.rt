@@ -7,7 +7,6 @@ use crate::fault::Fault;
 use crate::json::push_object;
 use crate::place::Place;
 use crate::printing::push_sight;
-use crate::recording::Recording;
 use crate::text::Text;
 use crate::watch::{Sight, Step, Watch, Watcher};
 use qpk_show::section::Reading;
@@ -44,8 +43,7 @@ impl<'a> Showing<'a> {
     pub fn new(alloc: Global, options: ShowOptions, input: &'a [u8]) -> Result<Showing<'a>, Fault>
         ensures { options.qif ≡ false → IfOk result (λ _. IsUtf8 input.now) }
     {
-        let recording = Recording::new(alloc, options.qif, input)?;
-        let watch = Watch::new(alloc, recording, options.settings)?;
+        let watch = Watch::new(alloc, options.qif, options.settings, input)?;
         let screen = Screen {
             options,
             text: Text::new(alloc),

@@ -16,7 +16,7 @@ pub struct View {
 
 impl View {
     /// Returns what is printed. Fails if memory for some of it was refused.
-    pub(crate) fn new(text: Text, has_found: bool) -> Result<View, Fault>
+    pub fn new(text: Text, has_found: bool) -> Result<View, Fault>
         ensures text { IfOk result (λ view. (text.lacks_memory ≡ false) × (string_bytes view.text ≡ text.bytes)) }
         ensures found { IfOk result (λ view. view.has_found ≡ has_found) }
     {

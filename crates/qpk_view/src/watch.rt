@@ -1,6 +1,6 @@
 //! A recording in its order: two onlookers, one for each encoder, and a watcher of what they see.
 
-ghost use Rattle.std.specs.Prelude.{◌≡◌, Bool};
+ghost use Rattle.std.specs.Prelude.{◌≡◌, Bool, false, IfOk, IsUtf8};
 
 use crate::events::{Act, End, Event, Settings};
 use crate::fault::Fault;
@@ -14,7 +14,7 @@ use std::alloc::{AllocError, Global};
 
 /// What is seen.
 #[derive(Clone, Copy)]
-pub(crate) enum Sight<'a> {
+pub enum Sight<'a> {
     /// An instruction or a section, and the onlooker after it.
     Shown(&'a Shown, &'a Observer),
     /// SETTINGS.
@@ -28,7 +28,7 @@ pub(crate) enum Sight<'a> {
 }
 
 /// A watcher of what onlookers see.
-pub(crate) trait Watcher {
+pub trait Watcher {
     // Whether it prints objects of JSON.
     ghost json: { Self → Bool };
 
@@ -39,7 +39,7 @@ pub(crate) trait Watcher {
 
 /// A recording that is being watched: its onlookers, to whom the events before came.
 #[derive(Drop)]
-pub(crate) struct Watch<'a> {
+pub struct Watch<'a> {
     alloc: Global,
     recording: Recording<'a>,
     outline: Outline,
@@ -50,13 +50,23 @@ pub(crate) struct Watch<'a> {
 }
 
 impl<'a> Watch<'a> {
-    /// Begins to watch a recording. The limits are those of its SETTINGS, or else the given ones. Fails at the first
-    /// line that is at fault.
-    pub(crate) fn new(
+    /// Begins to watch a recording: records of the offline interop, or lines. The limits are those of its SETTINGS, or
+    /// else the given ones. Fails if a maximum capacity is 2^30 or more, or if the input is no recording: all of it is
+    /// read for that.
+    pub fn new(
         alloc: Global,
-        recording: Recording<'a>,
+        is_qif: bool,
         settings: Settings,
-    ) -> Result<Watch<'a>, Fault> {
+        input: &'a [u8],
+    ) -> Result<Watch<'a>, Fault>
+        ensures { is_qif ≡ false → IfOk result (λ _. IsUtf8 input.now) }
+    {
+        let recording = Recording::new(alloc, is_qif, input)?;
+        Watch::of(alloc, recording, settings)
+    }
+
+    /// Begins to watch a recording of which nothing was read.
+    fn of(alloc: Global, recording: Recording<'a>, settings: Settings) -> Result<Watch<'a>, Fault> {
         let outline = Outline::read(alloc, recording)?;
         let client = outline.settings_for(End::Client).unwrap_or(settings);
         let server = outline.settings_for(End::Server).unwrap_or(settings);
@@ -70,9 +80,9 @@ impl<'a> Watch<'a> {
         })
     }
 
-    /// Returns what the recording says of itself.
-    pub(crate) fn outline(&self) -> Outline {
-        self.outline
+    /// Returns whether the recording has bytes of the decoder stream that goes to the encoder of an end.
+    pub fn tells(&self, encoder: End) -> bool {
+        self.outline.tells(encoder)
     }
 
     /// Takes the next event, and shows all that can be by now. If there is no more, shows what the end of the input
@@ -90,7 +100,7 @@ impl<'a> Watch<'a> {
     }
 
     /// Takes all events, and shows what the end of the input cuts.
-    pub(crate) fn finish<W: Watcher>(&mut self, watcher: &mut W) -> Result<(), Fault>
+    pub fn finish<W: Watcher>(&mut self, watcher: &mut W) -> Result<(), Fault>
         ensures { W.json watcher.new ≡ W.json watcher.old }
     {
         for _ in 0..u64::MAX {

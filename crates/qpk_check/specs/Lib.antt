@@ -1,0 +1,2 @@
+pub mod Duties
+pub mod Findings

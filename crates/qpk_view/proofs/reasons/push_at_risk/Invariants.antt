@@ -1,5 +1,0 @@
-use Rattle.qpk_view.specs.Texts.{Extends}
-use Rattle.qpk_view.proofs.reasons.push_at_risk.Given as goal
-
-abbrev pub invariant-loop-stream : goal.invariant-loop-stream
-invariant-loop-stream l = Extends l.fn.text l.text
