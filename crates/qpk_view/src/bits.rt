@@ -7,6 +7,7 @@ use crate::text::Text;
 use qpack_base::coding::Cursor;
 use qpack_base::prefix_int;
 use std::alloc::Global;
+use std::fmt::Display;
 
 /// The most blanks that are within the bits of a row.
 const BLANKS: u32 = 4;
@@ -63,6 +64,24 @@ impl<'a> Rows<'a> {
         }
     }
 
+    /// Adds the rows of an integer that begins with a prefix of this many bits, of which a value between two texts is the
+    /// meaning.
+    pub(crate) fn push_integer<T: Display>(
+        &mut self,
+        size: u8,
+        mask: u8,
+        front: &str,
+        value: &T,
+        back: &str,
+    )
+        requires least { 1 ≤ size }
+        requires most { size ≤ 8 }
+    {
+        let len = self.begin_integer(size, mask);
+        self.text.push_between(front, value, back);
+        self.end_integer(len);
+    }
+
     /// Begins the row of the next byte, up to its meaning. A blank comes after each bit that the mask has.
     fn begin(&mut self, mask: u8) {
         self.push_byte(mask);
@@ -78,9 +97,7 @@ impl<'a> Rows<'a> {
             return;
         };
         self.push_offset();
-        self.text.push_digits(*byte);
-        self.text.push_str("  ");
-        push_bits(&mut self.text, *byte, mask);
+        push_byte(&mut self.text, *byte, mask);
         self.rest = rest;
         self.at = self.at.saturating_add(1);
     }
@@ -105,15 +122,8 @@ impl<'a> Rows<'a> {
         let Ok((flags, len)) = prefix_int::decode(size - 1, &mut Cursor::new(self.rest)) else {
             return;
         };
-        let form = if flags % 2 == 1 {
-            ": Huffman"
-        } else {
-            ": plain"
-        };
         let bytes = self.begin_integer(size - 1, mask);
-        self.text.push_str(name);
-        self.text.push_str(form);
-        self.text.push_value(", length ", &len);
+        push_length(&mut self.text, name, flags % 2 == 1, len);
         self.end_integer(bytes);
         if len > 0 {
             self.push_payload(len, value);
@@ -157,6 +167,20 @@ impl<'a> Rows<'a> {
             self.push_bare();
         }
     }
+}
+
+/// Appends the name of a string, its form, and its length.
+fn push_length(text: &mut Text, name: &str, is_huffman: bool, len: u64) {
+    text.push_str(name);
+    text.push_str(if is_huffman { ": Huffman" } else { ": plain" });
+    text.push_value(", length ", &len);
+}
+
+/// Appends a byte, and its bits, with a blank after each that the mask has.
+fn push_byte(text: &mut Text, byte: u8, mask: u8) {
+    text.push_digits(byte);
+    text.push_str("  ");
+    push_bits(text, byte, mask);
 }
 
 /// Appends the bits of a byte, with a blank after each that the mask has.

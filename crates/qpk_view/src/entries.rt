@@ -5,7 +5,7 @@ use qpack_table::dynamic::ReceivedTable;
 use std::ops::Range;
 
 /// A live entry, with its absolute index, from 1, and its size in bytes.
-#[derive(Drop)]
+#[derive(Clone, Copy)]
 pub(crate) struct Entry<'a> {
     pub(crate) index: usize,
     pub(crate) size: usize,

@@ -1,6 +1,6 @@
 //! The lines of a recording: what came on a connection, or what an end of it did.
 
-use crate::digits::read_digits;
+use crate::digits::{Digits, read_digits};
 use crate::fault::Fault;
 use std::alloc::Global;
 
@@ -74,18 +74,23 @@ impl Event<'_> {
     }
 }
 
-/// Reads a line of this number, whose end may be cut. Returns `None` if it is empty or a comment.
+/// Returns whether a line has an event: it is not empty, and no comment.
+pub(crate) fn has_event(text: &str) -> bool {
+    match text.split_whitespace().next() {
+        Some(word) => !word.as_bytes().starts_with(b"#"),
+        None => false,
+    }
+}
+
+/// Reads a line of this number, which has an event, and whose end may be cut.
 pub(crate) fn read_event<'a>(
     alloc: Global,
     line: usize,
     text: &'a str,
     is_cut: bool,
-) -> Result<Option<Event<'a>>, Fault> {
+) -> Result<Event<'a>, Fault> {
     let words = words_of(alloc, text)?;
-    if is_left_out(&words) {
-        return Ok(None);
-    }
-    Ok(Some(read_words(alloc, line, &words, is_cut)?))
+    read_words(alloc, line, &words, is_cut)
 }
 
 /// Reads the words of a line of this number, whose end may be cut.
@@ -95,15 +100,23 @@ fn read_words<'a>(
     words: &[&'a str],
     is_cut: bool,
 ) -> Result<Event<'a>, Fault> {
-    let (time, rest) = split_time(alloc, line, words)?;
-    let (end, name, rest) = split_end(rest);
-    let (act, has_half) = read_act(alloc, line, name, rest, is_cut)?;
+    let mut words = Words {
+        alloc,
+        line,
+        is_cut,
+        all: words,
+        taken: 0,
+        has_half: false,
+    };
+    let time = words.take_time()?;
+    let (end, name) = words.take_name();
+    let act = words.take_act(name)?;
     Ok(Event {
         line,
         time,
         end,
         act,
-        has_half,
+        has_half: words.has_half,
     })
 }
 
@@ -112,27 +125,155 @@ pub(crate) fn words_of<'a>(alloc: Global, text: &'a str) -> Result<Vec<&'a str>,
     Ok(text.split_whitespace().collect(alloc)?)
 }
 
-/// Returns whether these words are none, or a comment.
-fn is_left_out(words: &[&str]) -> bool {
-    match words.first() {
-        Some(word) => word.as_bytes().starts_with(b"#"),
-        None => true,
-    }
+/// The words of a line, of which some are taken.
+#[derive(Clone, Copy)]
+struct Words<'a, 'b> {
+    alloc: Global,
+    /// The number of the line.
+    line: usize,
+    /// Whether the end of the input cuts the line.
+    is_cut: bool,
+    all: &'b [&'a str],
+    /// How many are taken.
+    taken: usize,
+    /// Whether half a byte was left out.
+    has_half: bool,
 }
 
-/// Splits the word of a time off, if it is there, without its `@`. The time is printed as it is, in JSON too.
-fn split_time<'a, 'b>(
-    alloc: Global,
-    line: usize,
-    words: &'b [&'a str],
-) -> Result<(&'a str, &'b [&'a str]), Fault> {
-    let Some((first, rest)) = words.split_first() else {
-        return Ok(("", words));
-    };
-    match first.strip_prefix("@") {
-        Some(time) if is_printed_as_it_is(time) => Ok((time, rest)),
-        Some(_) => Err(Fault::of_line(alloc, line, BAD_TIME)),
-        None => Ok(("", words)),
+impl<'a> Words<'a, '_> {
+    /// Returns the next word; it is empty if there is none.
+    fn next(&self) -> &'a str {
+        match self.all.get(self.taken) {
+            Some(word) => *word,
+            None => "",
+        }
+    }
+
+    /// Takes the next word; it is empty if there is none.
+    fn take(&mut self) -> &'a str {
+        let word = self.next();
+        self.taken = self.taken.saturating_add(1);
+        word
+    }
+
+    /// Takes the word of a time, if it is there, and returns it without its `@`. It is printed as it is, in JSON too.
+    fn take_time(&mut self) -> Result<&'a str, Fault> {
+        let Some(time) = self.next().strip_prefix("@") else {
+            return Ok("");
+        };
+        if !is_printed_as_it_is(time) {
+            return Err(self.fault(BAD_TIME));
+        }
+        self.take();
+        Ok(time)
+    }
+
+    /// Takes the mark of an end, if it is there, and the name of what came.
+    fn take_name(&mut self) -> (Option<End>, &'a str) {
+        let (end, name) = end_of(self.take());
+        if end.is_some() && name.is_empty() {
+            return (end, self.take());
+        }
+        (end, name)
+    }
+
+    /// Takes what came, of this name.
+    fn take_act(&mut self, name: &str) -> Result<Act, Fault> {
+        match name {
+            "e" => self.take_encoder(),
+            "d" => self.take_decoder(),
+            "b" => self.take_section(),
+            "c" => self.take_given_up(),
+            "s" => self.take_settings(),
+            _ => Err(self.fault_of(name, "is not one of e, d, b, c and s")),
+        }
+    }
+
+    /// Takes bytes of the encoder stream.
+    fn take_encoder(&mut self) -> Result<Act, Fault> {
+        Ok(Act::Encoder(self.take_bytes()?))
+    }
+
+    /// Takes bytes of the decoder stream.
+    fn take_decoder(&mut self) -> Result<Act, Fault> {
+        Ok(Act::Decoder(self.take_bytes()?))
+    }
+
+    /// Takes a section and its stream.
+    fn take_section(&mut self) -> Result<Act, Fault> {
+        let stream = self.take_number()?;
+        Ok(Act::Section(stream, self.take_bytes()?))
+    }
+
+    /// Takes a stream that is read no further.
+    fn take_given_up(&mut self) -> Result<Act, Fault> {
+        let stream = self.take_number()?;
+        self.end()?;
+        Ok(Act::GivenUp(stream))
+    }
+
+    /// Takes SETTINGS: the maximum capacity, and how many streams may be blocked.
+    fn take_settings(&mut self) -> Result<Act, Fault> {
+        let max_capacity = self.take_number()?;
+        let max_blocked = self.take_number()?;
+        self.end()?;
+        Ok(Act::Settings(Settings {
+            max_capacity: max_capacity as usize,
+            max_blocked: max_blocked as usize,
+        }))
+    }
+
+    /// Takes a number.
+    fn take_number(&mut self) -> Result<u64, Fault> {
+        let word = self.take();
+        match word.parse::<u64>() {
+            Ok(number) => Ok(number),
+            Err(_) => Err(self.fault_of(word, "is not a whole number below 2^64")),
+        }
+    }
+
+    /// Takes all words that are left, as bytes in hexadecimal.
+    fn take_bytes(&mut self) -> Result<Vec<u8>, Fault> {
+        let digits = self.read_rest()?;
+        self.take_digits(digits)
+    }
+
+    /// Reads the words that are left, as bytes in hexadecimal.
+    fn read_rest(&self) -> Result<Option<Digits>, Fault> {
+        let from = self.taken.min(self.all.len());
+        read_digits(self.alloc, &self.all[from..])
+    }
+
+    /// Takes the bytes of digits, if a line may have these. One that is left over is cut off its byte.
+    fn take_digits(&mut self, digits: Option<Digits>) -> Result<Vec<u8>, Fault> {
+        match digits {
+            Some(digits) if digits.has_half && !self.is_cut => {
+                Err(self.fault("its last byte has one digit"))
+            }
+            Some(digits) => {
+                self.has_half = digits.has_half;
+                Ok(digits.bytes)
+            }
+            None => Err(self.fault("its bytes are not hexadecimal")),
+        }
+    }
+
+    /// Rejects words that are left.
+    fn end(&self) -> Result<(), Fault> {
+        match self.all.get(self.taken) {
+            None => Ok(()),
+            Some(word) => Err(self.fault_of(*word, "is one word too many")),
+        }
+    }
+
+    /// Returns the fault of the line, in these words.
+    fn fault(&self, words: &str) -> Fault {
+        Fault::of_line(self.alloc, self.line, words)
+    }
+
+    /// Returns the fault of a word of the line, in these words after it.
+    fn fault_of(&self, word: &str, words: &str) -> Fault {
+        Fault::of_word(self.alloc, self.line, word, words)
     }
 }
 
@@ -145,19 +286,6 @@ fn is_printed_as_it_is(text: &str) -> bool {
         .all(|it| !it.is_control() && it != '"' && it != '\\')
 }
 
-/// Splits the mark of an end off, if it is there, and the name of what came.
-fn split_end<'a, 'b>(words: &'b [&'a str]) -> (Option<End>, &'a str, &'b [&'a str]) {
-    let Some((first, rest)) = words.split_first() else {
-        return (None, "", words);
-    };
-    let (end, name) = end_of(*first);
-    if end.is_some() && name.is_empty() {
-        let (name, rest) = split_name(rest);
-        return (end, name, rest);
-    }
-    (end, name, rest)
-}
-
 /// Returns the end whose mark a word begins with, if it does, and the rest of the word.
 fn end_of(word: &str) -> (Option<End>, &str) {
     if let Some(name) = word.strip_prefix(">") {
@@ -167,120 +295,4 @@ fn end_of(word: &str) -> (Option<End>, &str) {
         return (Some(End::Server), name);
     }
     (None, word)
-}
-
-/// Splits the first word off; it is empty if there is none.
-fn split_name<'a, 'b>(words: &'b [&'a str]) -> (&'a str, &'b [&'a str]) {
-    match words.split_first() {
-        Some((name, rest)) => (*name, rest),
-        None => ("", words),
-    }
-}
-
-/// Reads what came, whose end may be cut, and whether half a byte is left.
-fn read_act(
-    alloc: Global,
-    line: usize,
-    name: &str,
-    rest: &[&str],
-    is_cut: bool,
-) -> Result<(Act, bool), Fault> {
-    match name {
-        "e" => read_encoder(alloc, line, rest, is_cut),
-        "d" => read_decoder(alloc, line, rest, is_cut),
-        "b" => read_section(alloc, line, rest, is_cut),
-        "c" => read_given_up(alloc, line, rest),
-        "s" => read_settings(alloc, line, rest),
-        _ => Err(Fault::of_word(alloc, line, name, "is not one of e, d, b, c and s")),
-    }
-}
-
-/// Reads bytes of the encoder stream.
-fn read_encoder(
-    alloc: Global,
-    line: usize,
-    words: &[&str],
-    is_cut: bool,
-) -> Result<(Act, bool), Fault> {
-    let (bytes, has_half) = read_bytes(alloc, line, words, is_cut)?;
-    Ok((Act::Encoder(bytes), has_half))
-}
-
-/// Reads bytes of the decoder stream.
-fn read_decoder(
-    alloc: Global,
-    line: usize,
-    words: &[&str],
-    is_cut: bool,
-) -> Result<(Act, bool), Fault> {
-    let (bytes, has_half) = read_bytes(alloc, line, words, is_cut)?;
-    Ok((Act::Decoder(bytes), has_half))
-}
-
-/// Reads a section and its stream.
-fn read_section(
-    alloc: Global,
-    line: usize,
-    words: &[&str],
-    is_cut: bool,
-) -> Result<(Act, bool), Fault> {
-    let (stream, rest) = split_number(alloc, line, words)?;
-    let (bytes, has_half) = read_bytes(alloc, line, rest, is_cut)?;
-    Ok((Act::Section(stream, bytes), has_half))
-}
-
-/// Reads a stream that is read no further.
-fn read_given_up(alloc: Global, line: usize, words: &[&str]) -> Result<(Act, bool), Fault> {
-    let (stream, rest) = split_number(alloc, line, words)?;
-    no_more(alloc, line, rest)?;
-    Ok((Act::GivenUp(stream), false))
-}
-
-/// Reads SETTINGS: the maximum capacity, and how many streams may be blocked.
-fn read_settings(alloc: Global, line: usize, words: &[&str]) -> Result<(Act, bool), Fault> {
-    let (max_capacity, rest) = split_number(alloc, line, words)?;
-    let (max_blocked, rest) = split_number(alloc, line, rest)?;
-    no_more(alloc, line, rest)?;
-    let settings = Settings {
-        max_capacity: max_capacity as usize,
-        max_blocked: max_blocked as usize,
-    };
-    Ok((Act::Settings(settings), false))
-}
-
-/// Splits a number off.
-fn split_number<'a, 'b>(
-    alloc: Global,
-    line: usize,
-    words: &'b [&'a str],
-) -> Result<(u64, &'b [&'a str]), Fault> {
-    let (word, rest) = split_name(words);
-    match word.parse::<u64>() {
-        Ok(number) => Ok((number, rest)),
-        Err(_) => Err(Fault::of_word(alloc, line, word, "is not a whole number below 2^64")),
-    }
-}
-
-/// Rejects words if there should be none.
-fn no_more(alloc: Global, line: usize, words: &[&str]) -> Result<(), Fault> {
-    match words.first() {
-        None => Ok(()),
-        Some(word) => Err(Fault::of_word(alloc, line, *word, "is one word too many")),
-    }
-}
-
-/// Reads bytes in hexadecimal, whose end may be cut, and whether half a byte is left.
-fn read_bytes(
-    alloc: Global,
-    line: usize,
-    words: &[&str],
-    is_cut: bool,
-) -> Result<(Vec<u8>, bool), Fault> {
-    match read_digits(alloc, words)? {
-        Some(digits) if digits.has_half && !is_cut => {
-            Err(Fault::of_line(alloc, line, "its last byte has one digit"))
-        }
-        Some(digits) => Ok((digits.bytes, digits.has_half)),
-        None => Err(Fault::of_line(alloc, line, "its bytes are not hexadecimal")),
-    }
 }

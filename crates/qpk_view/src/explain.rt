@@ -3,7 +3,7 @@
 ghost use Rattle.std.specs.Prelude.{IfOk, IsUtf8};
 
 use crate::bits::Rows;
-use crate::digits::read_digits;
+use crate::digits::{Digits, read_digits};
 use crate::events::words_of;
 use crate::fault::Fault;
 use crate::fields::{push_field, push_name};
@@ -65,12 +65,23 @@ const HALF_A_BYTE: &str = "the last byte has one digit";
 fn read_text(alloc: Global, text: &[u8]) -> Result<Vec<u8>, Fault>
     ensures { IfOk result (λ _. IsUtf8 text.now) }
 {
-    let Ok(text) = str::from_utf8(text) else {
-        return Err(Fault::in_words(alloc, NO_DIGITS));
-    };
+    match str::from_utf8(text) {
+        Ok(text) => read_hexadecimal(alloc, text),
+        Err(_) => Err(Fault::in_words(alloc, NO_DIGITS)),
+    }
+}
+
+/// Reads bytes in hexadecimal.
+fn read_hexadecimal(alloc: Global, text: &str) -> Result<Vec<u8>, Fault> {
     let words = words_of(alloc, text)?;
-    match read_digits(alloc, &words)? {
-        Some(digits) if digits.has_half => { Err(Fault::in_words(alloc, HALF_A_BYTE)) }
+    let digits = read_digits(alloc, &words)?;
+    whole_bytes(alloc, digits)
+}
+
+/// Returns the bytes of digits, of which none is left over.
+fn whole_bytes(alloc: Global, digits: Option<Digits>) -> Result<Vec<u8>, Fault> {
+    match digits {
+        Some(digits) if digits.has_half => Err(Fault::in_words(alloc, HALF_A_BYTE)),
         Some(digits) => Ok(digits.bytes),
         None => Err(Fault::in_words(alloc, NO_DIGITS)),
     }
@@ -321,9 +332,7 @@ fn explain_instruction(rows: &mut Rows<'_>, line: &EncoderLine) {
 
 /// Explains a change of the capacity.
 fn explain_capacity(rows: &mut Rows<'_>, size: usize) {
-    let len = rows.begin_integer(5, 0b0010_0000);
-    rows.text.push_value("set capacity ", &size);
-    rows.end_integer(len);
+    rows.push_integer(5, 0b0010_0000, "set capacity ", &size, "");
 }
 
 /// Explains a duplicate.
@@ -383,23 +392,21 @@ fn explain_told(rows: &mut Rows<'_>, line: &DecoderLine) {
 
 /// Explains an acknowledgment of a section.
 fn explain_acknowledgment(rows: &mut Rows<'_>, stream: u64) {
-    let len = rows.begin_integer(7, 0b1000_0000);
-    rows.text
-        .push_value("acknowledge a section of stream ", &stream);
-    rows.end_integer(len);
+    rows.push_integer(
+        7,
+        0b1000_0000,
+        "acknowledge a section of stream ",
+        &stream,
+        "",
+    );
 }
 
 /// Explains a cancellation of a stream.
 fn explain_cancellation(rows: &mut Rows<'_>, stream: u64) {
-    let len = rows.begin_integer(6, 0b0100_0000);
-    rows.text.push_value("cancel stream ", &stream);
-    rows.end_integer(len);
+    rows.push_integer(6, 0b0100_0000, "cancel stream ", &stream, "");
 }
 
 /// Explains an increment.
 fn explain_increment(rows: &mut Rows<'_>, by: usize) {
-    let len = rows.begin_integer(6, 0b0100_0000);
-    rows.text
-        .push_between("", &by, " more insertions were received");
-    rows.end_integer(len);
+    rows.push_integer(6, 0b0100_0000, "", &by, " more insertions were received");
 }

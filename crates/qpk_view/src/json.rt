@@ -299,17 +299,17 @@ fn push_lines(text: &mut Text, base: usize, lines: &[LineShown])
     let mut is_first = true;
     text.push_str(",\"lines\":[");
     for line in lines {
-        text.push_str(if is_first { "" } else { "," });
-        push_line(text, base, line);
+        push_line(text, is_first, base, line);
         is_first = false;
     }
     text.push_str("]");
 }
 
-/// Appends the object of a field line under a base.
-fn push_line(text: &mut Text, base: usize, line: &LineShown)
+/// Appends the object of a field line under a base, the first of its section or another.
+fn push_line(text: &mut Text, is_first: bool, base: usize, line: &LineShown)
     ensures { Extends text.old text.new }
 {
+    text.push_str(if is_first { "" } else { "," });
     text.push_between("{\"offset\":", &line.offset, ",\"form\":");
     push_form(text, base, line);
     text.push_str(",");
@@ -377,26 +377,24 @@ fn push_stop(text: &mut Text, stop: Option<&Stop>)
 fn push_table(text: &mut Text, table: &ReceivedTable)
     ensures { Extends text.old text.new }
 {
-    let mut total = 0usize;
     let mut is_first = true;
     text.push_str("\"table\":[");
-    for Entry { index, size, field } in live_entries(table) {
-        text.push_str(if is_first { "" } else { "," });
-        push_row(text, index, size, field);
-        total = total.saturating_add(size);
+    for entry in live_entries(table) {
+        push_row(text, is_first, entry);
         is_first = false;
     }
-    text.push_value("],\"size\":", &total);
+    text.push_value("],\"size\":", &table.used());
     text.push_between(",\"capacity\":", &table.max_mem_size(), "}\n");
 }
 
-/// Appends the object of an entry of the table, with its absolute index and its size.
-fn push_row(text: &mut Text, index: usize, size: usize, field: &HeaderField)
+/// Appends the object of an entry of the table, the first or another, with its absolute index and its size.
+fn push_row(text: &mut Text, is_first: bool, entry: Entry<'_>)
     ensures { Extends text.old text.new }
 {
-    text.push_value("{\"entry\":", &index);
-    text.push_between(",\"size\":", &size, ",");
-    push_field(text, field);
+    text.push_str(if is_first { "" } else { "," });
+    text.push_value("{\"entry\":", &entry.index);
+    text.push_between(",\"size\":", &entry.size, ",");
+    push_field(text, entry.field);
     text.push_str("}");
 }
 

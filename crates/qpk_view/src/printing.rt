@@ -369,21 +369,19 @@ fn push_stop(text: &mut Text, number: usize, stop: Option<&Stop>)
 fn push_table(text: &mut Text, table: &ReceivedTable)
     ensures { Extends text.old text.new }
 {
-    let mut total = 0usize;
-    for Entry { index, size, field } in live_entries(table) {
-        total = total.saturating_add(size);
-        push_row(text, index, size, field);
+    for entry in live_entries(table) {
+        push_row(text, entry);
     }
-    text.push_value("  ", &total);
+    text.push_value("  ", &table.used());
     text.push_between(" of ", &table.max_mem_size(), " bytes\n");
 }
 
 /// Appends an entry of the table, with its absolute index and its size.
-fn push_row(text: &mut Text, index: usize, size: usize, field: &HeaderField)
+fn push_row(text: &mut Text, entry: Entry<'_>)
     ensures { Extends text.old text.new }
 {
-    text.push_value("  entry ", &index);
-    text.push_between(", ", &size, " bytes, ");
-    push_field(text, field);
+    text.push_value("  entry ", &entry.index);
+    text.push_between(", ", &entry.size, " bytes, ");
+    push_field(text, entry.field);
     text.push_str("\n");
 }

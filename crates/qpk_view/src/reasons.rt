@@ -2,7 +2,6 @@
 
 ghost use Rattle.qpk_view.specs.Texts.{Extends};
 
-use crate::entries::live_entries;
 use crate::text::Text;
 use qpack_base::parse_error::ParseError;
 use qpack_base::prefix_string::{self, HuffmanDecodingError};
@@ -98,10 +97,7 @@ fn push_no_entry(text: &mut Text, index: usize, table: &ReceivedTable)
     ensures { Extends text.old text.new }
 {
     text.push_value("index ", &index);
-    text.push_value(
-        " is past the table: live entries ",
-        &live_entries(table).count(),
-    );
+    text.push_value(" is past the table: live entries ", &table.count());
     text.push_value(", insertions ", &table.total_inserted());
 }
 

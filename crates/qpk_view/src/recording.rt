@@ -2,7 +2,7 @@
 
 ghost use Rattle.std.specs.Prelude.{◌≡◌, false, IfOk, IsUtf8};
 
-use crate::events::{Act, End, Event, Settings, read_event};
+use crate::events::{Act, End, Event, Settings, has_event, read_event};
 use crate::fault::Fault;
 use qpk_qif::recording::{Record, split_record};
 use qpk_show::stream::Cut;
@@ -63,16 +63,21 @@ impl<'a> Recording<'a> {
 
     /// Reads lines up to the next event. Some are empty, or comments.
     fn next_of_lines(&mut self, alloc: Global) -> Result<Option<Event<'a>>, Fault> {
+        match self.next_line_of_event() {
+            Some(line) => Ok(Some(read_event(alloc, self.number, line.text, line.is_cut)?)),
+            None => Ok(None),
+        }
+    }
+
+    /// Splits lines off up to the next that has an event.
+    fn next_line_of_event(&mut self) -> Option<Line<'a>> {
         for _ in 0..u64::MAX {
-            let Some(line) = self.next_line() else {
-                break;
-            };
-            let event = read_event(alloc, self.number, line.text, line.is_cut)?;
-            if event.is_some() {
-                return Ok(event);
+            let line = self.next_line()?;
+            if has_event(line.text) {
+                return Some(line);
             }
         }
-        Ok(None)
+        None
     }
 
     /// Splits the next line off.
@@ -95,12 +100,15 @@ impl<'a> Recording<'a> {
         let Some((record, after)) = split_record(rest) else {
             return Ok(None);
         };
-        self.number = self.number.saturating_add(1);
-        self.offset = self
-            .offset
-            .saturating_add(rest.len().saturating_sub(after.len()));
-        self.rest = Rest::Records(after);
+        self.pass(rest.len().saturating_sub(after.len()), after);
         Ok(Some(event_of(alloc, self.number, &record)?))
+    }
+
+    /// Notes that a record of this many bytes was read, after which these are left.
+    fn pass(&mut self, len: usize, after: &'a [u8]) {
+        self.number = self.number.saturating_add(1);
+        self.offset = self.offset.saturating_add(len);
+        self.rest = Rest::Records(after);
     }
 
     /// Returns the record that the end of the input cuts, if one is, with its number. All before it was read.
@@ -175,12 +183,22 @@ impl Outline {
             tells_server: false,
         };
         for _ in 0..u64::MAX {
-            let Some(event) = recording.next(alloc)? else {
+            if !outline.note_next(alloc, &mut recording)? {
                 break;
-            };
-            outline.note(alloc, &event)?;
+            }
         }
         Ok(outline)
+    }
+
+    /// Reads the next event, and notes it. Returns false if there is none.
+    fn note_next(&mut self, alloc: Global, recording: &mut Recording<'_>) -> Result<bool, Fault> {
+        match recording.next(alloc)? {
+            Some(event) => {
+                self.note(alloc, &event)?;
+                Ok(true)
+            }
+            None => Ok(false),
+        }
     }
 
     /// Returns whether the lines say which end they are of.

@@ -129,12 +129,19 @@ impl Text {
         ensures { Extends self.old self.new }
     {
         for character in text.chars() {
-            if character.is_control() {
-                self.push_str("\\x");
-                self.push_digits(character as u32 as u8);
-            } else {
-                self.push(character);
-            }
+            self.push_visible(character);
+        }
+    }
+
+    /// Appends a character, or if it is a control character `\x` and two digits.
+    fn push_visible(&mut self, character: char)
+        ensures { Extends self.old self.new }
+    {
+        if character.is_control() {
+            self.push_str("\\x");
+            self.push_digits(character as u32 as u8);
+        } else {
+            self.push(character);
         }
     }
 

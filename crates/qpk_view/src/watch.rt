@@ -45,8 +45,7 @@ pub struct Watch<'a> {
     outline: Outline,
     /// The number of the line that came last.
     line: Option<usize>,
-    client: Observer,
-    server: Observer,
+    onlookers: Onlookers,
 }
 
 impl<'a> Watch<'a> {
@@ -70,14 +69,16 @@ impl<'a> Watch<'a> {
         let outline = Outline::read(alloc, recording)?;
         let client = outline.settings_for(End::Client).unwrap_or(settings);
         let server = outline.settings_for(End::Server).unwrap_or(settings);
-        Ok(Watch {
-            alloc,
-            recording,
-            outline,
-            line: None,
-            client: onlooker(alloc, client)?,
-            server: onlooker(alloc, server)?,
-        })
+        match Onlookers::new(alloc, client, server) {
+            Some(onlookers) => Ok(Watch {
+                alloc,
+                recording,
+                outline,
+                line: None,
+                onlookers,
+            }),
+            None => Err(Fault::Capacity),
+        }
     }
 
     /// Returns whether the recording has bytes of the decoder stream that goes to the encoder of an end.
@@ -90,13 +91,13 @@ impl<'a> Watch<'a> {
     pub(crate) fn step<W: Watcher>(&mut self, watcher: &mut W) -> Result<Step, Fault>
         ensures { W.json watcher.new ≡ W.json watcher.old }
     {
-        let Some(event) = self.recording.next(self.alloc)? else {
-            self.end(watcher);
-            return Ok(Step::End);
-        };
-        self.line = Some(event.line);
-        self.take(&event, watcher)?;
-        Ok(Step::Event)
+        match self.recording.next(self.alloc)? {
+            Some(event) => self.take(&event, watcher),
+            None => {
+                self.end(watcher);
+                Ok(Step::End)
+            }
+        }
     }
 
     /// Takes all events, and shows what the end of the input cuts.
@@ -112,14 +113,13 @@ impl<'a> Watch<'a> {
     }
 
     /// Takes an event, and shows all that can be by now.
-    fn take<W: Watcher>(&mut self, event: &Event<'_>, watcher: &mut W) -> Result<(), NoMemory>
+    fn take<W: Watcher>(&mut self, event: &Event<'_>, watcher: &mut W) -> Result<Step, Fault>
         ensures { W.json watcher.new ≡ W.json watcher.old }
     {
         let encoder = event.encoder();
-        match encoder {
-            End::Client => take_by(&mut self.client, event, encoder, watcher),
-            End::Server => take_by(&mut self.server, event, encoder, watcher),
-        }
+        self.line = Some(event.line);
+        take_by(self.onlookers.of(encoder), event, encoder, watcher)?;
+        Ok(Step::Event)
     }
 
     /// Shows what the end of the input cuts.
@@ -128,8 +128,20 @@ impl<'a> Watch<'a> {
     {
         if let Some(line) = self.line {
             let is_marked = self.outline.is_marked();
-            show_cuts(&self.client, line, End::Client, is_marked, watcher);
-            show_cuts(&self.server, line, End::Server, is_marked, watcher);
+            show_cuts(
+                &self.onlookers.client,
+                line,
+                End::Client,
+                is_marked,
+                watcher,
+            );
+            show_cuts(
+                &self.onlookers.server,
+                line,
+                End::Server,
+                is_marked,
+                watcher,
+            );
         }
         if let Some((line, cut)) = self.recording.cut() {
             let place = place_at_end(line, End::Client, false);
@@ -147,12 +159,35 @@ pub(crate) enum Step {
     End,
 }
 
-/// Returns an onlooker to whom nothing came.
-fn onlooker(alloc: Global, settings: Settings) -> Result<Observer, Fault> {
-    match Observer::new(alloc, settings.max_capacity, settings.max_blocked) {
-        Some(observer) => Ok(observer),
-        None => Err(Fault::Capacity),
+/// An onlooker for the encoder of each end.
+#[derive(Drop)]
+struct Onlookers {
+    client: Observer,
+    server: Observer,
+}
+
+impl Onlookers {
+    /// Returns those to whom nothing came, under the limits of both encoders. Returns `None` if a maximum capacity is 2^30
+    /// or more.
+    fn new(alloc: Global, client: Settings, server: Settings) -> Option<Onlookers> {
+        Some(Onlookers {
+            client: onlooker(alloc, client)?,
+            server: onlooker(alloc, server)?,
+        })
     }
+
+    /// Returns the one for the encoder of an end.
+    fn of(&mut self, encoder: End) -> &mut Observer {
+        match encoder {
+            End::Client => &mut self.client,
+            End::Server => &mut self.server,
+        }
+    }
+}
+
+/// Returns an onlooker to whom nothing came, or `None` if the maximum capacity is 2^30 or more.
+fn onlooker(alloc: Global, settings: Settings) -> Option<Observer> {
+    Observer::new(alloc, settings.max_capacity, settings.max_blocked)
 }
 
 /// Returns the end that sent what is shown, if the encoder is that of an end.
@@ -223,12 +258,27 @@ fn show_all<W: Watcher>(
     ensures { W.json watcher.new ≡ W.json watcher.old }
 {
     for _ in 0..u64::MAX {
-        let Some(shown) = observer.next()? else {
+        if !show_next(observer, place, encoder, watcher)? {
             break;
-        };
-        see_shown(&shown, observer, place, encoder, watcher);
+        }
     }
     Ok(())
+}
+
+/// Shows the next thing that an onlooker can show. Returns false if there is none by now.
+fn show_next<W: Watcher>(
+    observer: &mut Observer,
+    place: Place<'_>,
+    encoder: End,
+    watcher: &mut W,
+) -> Result<bool, NoMemory>
+    ensures { W.json watcher.new ≡ W.json watcher.old }
+{
+    let Some(shown) = observer.next()? else {
+        return Ok(false);
+    };
+    see_shown(&shown, observer, place, encoder, watcher);
+    Ok(true)
 }
 
 /// Shows one thing, which the end of the encoder sent or the other one.
