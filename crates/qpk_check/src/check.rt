@@ -45,14 +45,28 @@ pub fn check(alloc: Global, options: CheckOptions, input: &[u8]) -> Result<View,
     ensures verdict { IfOk result (λ view. AreVerdict options.json view.has_found (string_bytes view.text)) }
     ensures text { options.qif ≡ false → IfOk result (λ _. IsUtf8 input.now) }
 {
-    let mut watch = Watch::new(alloc, options.qif, options.settings, input)?;
-    let mut judge = Judge {
-        report: Report::new(alloc, options.json),
-        client: Judged::new(alloc, watch.tells(End::Client)),
-        server: Judged::new(alloc, watch.tells(End::Server)),
-    };
-    watch.finish(&mut judge)?;
-    judge.end()
+    let watch = Watch::new(alloc, options.qif, options.settings, input)?;
+    judge_recording(alloc, options.json, watch)
+}
+
+/// Judges a recording of which nothing was seen.
+fn judge_recording(alloc: Global, json: bool, watch: Watch<'_>) -> Result<View, Fault>
+    ensures { IfOk result (λ view. AreVerdict json view.has_found (string_bytes view.text)) }
+{
+    let mut watch = watch;
+    let judge = Judge::new(alloc, json, &watch);
+    judge_all(&mut watch, judge)
+}
+
+/// Judges all of a recording of which nothing was seen.
+fn judge_all(watch: &mut Watch<'_>, judge: Judge) -> Result<View, Fault>
+    ensures { IfOk result (λ view. AreVerdict judge.report.json view.has_found (string_bytes view.text)) }
+{
+    let mut judge = judge;
+    match watch.finish(&mut judge) {
+        Ok(()) => judge.end(),
+        Err(fault) => Err(fault),
+    }
 }
 
 /// A watcher that judges a recording.
@@ -89,6 +103,17 @@ fn encoder_of_speaker(place: Place<'_>, encoder: End, sight: Sight<'_>) -> Optio
 }
 
 impl Judge {
+    /// Returns the judge of a recording of which nothing was seen.
+    fn new(alloc: Global, json: bool, watch: &Watch<'_>) -> Judge
+        ensures { result.report.json ≡ json }
+    {
+        Judge {
+            report: Report::new(alloc, json),
+            client: Judged::new(alloc, watch.tells(End::Client)),
+            server: Judged::new(alloc, watch.tells(End::Server)),
+        }
+    }
+
     /// Ends the report: sections that still wait, and, if nothing was found, what was looked at.
     fn end(self) -> Result<View, Fault>
         ensures { IfOk result (λ view. AreVerdict self.report.json view.has_found (string_bytes view.text)) }

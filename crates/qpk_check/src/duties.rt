@@ -18,7 +18,7 @@ const MOST_STREAMS: usize = 1024;
 const NO_ENTRY: usize = usize::MAX;
 
 /// A section that is not acknowledged.
-#[derive(Clone, Copy, Debug, PartialEq)]
+#[derive(Clone, Copy)]
 struct Needing {
     stream: u64,
     /// The line that it came in.
@@ -29,7 +29,7 @@ struct Needing {
 }
 
 /// A stream that could be blocked.
-#[derive(Clone, Copy, Debug, PartialEq)]
+#[derive(Clone, Copy)]
 pub(crate) struct AtRisk {
     pub(crate) stream: u64,
     /// The greatest required insert count of its sections.
