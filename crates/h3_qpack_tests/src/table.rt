@@ -357,14 +357,31 @@ fn show_block(
     }
 }
 
-/// Appends where a block finds the name of a field: a static field, or the newest entry that has it.
-fn show_name(call: &mut Call<'_>, block: &mut DynamicTableEncoder<'_>, field: &FieldLine<'_>) {
+/// Appends where a block finds the name of a field: a static field, or the newest entry that has it and may be referenced.
+fn show_name(call: &mut Call<'_>, block: &DynamicTableEncoder<'_>, field: &FieldLine<'_>) {
     let sought = block.seek(field, StaticTable::find_name(field.name));
     let found = match sought.static_name() {
-        Some(index) => Ok(DynamicLookupResult::Static(index)),
-        None => block.reference(block.newest_name(field, &sought)),
+        Some(index) => DynamicLookupResult::Static(index),
+        None => place_of(block, block.newest_name(field, &sought)),
     };
-    call.show_value(&found);
+    call.show_value(&Ok::<DynamicLookupResult, Error>(found));
+}
+
+/// Returns where a block finds an entry, if there is one and it may be referenced.
+fn place_of(block: &DynamicTableEncoder<'_>, newest: Option<usize>) -> DynamicLookupResult {
+    let Some(absolute) = newest else {
+        return DynamicLookupResult::NotFound;
+    };
+    if !block.may_reference(absolute) {
+        return DynamicLookupResult::NotFound;
+    }
+    match block.base().checked_sub(absolute) {
+        Some(index) => DynamicLookupResult::Relative { index, absolute },
+        None => DynamicLookupResult::PostBase {
+            index: absolute.saturating_sub(block.base()).saturating_sub(1),
+            absolute,
+        },
+    }
 }
 
 /// Appends the base of a block and its bounds, what it finds for the first of some fields, and how it inserts each.
