@@ -18,7 +18,8 @@ import sys
 import tempfile
 from pathlib import Path
 
-TOP = Path(__file__).resolve().parent.parent
+from pages import TOP, check_page
+
 HEADER = TOP / "include" / "h3_qpack.h"
 PAGE = TOP / "docs" / "API.md"
 END = "/* ---- The exports of the verified library"
@@ -298,12 +299,10 @@ def read_by_groff(header):
 
 def check(header, page):
     """Returns the exit status of --check, and says what it found."""
-    is_same = PAGE.is_file() and PAGE.read_text(encoding="utf-8") == page
-    says = "is what tests/api.py writes" if is_same else "is not what tests/api.py writes: run it"
     warned = read_by_groff(header) if shutil.which("groff") else ""
     print(warned, end="")
-    print(f"api: docs/API.md, of {len(header.calls)} calls, {says}")
-    return 0 if is_same and not warned else 1
+    status = check_page("api", PAGE, page, f"{len(header.calls)} calls")
+    return 1 if warned else status
 
 
 def main(words):

@@ -13,6 +13,7 @@ import sys
 from pathlib import Path
 
 from definitions import CRATES, TOP, cell, plain, read_crates, table
+from pages import check_page
 
 FRONT = TOP / "tests" / "calls.md"
 PAGE = TOP / "docs" / "CALLS.md"
@@ -149,10 +150,7 @@ def write():
 def main(words):
     page = write()
     if words == ["--check"]:
-        is_same = PAGE.is_file() and PAGE.read_text(encoding="utf-8") == page
-        says = "is what tests/calls.py writes" if is_same else "is not what tests/calls.py writes: run it"
-        print(f"calls: docs/CALLS.md {says}")
-        return 0 if is_same else 1
+        return check_page("calls", PAGE, page)
     PAGE.write_text(page, encoding="utf-8")
     return 0
 

@@ -14,6 +14,7 @@ import subprocess
 import sys
 
 from captures import PROGRAM, build
+from pages import check_page
 from running import TOP
 
 RECORDINGS = [TOP / "crates" / "qpack_tests" / "data" / "checked.txt", TOP / "tests" / "causes.txt"]
@@ -101,10 +102,7 @@ def main(words):
         return 2
     page = write(rows)
     if words == ["--check"]:
-        is_same = PAGE.is_file() and PAGE.read_text(encoding="utf-8") == page
-        says = "is what tests/causes.py writes" if is_same else "is not what tests/causes.py writes: run it"
-        print(f"causes: docs/CAUSES.md, of {sum(map(len, rows.values()))} findings, {says}")
-        return 0 if is_same else 1
+        return check_page("causes", PAGE, page, f"{sum(map(len, rows.values()))} findings")
     PAGE.write_text(page, encoding="utf-8")
     return 0
 

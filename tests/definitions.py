@@ -10,9 +10,9 @@ comment of each, and the names of its public definitions.
 """
 import re
 import sys
-from pathlib import Path
 
-TOP = Path(__file__).resolve().parent.parent
+from pages import TOP, check_page
+
 CRATES = TOP / "crates"
 FRONT = TOP / "tests" / "definitions.md"
 PAGE = TOP / "docs" / "DEFINITIONS.md"
@@ -140,9 +140,7 @@ def main(words):
     if not words:
         PAGE.write_text(page, encoding="utf-8")
         return 0
-    is_same = PAGE.read_text(encoding="utf-8") == page
-    print(f"definitions: docs/DEFINITIONS.md {'is' if is_same else 'is NOT'} what tests/definitions.py writes")
-    return 0 if is_same else 1
+    return check_page("definitions", PAGE, page)
 
 
 if __name__ == "__main__":

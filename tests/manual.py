@@ -11,9 +11,9 @@ import re
 import shlex
 import sys
 import textwrap
-from pathlib import Path
 
-TOP = Path(__file__).resolve().parent.parent
+from pages import TOP, check_page
+
 MANUAL = TOP / "dist" / "qpk.1"
 PAGE = TOP / "docs" / "QPK-REFERENCE.md"
 FRONT = """# qpk(1)
@@ -234,10 +234,7 @@ class Page:
 def main(words):
     page = Page().write(MANUAL.read_text(encoding="ascii"))
     if words == ["--check"]:
-        is_same = PAGE.is_file() and PAGE.read_text(encoding="utf-8") == page
-        says = "is what tests/manual.py writes" if is_same else "is not what tests/manual.py writes: run it"
-        print(f"manual: docs/QPK-REFERENCE.md {says}")
-        return 0 if is_same else 1
+        return check_page("manual", PAGE, page)
     if words:
         fail("the words are none, or --check")
     PAGE.write_text(page, encoding="utf-8")

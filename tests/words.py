@@ -193,9 +193,9 @@ def main():
             for word, pattern in watched.items():
                 counts[word] += len(pattern.findall(prose))
         wrong += find_length(name, text)
-        is_read_by_users = is_document or keep_prose in (prose_of_manual, prose_of_c, prose_of_rust)
-        forbidden = in_documents if is_read_by_users else everywhere
-        forbidden = forbidden + but_of_h3 if forbidden is in_documents and name not in OF_H3 else forbidden
+        forbidden = everywhere
+        if is_document or keep_prose in (prose_of_manual, prose_of_c, prose_of_rust):
+            forbidden = in_documents if name in OF_H3 else in_documents + but_of_h3
         wrong += find_forbidden(name, prose, forbidden)
     if words_of_prose > MOST_OF_ALL:
         wrong.append(f"the documents have {words_of_prose} words without code, and may have {MOST_OF_ALL}")
