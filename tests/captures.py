@@ -1,5 +1,5 @@
 #!/usr/bin/env python3
-"""Tests dist/qpk-capture: packets as tshark prints them, to the lines that qpk show reads; and a capture of Chromium.
+"""Tests tool/qpk-capture: packets as tshark prints them, to the lines that qpk show reads; and a capture of Chromium.
 
     tests/captures.py
 
@@ -7,8 +7,6 @@ In tests/captured are the first 60 packets between Chromium 156 and examples/htt
 qpk-capture printed of them; and the lists of fields of Chromium's own log. Without tshark the lines are taken as they are.
 It ends with a line 'captures: N tests .. passed', and with status 1 if a test failed.
 """
-import importlib.machinery
-import importlib.util
 import io
 import json
 import os
@@ -25,7 +23,7 @@ from pathlib import Path
 
 from running import TOP, assert_linear, missing_tool, run_tests, shows_no_fault_of_a_script
 
-SCRIPT = TOP / "dist" / "qpk-capture"
+SCRIPT = TOP / "tool" / "qpk-capture"
 BUILT = tempfile.TemporaryDirectory(prefix="h3-qpack-captures-")  # the program of dist/, which tests ask often
 PROGRAM = TOP / "qpk" if missing_tool() else Path(BUILT.name) / "qpk"
 ENVIRONMENT = {**os.environ, "QPK": str(PROGRAM)}
@@ -36,20 +34,11 @@ SECONDS = 120  # by the clock, in which a script ends on a machine that proves b
 SETTINGS = "00 04 05 01 50 00 07 10"  # a control stream: capacity 4096, and 16 blocked streams
 
 
-def load():
-    """Returns the script as a module."""
-    sys.dont_write_bytecode = True
-    sys.path.insert(0, str(TOP / "dist"))
-    loader = importlib.machinery.SourceFileLoader("qpk_capture", str(TOP / "dist" / "qpk-capture"))
-    module = importlib.util.module_from_spec(importlib.util.spec_from_loader(loader.name, loader))
-    sys.modules[loader.name] = module
-    loader.exec_module(module)
-    return module
-
-
-capture = load()
-import qpk_streams  # noqa: E402 # pylint: disable=wrong-import-position
-import qpk_tshark  # noqa: E402 # pylint: disable=wrong-import-position
+sys.dont_write_bytecode = True
+sys.path.insert(0, str(TOP / "tool"))
+import qpk.streams  # noqa: E402 # pylint: disable=wrong-import-position
+import qpk.tshark  # noqa: E402 # pylint: disable=wrong-import-position
+from qpk import capture  # noqa: E402 # pylint: disable=wrong-import-position
 
 
 def field(name, show, inner=""):
@@ -72,8 +61,8 @@ def packet(time, source, target, *pieces, connection=0):
 
 def connections(*packets):
     """Returns the connections of packets."""
-    pieces = qpk_tshark.read_pieces(io.BytesIO(f"<pdml>{''.join(packets)}</pdml>".encode()))
-    return [qpk_tshark.connect(number, pieces[number]) for number in sorted(pieces)]
+    pieces = qpk.tshark.read_pieces(io.BytesIO(f"<pdml>{''.join(packets)}</pdml>".encode()))
+    return [qpk.tshark.connect(number, pieces[number]) for number in sorted(pieces)]
 
 
 def lines(*packets):
@@ -164,19 +153,19 @@ def test_a_frame_in_pieces():
     """The time is linear in the pieces, of a frame that is skipped, and of one that is kept. No piece is kept in vain."""
     piece = bytes(100)
     for head, is_kept in (("01a0000000", False), ("21a0000000", False), ("0180100000", True)):
-        frames = qpk_streams.Frames()
+        frames = qpk.streams.Frames()
         assert not list(frames.take(bytes.fromhex(head)))
         assert_linear(lambda size, frames=frames: [list(frames.take(piece)) for _ in range(size)], 1000)
         assert (frames.parts is not None) == is_kept and frames.left
-    streams = qpk_streams.Streams()
+    streams = qpk.streams.Streams()
     assert_linear(lambda size: list(streams.take(">", size, 0, b"\x21\x00" * size)), 20_000)
 
 
 def test_a_section_that_is_too_long():
     """It is left out and reported, and what comes after it is read. A section of the most bytes is read."""
-    most = qpk_streams.MOST_PAYLOAD
+    most = qpk.streams.MOST_PAYLOAD
     for size, expected in ((most, [f"b 0 {bytes(most).hex()}", "b 0 0000d1"]), (most + 1, ["b 0 0000d1"])):
-        streams, data = qpk_streams.Streams(), b"\x01" + (0x80000000 | size).to_bytes(4, "big") + bytes(size)
+        streams, data = qpk.streams.Streams(), b"\x01" + (0x80000000 | size).to_bytes(4, "big") + bytes(size)
         pieces = [data[at : at + 65536] for at in range(0, len(data), 65536)] + [bytes.fromhex("01030000d1")]
         offsets = [sum(map(len, pieces[:at])) for at in range(len(pieces))]
         got = [it for at, piece in zip(offsets, pieces) for it in streams.take(">", 0, at, piece)]
@@ -189,7 +178,7 @@ def test_pieces_after_a_gap():
     """The time for many is linear, in either order, and they are read once the gap is closed."""
     for step in (1, -1):
         def fill(size):
-            stream = qpk_streams.Stream(0)
+            stream = qpk.streams.Stream(0)
             for offset in range(1, size + 1)[::step]:
                 assert not stream.receive(offset, b"a")
             assert stream.receive(0, b"a") == b"a" * (size + 1) and not stream.pieces and not stream.waiting
@@ -198,7 +187,7 @@ def test_pieces_after_a_gap():
 
 def test_too_much_after_a_gap():
     """More bytes than a stream keeps after a gap end it there, and none of them is kept."""
-    most, streams = qpk_streams.MOST_WAITING, qpk_streams.Streams()
+    most, streams = qpk.streams.MOST_WAITING, qpk.streams.Streams()
     for offset in range(10, most + 10, 1 << 20):
         assert not list(streams.take("<", 0, offset, bytes(1 << 20)))
     assert list(streams.gaps()) == ["< stream 0: bytes from 0 to 10 are missing"]
@@ -423,7 +412,7 @@ def test_files_that_are_missing():
     """A capture, a key log or a file of tshark that is not there gets one line, which names it."""
     keys = [CAPTURED / "chromium.pcapng", "--keys", "nowhere.log"]
     for words in (["nowhere.pcapng", "--keys", KEPT], keys, ["--pdml", "nowhere.pdml"]):
-        command = [TOP / "dist" / "qpk-capture", "show", *words]
+        command = [TOP / "tool" / "qpk-capture", "show", *words]
         ran = subprocess.run([*map(str, command)], stdout=subprocess.PIPE, stderr=subprocess.PIPE, encoding="utf-8")
         name = next(it for it in map(str, words) if it.startswith("nowhere"))
         assert (ran.returncode, ran.stdout) == (1, "")
@@ -438,7 +427,7 @@ def show_by(tshark):
         program.chmod(0o755)
         capture.write_bytes(bytes.fromhex("0a0d0d0a"))
         variables = {"TSHARK": str(program)}
-        command = [str(TOP / "dist" / "qpk-capture"), "show", "--by", "tshark", str(capture)]
+        command = [str(TOP / "tool" / "qpk-capture"), "show", "--by", "tshark", str(capture)]
         pipes = {"stdout": subprocess.PIPE, "stderr": subprocess.PIPE, "encoding": "utf-8"}
         ran = subprocess.run(command, env={**os.environ, **variables}, timeout=SECONDS, check=False, **pipes)
         return ran.returncode, re.sub(r"/\S*\.pcap\b", "a.pcap", ran.stderr)
@@ -458,7 +447,7 @@ def test_what_tshark_says():
 def test_chromium_by_tshark():
     """The lines of the capture are those that are kept."""
     if shutil.which("tshark"):
-        assert run(TOP / "dist" / "qpk-capture", "lines", CAPTURED / "chromium.pcapng") == KEPT.read_text("utf-8")
+        assert run(TOP / "tool" / "qpk-capture", "lines", CAPTURED / "chromium.pcapng") == KEPT.read_text("utf-8")
 
 
 def test_chromium():
@@ -483,7 +472,7 @@ def build():
 def main():
     """Runs all tests, over the program of dist/ if that can be built."""
     build()
-    return run_tests(globals(), "captures", "dist/qpk-capture")
+    return run_tests(globals(), "captures", "tool/qpk-capture")
 
 
 if __name__ == "__main__":

@@ -1,4 +1,4 @@
-"""Connections that tests make, or that are in tests/captured, as dist/qpk-capture reads them by libcrypto."""
+"""Connections that tests make, or that are in tests/captured, as tool/qpk-capture reads them by libcrypto."""
 import io
 import subprocess
 import tempfile
@@ -6,12 +6,12 @@ import tempfile
 from captures import CAPTURED, KEPT, PROGRAM, build
 from running import run_tests
 
-# These are in dist/, which captures.py puts into the path of modules.
-import qpk_files
-import qpk_libcrypto
-import qpk_source
-from qpk_findings import Marker
-from qpk_streams import SourceError
+# These are in tool/, which captures.py puts into the path of modules.
+import qpk.files
+import qpk.libcrypto
+import qpk.source
+from qpk.findings import Marker
+from qpk.streams import SourceError
 from sealed import Made, ip_packets, pcapng
 
 LINES = KEPT.read_text("utf-8").splitlines()[1:]
@@ -30,7 +30,7 @@ def read(data, keys=""):
     with tempfile.NamedTemporaryFile("w") as log:
         log.write(keys)
         log.flush()
-        return qpk_source.read_file(io.BytesIO(data), qpk_source.Wanted(log.name if keys else None))
+        return qpk.source.read_file(io.BytesIO(data), qpk.source.Wanted(log.name if keys else None))
 
 
 def words_of(connection):
@@ -85,16 +85,16 @@ def marker_of(connection):
 def packets_of(name):
     """Returns the type of the links of a capture, its packets and its key log."""
     secrets = []
-    capture = qpk_files.Capture(io.BytesIO((CAPTURED / name).read_bytes()), secrets.append)
+    capture = qpk.files.Capture(io.BytesIO((CAPTURED / name).read_bytes()), secrets.append)
     packets = list(capture.packets())
     return packets[0].link, [(it.time, it.data) for it in packets], "".join(secrets)
 
 
 def run_with_libcrypto(functions, name):
     """Runs the tests among functions, over the program of dist/ if that can be built. Returns the status."""
-    if qpk_libcrypto.Library.get() is None:
+    if qpk.libcrypto.Library.get() is None:
         print("not shown: captures by libcrypto, which is not installed")
         print(f"{name}: nothing was tested")
         return 0
     build()
-    return run_tests(functions, name, "dist/qpk-capture")
+    return run_tests(functions, name, "tool/qpk-capture")

@@ -41,8 +41,8 @@ COPIES = [
     ("rust/h3_qpack/generated", "dist", ["[!q]*-elf.s", "*-coff.s", "*-macho.s"]),
     ("rust/h3_qpack/tests", "c/tests", ["layout.txt"]),
     ("rust/h3_qpack/tests/data", "crates/qpack_tests/data", ["corpus.qif", "nghttp3_*.txt", "stateless_h3.tsv"]),
-    ("examples/http3-server/www", "dist/report", ["element.js", "qpack.css"]),
-    ("dist/tab", "examples/http3-server/www", ["qpack.js", "tables.js"]),
+    ("examples/http3-server/www", "tool/qpk/report", ["element.js", "qpack.css"]),
+    ("tool/qpk/tab", "examples/http3-server/www", ["qpack.js", "tables.js"]),
 ]
 
 

@@ -1,5 +1,5 @@
 #!/usr/bin/env python3
-"""Tests how dist/qpk-capture reads captures by libcrypto: whole ones, forms of files, links, logs, and why there is nothing.
+"""Tests how tool/qpk-capture reads captures by libcrypto: whole ones, forms of files, links, logs, and why there is nothing.
 
     tests/decrypted.py
 
@@ -25,8 +25,8 @@ from captures import CAPTURED, ENVIRONMENT, KEPT, SCRIPT, ask, ask_fork, logged,
 from connections import LINES, WHOLE, assert_whole, file_of, made, read, refusal, run_with_libcrypto
 from running import assert_linear, cost_of, shows_no_fault_of_a_script
 
-# These are in dist/, which captures.py puts into the path of modules.
-import qpk_datagrams
+# These are in tool/, which captures.py puts into the path of modules.
+import qpk.datagrams
 from sealed import CLIENT, SERVER, Made, checksum_free_ip, ip_packets, pcap, pcapng, udp
 
 
@@ -211,11 +211,11 @@ def test_fragments_that_never_end():
     part = bytes(8)
 
     def fill(size):
-        datagrams = qpk_datagrams.Datagrams()
+        datagrams = qpk.datagrams.Datagrams()
         for number in range(size):
             packet = checksum_free_ip(CLIENT[0], SERVER[0], part, 17, 0x2001 + number // 100 % 4096, number % 50_000)
             assert datagrams.of_packet(101, packet) is None
-            assert len(datagrams.fragmented) <= qpk_datagrams.MOST_FRAGMENTED
+            assert len(datagrams.fragmented) <= qpk.datagrams.MOST_FRAGMENTED
 
     assert_linear(fill, 4000)
 

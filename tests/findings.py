@@ -1,5 +1,5 @@
 #!/usr/bin/env python3
-"""Tests what dist/qpk-capture adds to the findings of qpk check: packets, filters, what follows, and lines for a terminal.
+"""Tests what tool/qpk-capture adds to the findings of qpk check: packets, filters, what follows, and lines for a terminal.
 
     tests/findings.py
 
@@ -20,8 +20,8 @@ from captures import CAPTURED, KEPT, PROGRAM, SCRIPT, ask, ask_fork, mutated
 from connections import file_of, packets_of, run_with_libcrypto
 from running import on_terminal, shows_no_fault_of_a_script
 
-# These are in dist/, which captures.py puts into the path of modules.
-from qpk_findings import Causes, marked, read_finding, read_printed
+# These are in tool/, which captures.py puts into the path of modules.
+from qpk.findings import Causes, marked, read_finding, read_printed
 from sealed import Made, ip_packets, pcapng
 
 INSERT = "3fe11f6294e7838c767f"  # the capacity 4096, and an insertion

@@ -1,9 +1,9 @@
 #!/usr/bin/env python3
-"""Tests dist/qpk-front, as ./qpk and make -C dist install have it: files, colours, and that the rest is the program's.
+"""Tests tool/qpk-front, as ./qpk and make -C dist install have it: files, colours, and that the rest is the program's.
 
     tests/front.py
 
-It installs dist/ in a folder for temporary files, by make and a C compiler. Without these nothing is tested, and the
+It installs dist/ and tool/ in a folder for temporary files, by make and a C compiler. Without these nothing is tested, and the
 last line says so. ./qpk is left out if the sources were changed. Else it ends with a line 'front: N tests .. passed',
 and with status 1 if a test failed.
 """
@@ -23,7 +23,8 @@ from running import shows_no_fault_of_a_script
 FOLDER = tempfile.TemporaryDirectory(prefix="h3-qpack-front-")  # which ends with the script
 ROOM = Path(FOLDER.name)
 INSTALLED = ROOM / "usr" / "bin" / "qpk"
-PROGRAM = ROOM / "usr" / "lib" / "h3_qpack" / "qpk"
+LIBEXEC = ROOM / "usr" / "lib" / "h3_qpack"
+PROGRAM = LIBEXEC / "dist" / "qpk"
 FRONTS = (TOP / "qpk", INSTALLED) if answers_at_once() else (INSTALLED,)
 CHROMIUM = TOP / "tests" / "captured" / "chromium.txt"
 BOLD, DIM, RED, YELLOW, PLAIN = (f"\x1b[{it}m" for it in (1, 2, 31, 33, 0))
@@ -373,7 +374,7 @@ def is_program(pid):
 
 def test_a_command_that_is_a_script():
     """report, open, stats and table go to their script, which has the program in a variable."""
-    script = PROGRAM.parent / "qpk-report"
+    script = LIBEXEC / "tool" / "qpk-report"
     kept = script.with_suffix(".kept")
     script.rename(kept)
     script.write_text('#!/bin/sh\necho "$QPK" "$@"\nexit 7\n')
@@ -392,11 +393,11 @@ def test_a_command_that_is_a_script():
 
 def test_no_program():
     """Without its program the front says so."""
-    status, output, said = run(TOP / "dist" / "qpk-front", "help", env={"PATH": os.environ["PATH"]})
+    status, output, said = run(TOP / "tool" / "qpk-front", "help", env={"PATH": os.environ["PATH"]})
     assert (status, output) == (3, b"") and b"in a clone run ./qpk" in said
     alone = ROOM / "alone" / "qpk"
     alone.parent.mkdir()
-    shutil.copy(TOP / "dist" / "qpk-front", alone)
+    shutil.copy(TOP / "tool" / "qpk-front", alone)
     assert run(alone, "help", timeout=60)[0] == 3
     assert run(alone, "help", env={**os.environ, "QPK_PROGRAM": str(INSTALLED)}) == run(INSTALLED, "help")
     status, _, said = run(INSTALLED, "show", "--qlog", CHROMIUM, env={"PATH": str(ROOM)})
@@ -409,7 +410,7 @@ def main():
         print(f"front: nothing was tested, as {missing_tool()} is not installed")
         return 0
     install(ROOM)
-    return run_tests(globals(), "front", "dist/qpk-front")
+    return run_tests(globals(), "front", "tool/qpk-front")
 
 
 if __name__ == "__main__":

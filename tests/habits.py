@@ -1,5 +1,5 @@
 #!/usr/bin/env python3
-"""Tests qpk strip, qpk tune, qpk show --follow, and qpk explain of a packet, by dist/qpk-capture.
+"""Tests qpk strip, qpk tune, qpk show --follow, and qpk explain of a packet, by tool/qpk-capture.
 
     tests/habits.py
 
@@ -19,14 +19,14 @@ from pathlib import Path
 
 from captures import CAPTURED, ENVIRONMENT, KEPT, PROGRAM, SCRIPT, ask, ask_fork, mutated
 from connections import file_of, made, read, run_with_libcrypto
-from running import assert_linear, shows_no_fault_of_a_script
+from running import TOP, assert_linear, shows_no_fault_of_a_script
 
-# These are in dist/, which captures.py puts into the path of modules.
-import qpk_follow
-import qpk_huffman
-import qpk_strip
-import qpk_tune
-from qpk_streams import Connection
+# These are in tool/, which captures.py puts into the path of modules.
+import qpk.follow
+import qpk.huffman
+import qpk.strip
+import qpk.tune
+from qpk.streams import Connection
 
 BUILT = tempfile.TemporaryDirectory()  # the library of dist/, if there is a compiler
 INSERT = "3fe11f6294e7838c767f"  # the capacity 4096, and the insertion of foo: bar
@@ -67,32 +67,32 @@ def test_the_huffman_code():
             found.append(ran.stdout[at + 12 : at + 12 + size])
         at += 12 + size
     for it, section in zip(order, found):
-        coded = qpk_huffman.encode(bytes([it, it, it]))
+        coded = qpk.huffman.encode(bytes([it, it, it]))
         assert section.endswith(bytes([0x80 | len(coded)]) + coded), (it, section.hex())
     for seed in range(500):
         data = bytes(random.Random(seed).choices(range(256), k=seed % 40))
-        assert qpk_huffman.decode(qpk_huffman.encode(data)) == data
+        assert qpk.huffman.decode(qpk.huffman.encode(data)) == data
     for data in (b"\xff", b"\0", b"\xff\xff\xff\xff", b"\x1e"):
-        assert qpk_huffman.decode(data) is None, data
+        assert qpk.huffman.decode(data) is None, data
     for size in range(1, 60):
-        for data in (qpk_strip.broken(bytes(size)), qpk_strip.broken(b"\xff" * size)):
-            assert qpk_huffman.decode(data) is None and qpk_huffman.has_end(data) == (size > 3 and data[0] == 0xFF), data
+        for data in (qpk.strip.broken(bytes(size)), qpk.strip.broken(b"\xff" * size)):
+            assert qpk.huffman.decode(data) is None and qpk.huffman.has_end(data) == (size > 3 and data[0] == 0xFF), data
 
 
 def test_lengths_of_values():
     """A value becomes another one of the same length, and of the same when it is coded. Equal ones become equal."""
-    values = qpk_strip.Values(b"key")
+    values = qpk.strip.Values(b"key")
     seen = {}
     for seed in range(2000):
         choice = random.Random(seed)
         data = choice.choice((bytes(range(256)), b"abcdefgh0123456789", b"^{}<`\\\0")) if seed % 3 else b"abc/=%20"
         value = bytes(choice.choices(data, k=choice.randrange(30)))
         other = values.other(value)
-        assert len(other) == len(value) and len(qpk_huffman.encode(other)) == len(qpk_huffman.encode(value)), value
+        assert len(other) == len(value) and len(qpk.huffman.encode(other)) == len(qpk.huffman.encode(value)), value
         assert seen.setdefault(value, other) == other and (len(value) < 4 or other != value)
     longer = [it for it in seen.values() if len(it) > 5]
     assert len(set(longer)) == len(longer)
-    again = qpk_strip.Values(b"other key")
+    again = qpk.strip.Values(b"other key")
     assert sum(again.other(it) == seen[it] for it in seen if len(it) > 5) == 0
 
 
@@ -108,7 +108,7 @@ def test_stripped_recordings():
             assert one.returncode == other.returncode and (command == "show" or one.stdout == other.stdout), path
         own, others = shown(before), shown(output)
         if path.suffix == ".pcapng":  # whose first line is a comment
-            assert [qpk_strip.without_values(it) for it in own] == [qpk_strip.without_values(it) for it in others]
+            assert [qpk.strip.without_values(it) for it in own] == [qpk.strip.without_values(it) for it in others]
         values = values_of(own)
         assert values and len(values) == len(values_of(others))
         pairs = set(zip(values, values_of(others)))
@@ -156,7 +156,7 @@ def test_hostile_recordings_to_strip():
             assert output == b"" and said.startswith(b"qpk-capture: "), (seed, said)
         seen.add(status)
     assert seen == {0, 1}
-    assert_linear(lambda size: list(qpk_strip.strip_lines(["> b 4 00005105" + "6162636465" * 9] * size, qpk_strip.Values(b""))), 400)
+    assert_linear(lambda size: list(qpk.strip.strip_lines(["> b 4 00005105" + "6162636465" * 9] * size, qpk.strip.Values(b""))), 400)
 
 
 def test_words_of_strip():
@@ -178,14 +178,14 @@ def test_advice():
     """The smallest capacity above which no other saves one part in a hundred is chosen, for the end that decodes."""
     tried = [{"capacity": at, "bytes": size} for at, size in ((0, 1000), (256, 700), (4096, 505), (16384, 500), (65536, 520))]
     counted = {"from": "client", "sections": 10, "section_bytes": 300, "encoder_stream_bytes": 250, "blocked_sections": 2}
-    lines = list(qpk_tune.advise({**counted, "tried": tried}))
+    lines = list(qpk.tune.advise({**counted, "tried": tried}))
     assert lines[0] == "the client: 10 lists took 550 bytes, sections and encoder stream"
     assert [it.endswith("  <") for it in lines[1:6]] == [False, False, True, False, False]
     assert lines[6] == "  set SETTINGS_QPACK_MAX_TABLE_CAPACITY to 4096 at the server, which decodes them."
     assert "saves 495 of the 1000 bytes" in lines[7] and lines[8].startswith("  2 of the 10 sections waited.")
-    lines = list(qpk_tune.advise({**counted, "from": "", "tried": [{"capacity": 0, "bytes": 9}, {"capacity": 256, "bytes": 12}]}))
+    lines = list(qpk.tune.advise({**counted, "from": "", "tried": [{"capacity": 0, "bytes": 9}, {"capacity": 256, "bytes": 12}]}))
     assert lines[-2] == "  set SETTINGS_QPACK_MAX_TABLE_CAPACITY to 0 at the peer, which decodes them: a table saves less than 1 %."
-    assert "nothing to encode again" in list(qpk_tune.advise({**counted, "sections": 0, "tried": tried}))[1]
+    assert "nothing to encode again" in list(qpk.tune.advise({**counted, "sections": 0, "tried": tried}))[1]
 
 
 def test_tune():
@@ -195,7 +195,7 @@ def test_tune():
         assert (status, output) == (1, b"") and said.startswith(b"qpk-capture: tune encodes by the library, which is not there"), said
         print("not shown: qpk tune, without a C compiler and make")
         return
-    capacities = ",".join(map(str, qpk_tune.CAPACITIES))
+    capacities = ",".join(map(str, qpk.tune.CAPACITIES))
     words = [SCRIPT.parent / "qpk-report", "stats", "--try", capacities, KEPT]
     stats = subprocess.run(words, capture_output=True, env=ENVIRONMENT, encoding="utf-8", check=True).stdout
     expected = re.findall(r"encoded again at capacity (\d+): (\d+) bytes", stats)
@@ -205,7 +205,7 @@ def test_tune():
     entry = {"request": {"url": "https://a.example/", "headers": [{"name": "Accept", "value": "text/html"}]}}
     status, output, said = ask("tune", "-", data=json.dumps({"log": {"entries": [entry] * 9}}).encode())
     assert output.startswith(b"connection 0, a.example\nthe client: 9 lists have 135 bytes of names and values\n"), (output, said)
-    assert (status, output.count(b" a list")) == (0, len(qpk_tune.CAPACITIES)), output
+    assert (status, output.count(b" a list")) == (0, len(qpk.tune.CAPACITIES)), output
 
 
 # ---- explain
@@ -294,7 +294,7 @@ def test_a_recording_that_grows():
 def test_what_is_new():
     """What the end of the input makes is not printed; what SETTINGS change is shown again; connections are named."""
     printed = []
-    follower = qpk_follow.Follower(str(PROGRAM), [], lambda data: [Connection(0, {}, data=data)])
+    follower = qpk.follow.Follower(str(PROGRAM), [], lambda data: [Connection(0, {}, data=data)])
     parts = [b"b 4 028010\ne 3fe11f62\n", b"e 94e7838c767f00\n", b"b 8 0000d1\n"]
     whole = b""
     for part in parts:
@@ -306,7 +306,7 @@ def test_what_is_new():
     follower.print_new(b"s 64 0\n" + whole, printed.append)
     assert b"".join(printed).startswith(b"settings: maximum capacity 64, blocked streams 0\n"), printed
     several = [[Connection(it, {"log": "x"}, [f"> b {4 * it} 0000d1"] * count) for it in range(2)] for count in (1, 2)]
-    follower = qpk_follow.Follower(str(PROGRAM), [], lambda data: several[int(data)])
+    follower = qpk.follow.Follower(str(PROGRAM), [], lambda data: several[int(data)])
     printed.clear()
     for count in (b"0", b"1"):
         follower.print_new(count, printed.append)
@@ -323,7 +323,7 @@ def test_words_of_follow():
     assert b"is not a file" in ask("show", "--follow", "/nowhere")[2]
     assert ask("check", "--follow", KEPT)[0] == 1
     with tempfile.NamedTemporaryFile() as file:
-        file.truncate(qpk_follow.MOST + 1)
+        file.truncate(qpk.follow.MOST + 1)
         status, output, said = ask("show", "--follow", file.name)
         assert (status, output) == (1, b"") and b"to which it is followed" in said, said
 
@@ -331,7 +331,7 @@ def test_words_of_follow():
 def main():
     """Builds the library, and runs all tests."""
     if shutil.which("cc") and shutil.which("make"):
-        subprocess.run(["make", "-s", "-C", str(SCRIPT.parent), f"BUILD={BUILT.name}"], check=True)
+        subprocess.run(["make", "-s", "-C", str(TOP / "dist"), f"BUILD={BUILT.name}"], check=True)
         ENVIRONMENT["H3_QPACK_LIBRARY"] = f"{BUILT.name}/libh3_qpack.so.0"
     return run_with_libcrypto(globals(), "habits")
 

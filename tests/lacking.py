@@ -1,5 +1,5 @@
 #!/usr/bin/env python3
-"""Tests what dist/qpk-capture says of what a capture lacks, and which findings that may explain.
+"""Tests what tool/qpk-capture says of what a capture lacks, and which findings that may explain.
 
     tests/lacking.py
 
@@ -19,10 +19,10 @@ from connections import LINES, WHOLE, WORDS, assert_whole, file_of, made, marker
 from connections import words_of
 from running import TOP
 
-# These are in dist/, which captures.py puts into the path of modules.
-import qpk_seen
-import qpk_source
-from qpk_lines import ENDS
+# These are in tool/, which captures.py puts into the path of modules.
+import qpk.seen
+import qpk.source
+from qpk.lines import ENDS
 from sealed import CLIENT, SERVER, Made, ack_frame, ip_packets, pcapng
 
 
@@ -145,7 +145,7 @@ def test_a_start_in_the_middle():
 
 def test_which_findings_are_perhaps():
     """What is missing explains some findings, and others not; without a gap each is certain."""
-    whole = qpk_seen.SeenOfEnd()
+    whole = qpk.seen.SeenOfEnd()
     gap, none = whole._replace(missing=[(1, 1)]), whole._replace(has_settings=False)
     missing = {"nothing": (whole, whole), "client": (gap, whole), "server": (whole, gap), "limits": (whole, none)}
     for lines, explained in (
@@ -170,8 +170,8 @@ def test_which_findings_are_perhaps():
     ):
         for name, (client, server) in missing.items():
             for is_late in (False, True):
-                connection = qpk_source.Connection(0, {}, lines.split("\n"))
-                connection.seen = qpk_seen.Seen({">": client, "<": server}, is_late)
+                connection = qpk.source.Connection(0, {}, lines.split("\n"))
+                connection.seen = qpk.seen.Seen({">": client, "<": server}, is_late)
                 marker, printed, status = marker_of(connection)
                 assert marker.certain + marker.explained == 1, (lines, printed)
                 late = is_late and bool(explained) and ("client" in explained)
@@ -249,7 +249,7 @@ def test_statuses_and_colours():
             seen = b"packets: client %d of %d, server 3 of 3; not in the file: client 0" % (count, count + 1)
             assert output.splitlines()[1] == seen, output
             assert status == expected and output.count(b"\nperhaps: line ") == 1, output
-            front = [TOP / "dist" / "qpk-front", "check", path, "--color=always"]
+            front = [TOP / "tool" / "qpk-front", "check", path, "--color=always"]
             ran = subprocess.run(front, capture_output=True, env={**os.environ, "QPK_PROGRAM": str(PROGRAM)}, check=False)
             assert ran.returncode == expected and b"\x1b[33mit waits for" in ran.stdout, ran
             assert (b"\x1b[31mstatic index" in ran.stdout) == (expected == 1), ran

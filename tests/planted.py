@@ -15,9 +15,9 @@ from captures import CAPTURED, PROGRAM
 from connections import read, run_with_libcrypto
 from running import TOP
 
-# These are in dist/, which captures.py puts into the path of modules.
-from qpk_findings import Causes, read_finding
-from qpk_lines import ENDS, MARKS, PEER, pieces_of_lines
+# These are in tool/, which captures.py puts into the path of modules.
+from qpk.findings import Causes, read_finding
+from qpk.lines import ENDS, MARKS, PEER, pieces_of_lines
 
 TABLE = TOP / "tests" / "planted" / "faults.tsv"
 COLUMNS = ("fault", "recording", "where", "end", "subject", "byte", "section", "code", "cause")

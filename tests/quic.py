@@ -1,5 +1,5 @@
 #!/usr/bin/env python3
-"""Tests how dist/qpk-capture reads packets of QUIC by libcrypto: keys, versions, connection IDs, and hostile peers.
+"""Tests how tool/qpk-capture reads packets of QUIC by libcrypto: keys, versions, connection IDs, and hostile peers.
 
     tests/quic.py
 
@@ -16,19 +16,19 @@ from connections import LINES, WORDS, assert_whole, file_of, joined, made, read,
 from running import assert_linear
 from slowness import measure_slowness
 
-# These are in dist/, which captures.py puts into the path of modules.
-import qpk_datagrams
-import qpk_keys
-import qpk_libcrypto
-import qpk_quic
-import qpk_reader
-import qpk_strangers
-from qpk_streams import SourceError
+# These are in tool/, which captures.py puts into the path of modules.
+import qpk.datagrams
+import qpk.keys
+import qpk.libcrypto
+import qpk.quic
+import qpk.reader
+import qpk.strangers
+from qpk.streams import SourceError
 from sealed import CLIENT, SERVER, Made, ack_frame, crypto_frame, ip_packets, pcapng, stream_frame
 
 RFC_9001 = "8394c8f03e515708"  # the client's connection ID in its appendix A, and in that of RFC 9369
-SUITES = qpk_libcrypto.ALL
-VERSIONS = (qpk_keys.VERSION_1, qpk_keys.VERSION_2)
+SUITES = qpk.libcrypto.ALL
+VERSIONS = (qpk.keys.VERSION_1, qpk.keys.VERSION_2)
 
 
 def test_vectors_of_the_standards():
@@ -37,19 +37,19 @@ def test_vectors_of_the_standards():
         (0, "1f369613dd76d5467730efcbe3b1a22d", "fa044b2f42a3fd3b46fb255c", "9f50449e04a0e810283a1e9933adedd2"),
         (1, "8b1a0bc121284290a29e0971b5cd045d", "91f73e2351d8fa91660e909f", "45b95e15235d6f45a6b19cbcb0294ba9"),
     ):
-        secret = qpk_keys.initial_secrets(VERSIONS[version], bytes.fromhex(RFC_9001))[">"]
-        keys = qpk_keys.Keys(secret, qpk_libcrypto.AES_128, VERSIONS[version])
+        secret = qpk.keys.initial_secrets(VERSIONS[version], bytes.fromhex(RFC_9001))[">"]
+        keys = qpk.keys.Keys(secret, qpk.libcrypto.AES_128, VERSIONS[version])
         derived = [keys.derive(secret, label, size).hex() for label, size in ((b" key", 16), (b" iv", 12), (b" hp", 16))]
         assert derived == [key, iv, mask_key], version
     secret = bytes(range(48))  # of the suite that has no vector there: its hash is that of RFC 8446, appendix B.4
-    keys = qpk_keys.Keys(secret, qpk_libcrypto.AES_256, qpk_keys.VERSION_1)
+    keys = qpk.keys.Keys(secret, qpk.libcrypto.AES_256, qpk.keys.VERSION_1)
     info = b"\0\x20\x0etls13 quic key\0\1"
     assert keys.derive(secret, b" key", 32) == hmac.new(secret, info, "sha384").digest()[:32]
     secret = bytes.fromhex("9ac312a7f877468ebe69422748ad00a15443f18203a07d6060f688f30f21632b")
     for version, packet in enumerate(
         ("4cfe4189655e5cd55c41f69080575d7999c25a5bfb", "5558b1c60ae7b6b932bc27d786f4bc2bb20f2162ba")
     ):
-        keys = qpk_keys.Keys(secret, qpk_libcrypto.CHACHA20, VERSIONS[version])
+        keys = qpk.keys.Keys(secret, qpk.libcrypto.CHACHA20, VERSIONS[version])
         keys.largest = 654360563
         opened = keys.open(bytes.fromhex(packet), 0, 1, (21,))
         assert opened and (opened.number, opened.payload) == (654360564, b"\1"), version
@@ -64,7 +64,7 @@ def test_packet_numbers_that_are_written_in_part():
         (0x80, 1, -1, 0x80),
         (0, 4, (1 << 32) - 1, 1 << 32),
     ):
-        assert qpk_keys.whole_number(written, size, largest) == whole, (written, size, largest)
+        assert qpk.keys.whole_number(written, size, largest) == whole, (written, size, largest)
 
 
 def test_a_retry_of_the_standards():
@@ -75,7 +75,7 @@ def test_a_retry_of_the_standards():
             "cf6b3343cf0008f067a5502a4262b5746f6b656ec8646ce8bfe33952d955543665dcc7b6",
         )
     ):
-        header = qpk_quic.read_long_header(bytes.fromhex(packet), 0)
+        header = qpk.quic.read_long_header(bytes.fromhex(packet), 0)
         assert (header.version, header.kind, header.source.hex()) == (VERSIONS[version], "retry", "f067a5502a4262b5")
 
 
@@ -84,8 +84,8 @@ def test_suites_and_versions():
     for suite in SUITES:
         for version in VERSIONS:
             assert_whole(made(suite=suite, version=version))
-    connection = Made(version=qpk_keys.VERSION_2)
-    connection.send(">", connection.initial(">", crypto_frame(connection.hello()), qpk_keys.VERSION_1))
+    connection = Made(version=qpk.keys.VERSION_2)
+    connection.send(">", connection.initial(">", crypto_frame(connection.hello()), qpk.keys.VERSION_1))
     connection.send("<", connection.initial("<", crypto_frame(b"\2\0\0\0")))
     assert_whole(connection.take(LINES))
     for version in VERSIONS:
@@ -271,33 +271,33 @@ def test_bounds_of_a_hostile_capture():
     """Many connections, packets without keys and strangers: the time is linear, and tables keep to their bounds."""
     connection = made()
     junk = [b"\x41" + bytes([it % 256, it // 256]) + bytes(40) for it in range(3000)]
-    log = qpk_keys.KeyLog()
+    log = qpk.keys.KeyLog()
     log.learn("".join(Made(name=str(it)).keys() for it in range(50)))
     begin = time.process_time()
-    reader = qpk_reader.Reader(log)
+    reader = qpk.reader.Reader(log)
     for at, data in enumerate(junk):
-        reader.read(at, qpk_datagrams.Datagram((bytes(4), at % 900), (bytes(4), 443), data, False))
+        reader.read(at, qpk.datagrams.Datagram((bytes(4), at % 900), (bytes(4), 443), data, False))
     reader.finish()
-    assert reader.room.tries <= qpk_strangers.MOST_TRIES + 64 * 50
+    assert reader.room.tries <= qpk.strangers.MOST_TRIES + 64 * 50
     assert time.process_time() - begin < 20 * measure_slowness()
 
     def many(size):
-        reader = qpk_reader.Reader(qpk_keys.KeyLog())
+        reader = qpk.reader.Reader(qpk.keys.KeyLog())
         for number in range(size):
             it = Made(name=str(number))
             data = it.initial(">", crypto_frame(it.hello()))
-            reader.read(number, qpk_datagrams.Datagram((bytes(4), number), (bytes(4), 443), data, False))
+            reader.read(number, qpk.datagrams.Datagram((bytes(4), number), (bytes(4), 443), data, False))
         reader.finish()
 
     assert_linear(many, 60)
 
     def one(size):
         (connection,) = [Made().begin()]
-        reader = qpk_reader.Reader(log)
+        reader = qpk.reader.Reader(log)
         for when, source, target, data in connection.datagrams:
-            reader.read(when, qpk_datagrams.Datagram(source, target, data, False))
+            reader.read(when, qpk.datagrams.Datagram(source, target, data, False))
         for number in range(size):
-            reader.read(number, qpk_datagrams.Datagram(CLIENT, SERVER, b"\x41serverid" + bytes(60), False))
+            reader.read(number, qpk.datagrams.Datagram(CLIENT, SERVER, b"\x41serverid" + bytes(60), False))
 
     assert_linear(one, 400)
 
@@ -308,15 +308,15 @@ def test_tries_have_a_bound():
     for number in range(20):
         connection.send("<", connection.packet("<", b"\1" + bytes(number)))
         connection.send("<", b"\x41" + bytes(1600))
-    most, qpk_strangers.MOST_TRIES = qpk_strangers.MOST_TRIES, 1000
+    most, qpk.strangers.MOST_TRIES = qpk.strangers.MOST_TRIES, 1000
     try:
-        log = qpk_keys.KeyLog()
+        log = qpk.keys.KeyLog()
         log.learn(connection.keys())
-        reader = qpk_reader.Reader(log)
+        reader = qpk.reader.Reader(log)
         for when, source, target, data in connection.datagrams:
-            reader.read(when, qpk_datagrams.Datagram(source, target, data, False))
+            reader.read(when, qpk.datagrams.Datagram(source, target, data, False))
     finally:
-        qpk_strangers.MOST_TRIES = most
+        qpk.strangers.MOST_TRIES = most
     assert 1000 < reader.room.tries < 1200, reader.room.tries
     assert reader.connections[0].seen["<"].count() == 20 and reader.connections[0].unread["<"] == 20
 
@@ -325,8 +325,8 @@ def test_a_payload_that_is_too_long():
     """A net log may have a datagram that is longer than UDP allows: its packet is not opened."""
     connection = Made()
     sealer = connection.sealers[">"]
-    keys = qpk_keys.Keys(connection.secrets[">"], connection.suite, connection.version)
-    for size, is_open in ((qpk_libcrypto.MOST_PAYLOAD - 8, True), (qpk_libcrypto.MOST_PAYLOAD + 1, False), (1 << 22, False)):
+    keys = qpk.keys.Keys(connection.secrets[">"], connection.suite, connection.version)
+    for size, is_open in ((qpk.libcrypto.MOST_PAYLOAD - 8, True), (qpk.libcrypto.MOST_PAYLOAD + 1, False), (1 << 22, False)):
         packet = sealer.short(0, b"", bytes(size))
         assert (keys.open(packet, 0, 1, (len(packet),)) is not None) == is_open, size
 
@@ -336,7 +336,7 @@ def test_packet_numbers():
     for seed in range(200):
         choice, sets = random.Random(seed), []
         for _ in range(2):
-            numbers, expected = qpk_quic.Numbers(), set()
+            numbers, expected = qpk.quic.Numbers(), set()
             for _ in range(choice.randrange(12)):
                 first = choice.randrange(40)
                 last = first + choice.randrange(6)
@@ -346,10 +346,10 @@ def test_packet_numbers():
             sets.append((numbers, expected))
         (one, first), (other, second) = sets
         assert {it for begin, end in one.without(other) for it in range(begin, end + 1)} == first - second
-    numbers = qpk_quic.Numbers()
-    for it in range(3 * qpk_quic.MOST_RANGES):
+    numbers = qpk.quic.Numbers()
+    for it in range(3 * qpk.quic.MOST_RANGES):
         numbers.add(2 * it, 2 * it)
-    assert len(numbers.firsts) <= qpk_quic.MOST_RANGES and numbers.lasts == sorted(numbers.lasts)
+    assert len(numbers.firsts) <= qpk.quic.MOST_RANGES and numbers.lasts == sorted(numbers.lasts)
 
 
 def test_many_requests():

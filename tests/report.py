@@ -1,5 +1,5 @@
 #!/usr/bin/env python3
-"""Tests dist/qpk-report: the numbers of a recorded connection, its tables, and the data of the page.
+"""Tests tool/qpk-report: the numbers of a recorded connection, its tables, and the data of the page.
 
     tests/report.py
 
@@ -25,15 +25,15 @@ from unittest import mock
 from running import FORMED, PLAIN, TOP, are_linear, assert_linear, can_decrypt, cost_of, run_tests, shows_no_fault_of_a_script
 
 sys.dont_write_bytecode = True
-sys.path[:0] = [str(TOP / "dist"), str(TOP / "tests" / "browsers")]
-from qpk_lines import pieces_of_lines  # noqa: E402 # pylint: disable=wrong-import-position
-from report.columns import Columns, Texts  # noqa: E402 # pylint: disable=wrong-import-position
-from report.connection import Finder, Reading  # noqa: E402 # pylint: disable=wrong-import-position
-from report.lines import shown_form  # noqa: E402 # pylint: disable=wrong-import-position
-from report.page import PageMaker, left_out  # noqa: E402 # pylint: disable=wrong-import-position
-from report.recording import Recording, Source, read_recordings  # noqa: E402 # pylint: disable=wrong-import-position
+sys.path[:0] = [str(TOP / "tool"), str(TOP / "tests" / "browsers")]
+from qpk.lines import pieces_of_lines  # noqa: E402 # pylint: disable=wrong-import-position
+from qpk.report.columns import Columns, Texts  # noqa: E402 # pylint: disable=wrong-import-position
+from qpk.report.connection import Finder, Reading  # noqa: E402 # pylint: disable=wrong-import-position
+from qpk.report.lines import shown_form  # noqa: E402 # pylint: disable=wrong-import-position
+from qpk.report.page import PageMaker, left_out  # noqa: E402 # pylint: disable=wrong-import-position
+from qpk.report.recording import Recording, Source, read_recordings  # noqa: E402 # pylint: disable=wrong-import-position
 import large  # noqa: E402 # pylint: disable=wrong-import-position
-import qpk_source  # noqa: E402 # pylint: disable=wrong-import-position
+import qpk.source  # noqa: E402 # pylint: disable=wrong-import-position
 
 CAPTURED = TOP / "tests" / "captured"
 RECORDING = CAPTURED / "chromium.txt"
@@ -56,7 +56,7 @@ PACKET = """<packet><field name="frame.time_relative" show="1"/><field name="ip.
 def start(*words, text=None, cwd=None, **variables):
     """Runs the script, with a text as its input, and returns its status, its output and its faults."""
     ran = subprocess.run(
-        [sys.executable, str(TOP / "dist" / "qpk-report"), *map(str, words)],
+        [sys.executable, str(TOP / "tool" / "qpk-report"), *map(str, words)],
         input=None if text is None else text.encode("latin-1"),
         stdout=subprocess.PIPE,
         stderr=subprocess.PIPE,
@@ -261,7 +261,7 @@ def cost_of_report(*words, text):
     with tempfile.TemporaryFile() as recording, tempfile.TemporaryFile() as output:
         recording.write(text.encode())
         recording.seek(0)
-        command = [sys.executable, str(TOP / "dist" / "qpk-report"), *words, "-"]
+        command = [sys.executable, str(TOP / "tool" / "qpk-report"), *words, "-"]
         seconds, memory = cost_of(command, recording, output, env={**os.environ, "QPK": QPK})
         output.seek(0)
         return seconds, memory, output.read().decode()
@@ -319,11 +319,11 @@ def test_a_capture_is_decrypted_once():
     """For a page, with what check says of it; and each connection is a recording as lines prints it."""
     if not can_decrypt():
         return
-    with mock.patch.object(qpk_source, "read_capture", wraps=qpk_source.read_capture) as read:
+    with mock.patch.object(qpk.source, "read_capture", wraps=qpk.source.read_capture) as read:
         (recording,) = read_recordings(Source(str(CAPTURED / "chromium.pcapng")))
         _, html = calls_of_page(recording)
     assert read.call_count == 1 and data_of(html)["connections"][0]["verdict"]["seen"].startswith("packets: client ")
-    words = [sys.executable, TOP / "dist" / "qpk-capture", "lines", CAPTURED / "chromium.pcapng"]
+    words = [sys.executable, TOP / "tool" / "qpk-capture", "lines", CAPTURED / "chromium.pcapng"]
     printed = subprocess.run(words, stdout=subprocess.PIPE, check=True).stdout
     assert printed == b"# %b\n%b" % (recording.name.encode(), recording.data)
 
@@ -473,7 +473,7 @@ def test_the_verdict_of_a_capture():
     status, html, said = start("report", capture)
     assert status == 2 and "qpk-capture: connection 0: packets: client 161 of " in said and "stream 2: bytes from 0 to " in said
     (connection,) = data_of(html)["connections"]
-    printed = subprocess.run([TOP / "dist" / "qpk-capture", "check", capture], env={**os.environ, "QPK": QPK},
+    printed = subprocess.run([TOP / "tool" / "qpk-capture", "check", capture], env={**os.environ, "QPK": QPK},
                              capture_output=True, encoding="utf-8", check=False).stdout.splitlines()
     check(connection["verdict"], certain=0, explained=len(printed) - 2, seen=printed[1], lacks=True)
     assert all(it["perhaps"] for it in connection["faults"])
@@ -606,7 +606,7 @@ def test_no_traceback():
         wide, wider = Path(room) / "wide", Path(room) / "wider"
         for path, lines in ((wide, 180_000), (wider, 400_000)):
             path.write_text("b 4 0000" + "d1" * lines + "\n", encoding="utf-8")
-        script = TOP / "dist" / "qpk-report"
+        script = TOP / "tool" / "qpk-report"
         for command, reason in (
             (f"ulimit -v 70000; exec {script} stats {wide}", "refused: memory"),
             (f"exec {script} stats {wider}", "a section is too large: over 200000 lines, or 64 MB as JSON; read it by qpk show"),
@@ -668,7 +668,7 @@ def main():
         subprocess.run(["make", "-s", "-C", str(TOP / "dist"), f"BUILD={BUILT.name}"], check=True)
     os.environ["QPK"] = QPK  # for the modules that tests call
     gc.disable()  # as the script does
-    return run_tests(globals(), "report", "dist/qpk-report", at_once=3)
+    return run_tests(globals(), "report", "tool/qpk-report", at_once=3)
 
 
 if __name__ == "__main__":

@@ -12,7 +12,7 @@ from pathlib import Path
 
 CONTROLS = re.compile(rb"[\x00-\x08\x0b-\x1f\x7f]|\xc2[\x80-\x9f]")  # in UTF-8, but for TAB and line feed
 TOP = Path(__file__).resolve().parent.parent
-# A recording in plain lines, and the same in the other forms of a line that qpk takes (dist/qpk.1).
+# A recording in plain lines, and the same in the other forms of a line that qpk takes (tool/qpk.1).
 PLAIN = (
     "\n\n\n> e 3f2d\n@1.5 > e 6294e7838c767f\n@<b < d\n@\xe9 > b 4 020080\n> b 8 020080\n@<e < d 84\n> b 12 0000d1\n"
     "< d 88\n> b 16 0200d1f"

@@ -3,9 +3,9 @@ import ctypes
 import hashlib
 import struct
 
-# captures.py puts dist/ into the path of modules.
-from qpk_keys import EARLY, INITIAL, RETRY, VERSION_1, expand, initial_secrets
-from qpk_libcrypto import AES_128, AES_128_CCM, AES_256, CHACHA20, Library
+# captures.py puts tool/ into the path of modules.
+from qpk.keys import EARLY, INITIAL, RETRY, VERSION_1, expand, initial_secrets
+from qpk.libcrypto import AES_128, AES_128_CCM, AES_256, CHACHA20, Library
 
 CLIENT, SERVER = (bytes([10, 0, 0, 1]), 50000), (bytes([10, 0, 0, 2]), 443)
 SECRET_NAMES = {">": "CLIENT_TRAFFIC_SECRET_0", "<": "SERVER_TRAFFIC_SECRET_0", EARLY: "CLIENT_EARLY_TRAFFIC_SECRET"}

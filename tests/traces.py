@@ -1,5 +1,5 @@
 #!/usr/bin/env python3
-"""Tests the traces in qlog that dist/qpk-capture reads and writes.
+"""Tests the traces in qlog that tool/qpk-capture reads and writes.
 
     tests/traces.py
 
@@ -16,8 +16,8 @@ from pathlib import Path
 from running import FORMED, PLAIN, TOP, answers_at_once, assert_linear, install, missing_tool, run_tests
 
 sys.dont_write_bytecode = True
-sys.path.insert(0, str(TOP / "dist"))
-import qpk_qlog  # noqa: E402 # pylint: disable=wrong-import-position
+sys.path.insert(0, str(TOP / "tool"))
+import qpk.qlog  # noqa: E402 # pylint: disable=wrong-import-position
 
 QLOG = TOP / "tests" / "qlog"
 CHROMIUM = TOP / "tests" / "captured" / "chromium.txt"
@@ -36,7 +36,7 @@ def run(*words, data=""):
 
 def lines_of(path):
     """Returns the lines that a trace is, and what is missing in it."""
-    status, output, said = run(TOP / "dist" / "qpk-capture", "lines", path)
+    status, output, said = run(TOP / "tool" / "qpk-capture", "lines", path)
     assert status == 0, said
     return output.splitlines(), said.splitlines()
 
@@ -243,7 +243,7 @@ def test_refused_files():
         ('{"trace":{}}\n{"time":0,"name":"qpack:headers_decoded","data":{"raw":"0000"}}', "has no bytes of QPACK: "),
         ('{"qlog_version":"0.3","traces":[]}', "has no bytes of QPACK: "),
     ):
-        status, output, said = run(TOP / "dist" / "qpk-capture", "show", "-", data=text)
+        status, output, said = run(TOP / "tool" / "qpk-capture", "show", "-", data=text)
         assert (status, output) == (1, "") and reason in said, said
 
 
@@ -252,7 +252,7 @@ def test_nesting():
     deep = "[" * 200_000
     for text in (f'{{"traces":{deep}', f'{{"trace":{{}}}}\n{deep}\n{{}}\n', f'\x1e{{"a":{deep}'):
         said = "qpk-capture: the input is nested too deeply: name a trace, a capture or a recording\n"
-        assert run(TOP / "dist" / "qpk-capture", "show", "-", data=text) == (1, "", said)
+        assert run(TOP / "tool" / "qpk-capture", "show", "-", data=text) == (1, "", said)
 
 
 def test_what_is_left_out():
@@ -274,7 +274,7 @@ def test_limits_come_once():
 
     def read(size):
         trace = json.dumps({"traces": [{"events": sections * size + limits * size}]})
-        (connection,) = qpk_qlog.connections_of_records(qpk_qlog.read_records(trace))
+        (connection,) = qpk.qlog.connections_of_records(qpk.qlog.read_records(trace))
         assert [it for it in connection.lines if " s " in it] == ["@0.000000 < s 1 0"]
 
     assert_linear(read, 1000)
@@ -410,7 +410,7 @@ def main():
         return 0
     if not IS_QUICK:
         install(ROOM)
-    return run_tests(globals(), "traces", "dist/qpk-capture")
+    return run_tests(globals(), "traces", "tool/qpk-capture")
 
 
 if __name__ == "__main__":

@@ -14,9 +14,9 @@ import sys
 from connections import run_with_libcrypto
 from planted import KINDS, NEW_STREAM, TABLE, ask, findings_of, integer, lines_of, section
 
-# This is in dist/, which captures.py puts into the path of modules.
-from qpk_findings import Causes
-from qpk_lines import ENDS
+# This is in tool/, which captures.py puts into the path of modules.
+from qpk.findings import Causes
+from qpk.lines import ENDS
 
 VERDICTS = TABLE.with_name("verdicts.tsv")
 COLUMNS = ("fault", "recording", "end", "subject", "byte", "rule", "code", "cause")

@@ -80,13 +80,13 @@ def list_files():
     patterns = {
         prose_of_markdown: [
             "*.md", "docs/*.md", "docs/dev/*.md", "dist/README.md", "rust/README.md", "c/README.md", "crates/README.md",
-            "include/README.md", "tests/*.md", "bindings/README.md", "bindings/*/README.md", "examples/README.md",
+            "include/README.md", "tool/README.md", "tests/*.md", "bindings/README.md", "bindings/*/README.md", "examples/README.md",
             "examples/*/README.md",
         ],
         prose_of_c: ["include/h3_qpack.h"],
         prose_of_rust: ["rust/h3_qpack/src/**/*.rs"],
         prose_of_help: ["crates/qpk/src/usage.rt"],
-        prose_of_manual: ["dist/qpk.1"],
+        prose_of_manual: ["tool/qpk.1"],
         prose_of_rattle: ["crates/*/src/**/*.rt", "crates/*/specs/**/*.antt"],
     }
     found = [(path, prose) for prose, globs in patterns.items() for it in globs for path in sorted(TOP.glob(it))]

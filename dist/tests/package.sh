@@ -76,9 +76,9 @@ try_qpk() {
 # The manual page and the completions are where man, bash and zsh look.
 check_files() {
     local share=$root/usr/share
-    zcat "$share/man/man1/qpk.1.gz" | cmp - ../qpk.1 &&
-        cmp "$share/bash-completion/completions/qpk" ../completions/qpk.bash &&
-        cmp "$share/zsh/vendor-completions/_qpk" ../completions/_qpk
+    zcat "$share/man/man1/qpk.1.gz" | cmp - ../../tool/qpk.1 &&
+        cmp "$share/bash-completion/completions/qpk" ../../tool/completions/qpk.bash &&
+        cmp "$share/zsh/vendor-completions/_qpk" ../../tool/completions/_qpk
 }
 
 # The copyright of each package has the notices of the licence.

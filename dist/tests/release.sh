@@ -55,7 +55,12 @@ build_here() {
         (cd "$dist/build" && tail -n +2 "$made/BUILDS" | sha256sum --check --strict)
 }
 
-# The same in a system of its own, by a user who is not root.
+# The command qpk is there with its tool.
+run_qpk() {
+    echo 'b 4 0000d1' | "$room/unpacked/h3_qpack-$version/qpk" stats - | grep -x '  sections  *1; fields in them 1'
+}
+
+# The same build in a system of its own, by a user who is not root.
 build_there() {
     local home=$system/home/unpacker
     rm -rf --one-file-system "$home" && mkdir -p "$home" && tar -C "$home" -xzf "$made/h3_qpack-$version.tar.gz" &&
@@ -96,6 +101,7 @@ try "verify the signature and the sums" verify
 try "find what was changed" find_changes
 try "refuse other versions" refuse_versions
 try "unpack, build and compare" build_here
+try "run qpk" run_qpk
 try "the list of contents" compare_contents
 [ -z "$system" ] || try "unpack, build and compare in $system" build_there
 tell_count

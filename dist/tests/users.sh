@@ -61,13 +61,21 @@ uninstall() {
         make -s -C "$dist" "${words[@]}" install && [ -x "$room/a package/p/bin/qpk" ] &&
         make -s -C "$dist" "${words[@]}" uninstall &&
         [ "$(cd "$room/a package" && find . ! -type d)" = ./p/lib/other ] &&
-        [ -z "$(find "$room/a package" -name '*h3_qpack*' -o -name report)" ]
+        [ -z "$(find "$room/a package" -name '*h3_qpack*' -o -name tool)" ]
 }
 
 # A copy of dist/ alone has all that make check needs, in a folder with a blank too.
 check_alone() {
     mkdir "$room/a folder" && tar -C "$dist" --exclude=./build -cf - . | tar -C "$room/a folder" -xf - &&
         make -s -C "$room/a folder" check
+}
+
+# Without the tool it installs the program as qpk, and removes it again.
+install_alone() {
+    local words=(-s -C "$room/a folder" PREFIX="$room/alone")
+    make "${words[@]}" install && cmp "$room/a folder/build/qpk" "$room/alone/bin/qpk" && [ ! -e "$room/alone/lib/h3_qpack" ] &&
+        [ "$(printf ':method\tGET\n' | "$room/alone/bin/qpk" encode)" = 0000d1 ] &&
+        make "${words[@]}" uninstall && [ -z "$(find "$room/alone" ! -type d -o -name '*h3_qpack*')" ]
 }
 
 # Installs by make, and builds the project of pkg-config.
@@ -88,7 +96,7 @@ use_qpk() {
 use_qpk_elsewhere() {
     make -s -C "$dist" BUILD="$room/make.build" DESTDIR="$room/package" PREFIX="$room/p" BINDIR="$room/p/b" LIBEXECDIR="$room/p/x" \
         install && mv "$room/package$room/p" "$room/p" && [ "$("$room/p/b/qpk" explain 84 --decoder-stream)" ] &&
-        readlink "$room/p/b/qpk-capture" | grep -x "$room/p/x/qpk-capture"
+        readlink "$room/p/b/qpk-capture" | grep -x "$room/p/x/tool/qpk-capture"
 }
 
 # The same with the static library alone.
@@ -150,6 +158,7 @@ bits='no assembly for .* with pointers of 32 bits .* compile for 64 bits, for a 
 static='no shared library can be linked with -static: '
 if has cc make; then
     try "make check in a copy of dist/ alone" check_alone
+    try "make install in a copy of dist/ alone" install_alone
     try "make uninstall" uninstall
     for flags in LDFLAGS=-static LDFLAGS=-pie 'CFLAGS=-O1 -fsanitize=address,undefined' 'CFLAGS=-O2 -g -flto'; do
         try "make $flags" build_make "$flags"

@@ -10,7 +10,7 @@ from browsers import GIVEN_UP
 from nghttp3 import Failure
 
 TOP = os.path.join(os.path.dirname(os.path.abspath(__file__)), '..', '..')
-QPK, LINES = os.path.join(TOP, 'qpk'), os.path.join(TOP, 'dist', 'qpk-capture')
+QPK, LINES = os.path.join(TOP, 'qpk'), os.path.join(TOP, 'tool', 'qpk-capture')
 
 
 def is_possible():

@@ -79,11 +79,11 @@ def check_waterfall(pages):
 
 def check_packets(pages):
     """The requests and the events of a capture have the numbers of its packets, which a recording has not."""
-    sys.path.insert(0, str(TOP / 'dist'))
-    import qpk_source  # pylint: disable=import-outside-toplevel # which is there with dist/ alone
+    sys.path.insert(0, str(TOP / 'tool'))
+    import qpk.source  # pylint: disable=import-outside-toplevel # which is there with tool/ alone
     capture = TOP / 'tests' / 'captured' / 'chromium.pcapng'
     with open(capture, 'rb') as file:
-        (connection,) = qpk_source.read_file(file, qpk_source.Wanted())
+        (connection,) = qpk.source.read_file(file, qpk.source.Wanted())
     page = pages.open(pages.run(capture))
     found = page.ask('report.connection.events.map((_, event) => [report.connection.line(event), report.connection.packet(event)])')
     if not found or any(packet != connection.packets[line - 1] for line, packet in found):

@@ -1,5 +1,5 @@
 #!/usr/bin/env python3
-"""Opens reports of dist/qpk-report in headless Chromium and Firefox, and reads them there: tests/browsers/report.py.
+"""Opens reports of tool/qpk-report in headless Chromium and Firefox, and reads them there: tests/browsers/report.py.
 
 The lists of a recorded connection with Chromium are compared with those of Chromium's own log, and both tables at
 moments with what qpk table prints. A fault in the recording must be marked, and a field with the text of a script must
@@ -34,7 +34,7 @@ import sizes
 from nghttp3 import Failure
 
 TOP = Path(__file__).resolve().parents[2]
-sys.path += [str(TOP / 'dist'), str(TOP / 'tests')]
+sys.path += [str(TOP / 'tool'), str(TOP / 'tests')]
 from sealed import Made, ack_frame, ip_packets, pcapng  # noqa: E402 # pylint: disable=wrong-import-position
 
 CAPTURED = TOP / 'tests' / 'captured'
@@ -71,7 +71,7 @@ TABLES = '''Array.from(document.querySelectorAll('.tables .table'), table => ({
 
 def run(*words, statuses=(0,)):
     """Runs qpk-report, and returns what it prints."""
-    ran = subprocess.run([TOP / 'dist' / 'qpk-report', *words], capture_output=True, encoding='utf-8', check=False,
+    ran = subprocess.run([TOP / 'tool' / 'qpk-report', *words], capture_output=True, encoding='utf-8', check=False,
                          env={**os.environ, 'QPK': str(TOP / 'qpk')})
     if ran.returncode not in statuses:
         raise Failure(f'qpk-report {words[0]} ended with {ran.returncode}: {ran.stderr.strip()[:300]}')

@@ -65,7 +65,7 @@ def measure(pages, requests):
     """Returns the figures of a page of that many requests."""
     path, page_path = (Path(pages.room) / f'{requests}.{it}' for it in ('txt', 'html'))
     path.write_text(large.recording(program(), requests), encoding='ascii')
-    words = [sys.executable, TOP / 'dist' / 'qpk-report', 'report', path, '-o', page_path]
+    words = [sys.executable, TOP / 'tool' / 'qpk-report', 'report', path, '-o', page_path]
     with subprocess.Popen(words, env={**os.environ, 'QPK': program()}) as running:
         _, status, used = os.wait4(running.pid, 0)
         running.returncode = os.WEXITSTATUS(status)

@@ -31,8 +31,8 @@ import keyboard
 from nghttp3 import Failure
 
 TOP = Path(__file__).resolve().parents[2]
-sys.path[:0] = [str(TOP / 'dist'), str(TOP / 'tests')]
-import qpk_libcrypto  # noqa: E402 # pylint: disable=wrong-import-position
+sys.path[:0] = [str(TOP / 'tool'), str(TOP / 'tests')]
+import qpk.libcrypto  # noqa: E402 # pylint: disable=wrong-import-position
 from sealed import Made, ip_packets, pcapng  # noqa: E402 # pylint: disable=wrong-import-position
 
 QPK, PROGRAM = TOP / 'qpk', TOP / 'dist' / 'qpk-wasm64.wasm'
@@ -200,15 +200,15 @@ def damage(data, chance):
 
 def check_ciphers(tab, room):
     """A capture by each cipher of QUIC, of the lines of the recording."""
-    if qpk_libcrypto.Library.get() is None:
+    if qpk.libcrypto.Library.get() is None:
         raise checks.NotShown('without libcrypto')
     lines = RECORDING.read_text('utf-8').splitlines()[1:]
-    for number, suite in enumerate(qpk_libcrypto.ALL):
+    for number, suite in enumerate(qpk.libcrypto.ALL):
         made, path = Made(suite=suite).begin().take(lines), Path(room) / f'{number}.pcapng'
         path.write_bytes(pcapng(ip_packets(made.datagrams), secrets=made.keys()))
         if not compare(tab, path):
             raise Failure(f'{suite.cipher}: there are no events')
-    return f'{len(qpk_libcrypto.ALL)} ciphers'
+    return f'{len(qpk.libcrypto.ALL)} ciphers'
 
 
 def check_damaged(tab, room):
