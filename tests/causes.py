@@ -13,8 +13,8 @@ import re
 import subprocess
 import sys
 
-from captures import PROGRAM, build
 from pages import check_page
+from program import PROGRAM, build
 from running import TOP
 
 RECORDINGS = [TOP / "crates" / "qpack_tests" / "data" / "checked.txt", TOP / "tests" / "causes.txt"]

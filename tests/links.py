@@ -15,7 +15,8 @@ DOCUMENTS = ["*.md", "docs/*.md", "docs/dev/*.md", "*/README.md", "bindings/*/RE
 SOURCES = [
     "crates/*/src/**/*.rt", "crates/*/specs/**/*.antt", "crates/*/proofs/**/*.antt", "c/**/*.[ch]", "c/**/*.sh",
     "include/*.h", "rust/*/src/**/*.rs", "dist/*.c", "tool/qpk.1", "dist/Makefile", "dist/generate", "dist/check",
-    "dist/fits", "dist/lists", "dist/modules", "dist/place", "dist/processor", "dist/texts", "dist/tests/*.sh", "tests/*.py", "tests/*.sh", ".ci/*", "test", "qpk",
+    "dist/fits", "dist/lists", "dist/modules", "dist/place", "dist/processor", "dist/texts", "dist/tests/*.sh",
+    "tool/**/*.py", "tool/**/*.sh", "tests/*.py", "tests/*.sh", ".ci/*", "test", "qpk",
 ]
 LINK = re.compile(r"\]\(([^)#\s]*)(?:#([^)\s]*))?\)")
 NAMED = re.compile(r"\bdocs/(?:dev/)?[\w-]+\.(?:md|tsv|png)\b")

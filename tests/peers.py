@@ -12,7 +12,7 @@ import re
 import subprocess
 import sys
 
-from captures import PROGRAM, build
+from program import PROGRAM, build
 from running import TOP, run_tests
 
 FOLDER = TOP / "tests" / "peers"

@@ -34,7 +34,7 @@ import sizes
 from nghttp3 import Failure
 
 TOP = Path(__file__).resolve().parents[2]
-sys.path += [str(TOP / 'tool'), str(TOP / 'tests')]
+sys.path += [str(TOP / 'tool'), str(TOP / 'tool' / 'tests')]
 from sealed import Made, ack_frame, ip_packets, pcapng  # noqa: E402 # pylint: disable=wrong-import-position
 
 CAPTURED = TOP / 'tests' / 'captured'

@@ -31,7 +31,7 @@ import keyboard
 from nghttp3 import Failure
 
 TOP = Path(__file__).resolve().parents[2]
-sys.path[:0] = [str(TOP / 'tool'), str(TOP / 'tests')]
+sys.path[:0] = [str(TOP / 'tool'), str(TOP / 'tool' / 'tests')]
 import qpk.libcrypto  # noqa: E402 # pylint: disable=wrong-import-position
 from sealed import Made, ip_packets, pcapng  # noqa: E402 # pylint: disable=wrong-import-position
 

@@ -3,7 +3,8 @@ import io
 import subprocess
 import tempfile
 
-from captures import CAPTURED, KEPT, PROGRAM, build
+from captures import CAPTURED, KEPT
+from program import PROGRAM, build
 from running import run_tests
 
 # These are in tool/, which captures.py puts into the path of modules.

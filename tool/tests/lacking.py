@@ -1,9 +1,9 @@
 #!/usr/bin/env python3
 """Tests what tool/qpk-capture says of what a capture lacks, and which findings that may explain.
 
-    tests/lacking.py
+    tool/tests/lacking.py
 
-Packets are left out of the captures in tests/captured, and of connections that tests/sealed.py makes. Without libcrypto
+Packets are left out of the captures in tests/captured, and of connections that tool/tests/sealed.py makes. Without libcrypto
 nothing is tested. It ends with a line 'lacking: N tests .. passed', and with status 1 if a test failed.
 """
 import json
@@ -14,12 +14,13 @@ import sys
 import tempfile
 from pathlib import Path
 
-from captures import CAPTURED, PROGRAM, ask
+from captures import CAPTURED, ask
 from connections import LINES, WHOLE, WORDS, assert_whole, file_of, made, marker_of, packets_of, read, run_with_libcrypto
 from connections import words_of
+from program import PROGRAM
 from running import TOP
 
-# These are in tool/, which captures.py puts into the path of modules.
+# These are in tool/, which captures.py puts into the path of modules, as it does tests/.
 import qpk.seen
 import qpk.source
 from qpk.lines import ENDS

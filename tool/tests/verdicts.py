@@ -1,9 +1,9 @@
 #!/usr/bin/env python3
 """Plants faults of real programs in recordings of browsers, and holds the verdict of qpk check on each to a table.
 
-    tests/verdicts.py
+    tool/tests/verdicts.py
 
-The table is tests/planted/verdicts.tsv, and the recordings are captures of Chromium and Firefox in tests/captured. A row is
+The table is tool/tests/planted/verdicts.tsv, and the recordings are captures of Chromium and Firefox in tests/captured. A row is
 worth three points: the place, with its end and byte; the standard's section and the code; and the cause. Nothing else may
 be listed: what follows from the fault is counted. Where a piece of a stream is left out, no end is wrong, and check can't
 know that: it blames the decoder that counts more, and says that insertions may be missing. Without libcrypto nothing is

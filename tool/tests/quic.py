@@ -1,9 +1,9 @@
 #!/usr/bin/env python3
 """Tests how tool/qpk-capture reads packets of QUIC by libcrypto: keys, versions, connection IDs, and hostile peers.
 
-    tests/quic.py
+    tool/tests/quic.py
 
-Its connections are made by tests/sealed.py. Without libcrypto nothing is tested. It ends with a line 'quic: N tests ..
+Its connections are made by tool/tests/sealed.py. Without libcrypto nothing is tested. It ends with a line 'quic: N tests ..
 passed', and with status 1 if a test failed.
 """
 import hmac
@@ -16,7 +16,7 @@ from connections import LINES, WORDS, assert_whole, file_of, joined, made, read,
 from running import assert_linear
 from slowness import measure_slowness
 
-# These are in tool/, which captures.py puts into the path of modules.
+# These are in tool/, which captures.py puts into the path of modules, as it does tests/.
 import qpk.datagrams
 import qpk.keys
 import qpk.libcrypto

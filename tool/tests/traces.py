@@ -1,7 +1,7 @@
 #!/usr/bin/env python3
 """Tests the traces in qlog that tool/qpk-capture reads and writes.
 
-    tests/traces.py
+    tool/tests/traces.py
 
 The traces of tests/qlog were made by hand, of the fields that the drafts have: of an end of each kind, as JSON, as
 JSON-SEQ, and in the form of the first drafts. It ends with a line 'traces: N tests .. passed', and with status 1 if a
@@ -13,11 +13,12 @@ import sys
 import tempfile
 from pathlib import Path
 
-from running import FORMED, PLAIN, TOP, answers_at_once, assert_linear, install, missing_tool, run_tests
-
+TOP = Path(__file__).resolve().parents[2]
 sys.dont_write_bytecode = True
-sys.path.insert(0, str(TOP / "tool"))
+sys.path[:0] = [str(TOP / "tool"), str(TOP / "tests")]
 import qpk.qlog  # noqa: E402 # pylint: disable=wrong-import-position
+from running import FORMED, PLAIN, answers_at_once, assert_linear  # noqa: E402 # pylint: disable=wrong-import-position
+from running import install, missing_tool, run_tests  # noqa: E402 # pylint: disable=wrong-import-position
 
 QLOG = TOP / "tests" / "qlog"
 CHROMIUM = TOP / "tests" / "captured" / "chromium.txt"

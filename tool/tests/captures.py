@@ -1,7 +1,7 @@
 #!/usr/bin/env python3
 """Tests tool/qpk-capture: packets as tshark prints them, to the lines that qpk show reads; and a capture of Chromium.
 
-    tests/captures.py
+    tool/tests/captures.py
 
 In tests/captured are the first 60 packets between Chromium 156 and examples/http3-server, with their secrets; the lines that
 qpk-capture printed of them; and the lists of fields of Chromium's own log. Without tshark the lines are taken as they are.
@@ -21,24 +21,22 @@ import time
 import traceback
 from pathlib import Path
 
-from running import TOP, assert_linear, missing_tool, run_tests, shows_no_fault_of_a_script
+TOP = Path(__file__).resolve().parents[2]
+sys.dont_write_bytecode = True
+sys.path[:0] = [str(TOP / "tool"), str(TOP / "tests")]
+import qpk.streams  # noqa: E402 # pylint: disable=wrong-import-position
+import qpk.tshark  # noqa: E402 # pylint: disable=wrong-import-position
+from program import PROGRAM, build  # noqa: E402 # pylint: disable=wrong-import-position
+from qpk import capture  # noqa: E402 # pylint: disable=wrong-import-position
+from running import assert_linear, run_tests, shows_no_fault_of_a_script  # noqa: E402 # pylint: disable=wrong-import-position
 
 SCRIPT = TOP / "tool" / "qpk-capture"
-BUILT = tempfile.TemporaryDirectory(prefix="h3-qpack-captures-")  # the program of dist/, which tests ask often
-PROGRAM = TOP / "qpk" if missing_tool() else Path(BUILT.name) / "qpk"
 ENVIRONMENT = {**os.environ, "QPK": str(PROGRAM)}
 CLIENT, SERVER = ("10.0.0.1", "50000"), ("10.0.0.2", "443")
 CAPTURED = TOP / "tests" / "captured"
 KEPT = CAPTURED / "chromium.txt"
 SECONDS = 120  # by the clock, in which a script ends on a machine that proves beside it
 SETTINGS = "00 04 05 01 50 00 07 10"  # a control stream: capacity 4096, and 16 blocked streams
-
-
-sys.dont_write_bytecode = True
-sys.path.insert(0, str(TOP / "tool"))
-import qpk.streams  # noqa: E402 # pylint: disable=wrong-import-position
-import qpk.tshark  # noqa: E402 # pylint: disable=wrong-import-position
-from qpk import capture  # noqa: E402 # pylint: disable=wrong-import-position
 
 
 def field(name, show, inner=""):
@@ -461,12 +459,6 @@ def test_chromium():
     assert lists == {end: {stream: sorted(log) for stream, log in own.items()} for end, own in expected.items()}
     assert sum(map(len, lists.values())) == 18
     run(TOP / "qpk", "check", KEPT)
-
-
-def build():
-    """Builds the program of dist/, if that is possible."""
-    if PROGRAM.parent != TOP:
-        subprocess.run(["make", "-s", "-C", str(TOP / "dist"), f"BUILD={BUILT.name}", str(PROGRAM)], check=True)
 
 
 def main():

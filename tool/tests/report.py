@@ -1,7 +1,7 @@
 #!/usr/bin/env python3
 """Tests tool/qpk-report: the numbers of a recorded connection, its tables, and the data of the page.
 
-    tests/report.py
+    tool/tests/report.py
 
 The recording of tests/captured with Chromium is counted again from Chromium's own lists, from its bytes, and from what
 qpk inspect and qpk show --table print. Small recordings are counted by hand. tests/browsers/report.py opens pages. This
@@ -22,10 +22,9 @@ import zlib
 from pathlib import Path
 from unittest import mock
 
-from running import FORMED, PLAIN, TOP, are_linear, assert_linear, can_decrypt, cost_of, run_tests, shows_no_fault_of_a_script
-
+TOP = Path(__file__).resolve().parents[2]
 sys.dont_write_bytecode = True
-sys.path[:0] = [str(TOP / "tool"), str(TOP / "tests" / "browsers")]
+sys.path[:0] = [str(TOP / "tool"), str(TOP / "tests"), str(TOP / "tests" / "browsers")]
 from qpk.lines import pieces_of_lines  # noqa: E402 # pylint: disable=wrong-import-position
 from qpk.report.columns import Columns, Texts  # noqa: E402 # pylint: disable=wrong-import-position
 from qpk.report.connection import Finder, Reading  # noqa: E402 # pylint: disable=wrong-import-position
@@ -34,6 +33,8 @@ from qpk.report.page import PageMaker, left_out  # noqa: E402 # pylint: disable=
 from qpk.report.recording import Recording, Source, read_recordings  # noqa: E402 # pylint: disable=wrong-import-position
 import large  # noqa: E402 # pylint: disable=wrong-import-position
 import qpk.source  # noqa: E402 # pylint: disable=wrong-import-position
+from running import FORMED, PLAIN, are_linear, assert_linear  # noqa: E402 # pylint: disable=wrong-import-position
+from running import can_decrypt, cost_of, run_tests, shows_no_fault_of_a_script  # noqa: E402 # pylint: disable=wrong-import-position
 
 CAPTURED = TOP / "tests" / "captured"
 RECORDING = CAPTURED / "chromium.txt"

@@ -1,12 +1,12 @@
 #!/usr/bin/env python3
 """Tests how tool/qpk-capture reads captures by libcrypto: whole ones, forms of files, links, logs, and why there is nothing.
 
-    tests/decrypted.py
+    tool/tests/decrypted.py
 
 In tests/captured are captures that contain their secrets: firefox.pcapng, of Firefox 153 with its default settings;
 ngtcp2-gso.pcapng and ngtcp2-update.pcapng, of the programs of ngtcp2 0.12 as Debian has them, the latter with early data,
 a key update and a new port; chromium-moved.pcapng, 210 packets of Chromium 156 from the middle of a connection that moved
-its port; and the begin of a net log of Chromium. tests/sealed.py makes others, of the lines in chromium.txt. Without
+its port; and the begin of a net log of Chromium. tool/tests/sealed.py makes others, of the lines in chromium.txt. Without
 libcrypto nothing is tested. It ends with a line 'decrypted: N tests .. passed', and with status 1 if a test failed.
 """
 import gzip
@@ -25,7 +25,7 @@ from captures import CAPTURED, ENVIRONMENT, KEPT, SCRIPT, ask, ask_fork, logged,
 from connections import LINES, WHOLE, assert_whole, file_of, made, read, refusal, run_with_libcrypto
 from running import assert_linear, cost_of, shows_no_fault_of_a_script
 
-# These are in tool/, which captures.py puts into the path of modules.
+# These are in tool/, which captures.py puts into the path of modules, as it does tests/.
 import qpk.datagrams
 from sealed import CLIENT, SERVER, Made, checksum_free_ip, ip_packets, pcap, pcapng, udp
 

@@ -1,9 +1,9 @@
 #!/usr/bin/env python3
 """Tests what tool/qpk-capture adds to the findings of qpk check: packets, filters, what follows, and lines for a terminal.
 
-    tests/findings.py
+    tool/tests/findings.py
 
-Recordings of a few lines are judged by hand. Connections that tests/sealed.py makes have a packet for each line. Without
+Recordings of a few lines are judged by hand. Connections that tool/tests/sealed.py makes have a packet for each line. Without
 libcrypto nothing is tested. It ends with a line 'findings: N tests .. passed', and with status 1 if a test failed.
 """
 import json
@@ -16,11 +16,12 @@ import sys
 import tempfile
 from pathlib import Path
 
-from captures import CAPTURED, KEPT, PROGRAM, SCRIPT, ask, ask_fork, mutated
+from captures import CAPTURED, KEPT, SCRIPT, ask, ask_fork, mutated
 from connections import file_of, packets_of, run_with_libcrypto
+from program import PROGRAM
 from running import on_terminal, shows_no_fault_of_a_script
 
-# These are in tool/, which captures.py puts into the path of modules.
+# These are in tool/, which captures.py puts into the path of modules, as it does tests/.
 from qpk.findings import Causes, marked, read_finding, read_printed
 from sealed import Made, ip_packets, pcapng
 

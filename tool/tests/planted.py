@@ -1,9 +1,9 @@
 #!/usr/bin/env python3
 """Plants twelve faults in recordings of other programs, and holds what qpk check says of each to a table.
 
-    tests/planted.py
+    tool/tests/planted.py
 
-The table is tests/planted/faults.tsv, and the recordings are captures of Firefox and ngtcp2 in tests/captured. Nothing else
+The table is tool/tests/planted/faults.tsv, and the recordings are captures of Firefox and ngtcp2 in tests/captured. Nothing else
 may be listed of a recording: what follows from the fault is counted. Without libcrypto nothing is tested. It ends with a
 line 'planted: N tests .. passed', and with status 1 if a test failed.
 """
@@ -11,15 +11,16 @@ import json
 import subprocess
 import sys
 
-from captures import CAPTURED, PROGRAM
+from captures import CAPTURED
 from connections import read, run_with_libcrypto
+from program import PROGRAM
 from running import TOP
 
-# These are in tool/, which captures.py puts into the path of modules.
+# These are in tool/, which captures.py puts into the path of modules, as it does tests/.
 from qpk.findings import Causes, read_finding
 from qpk.lines import ENDS, MARKS, PEER, pieces_of_lines
 
-TABLE = TOP / "tests" / "planted" / "faults.tsv"
+TABLE = TOP / "tool" / "tests" / "planted" / "faults.tsv"
 COLUMNS = ("fault", "recording", "where", "end", "subject", "byte", "section", "code", "cause")
 CONNECTIONS = {"chromium": 0, "firefox": 0, "ngtcp2-gso": 0, "ngtcp2-update": 2}
 NEW_STREAM = 4000

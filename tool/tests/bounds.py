@@ -1,8 +1,8 @@
 #!/usr/bin/env python3
 """Holds qpk check of a capture of 10,000 requests to its bounds of time and memory.
 
-    tests/bounds.py                 # prints what it took
-    tests/bounds.py --make FILE     # writes the capture alone, with its keys
+    tool/tests/bounds.py                 # prints what it took
+    tool/tests/bounds.py --make FILE     # writes the capture alone, with its keys
 
 The capture is made: each line of a recording that qpk encodes is a packet. Without libcrypto nothing is tested. It ends with a
 line 'bounds: N tests .. passed', and with status 1 if a test failed.
@@ -12,8 +12,9 @@ import sys
 import tempfile
 from pathlib import Path
 
-from captures import ENVIRONMENT, PROGRAM, SCRIPT, build
+from captures import ENVIRONMENT, SCRIPT
 from connections import file_of, run_with_libcrypto
+from program import PROGRAM, build
 from running import TOP, cost_of
 from slowness import measure_slowness
 from sealed import Made

@@ -2,7 +2,7 @@
 # Holds what ./qpk answers against what is written below, in a copy of the repository in which nothing is built. It takes ten
 # seconds, and ends with status 1 if an answer is another.
 # shellcheck disable=SC2317 # the cases are called by their names
-here=$(cd "$(dirname "$0")/.." && pwd) || exit 1
+here=$(cd "$(dirname "$0")/../.." && pwd) || exit 1
 room=$(mktemp -d) || exit 1
 trap 'rm -rf "$room"' EXIT
 failed=0

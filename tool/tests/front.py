@@ -1,7 +1,7 @@
 #!/usr/bin/env python3
 """Tests tool/qpk-front, as ./qpk and make -C dist install have it: files, colours, and that the rest is the program's.
 
-    tests/front.py
+    tool/tests/front.py
 
 It installs dist/ and tool/ in a folder for temporary files, by make and a C compiler. Without these nothing is tested, and the
 last line says so. ./qpk is left out if the sources were changed. Else it ends with a line 'front: N tests .. passed',
@@ -17,8 +17,10 @@ import tempfile
 import time
 from pathlib import Path
 
-from running import TOP, answers_at_once, are_linear, can_decrypt, cost_of, install, missing_tool, on_terminal, run_tests
-from running import shows_no_fault_of_a_script
+sys.path.insert(0, str(Path(__file__).resolve().parents[2] / "tests"))
+from running import TOP, answers_at_once, are_linear, can_decrypt, cost_of  # noqa: E402 # pylint: disable=wrong-import-position
+from running import install, missing_tool, on_terminal, run_tests  # noqa: E402 # pylint: disable=wrong-import-position
+from running import shows_no_fault_of_a_script  # noqa: E402 # pylint: disable=wrong-import-position
 
 FOLDER = tempfile.TemporaryDirectory(prefix="h3-qpack-front-")  # which ends with the script
 ROOM = Path(FOLDER.name)

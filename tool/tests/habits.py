@@ -1,7 +1,7 @@
 #!/usr/bin/env python3
 """Tests qpk strip, qpk tune, qpk show --follow, and qpk explain of a packet, by tool/qpk-capture.
 
-    tests/habits.py
+    tool/tests/habits.py
 
 Without libcrypto nothing is tested. It ends with a line 'habits: N tests .. passed', and with status 1 if a test failed.
 """
@@ -17,11 +17,12 @@ import threading
 import time
 from pathlib import Path
 
-from captures import CAPTURED, ENVIRONMENT, KEPT, PROGRAM, SCRIPT, ask, ask_fork, mutated
+from captures import CAPTURED, ENVIRONMENT, KEPT, SCRIPT, ask, ask_fork, mutated
 from connections import file_of, made, read, run_with_libcrypto
+from program import PROGRAM
 from running import TOP, assert_linear, shows_no_fault_of_a_script
 
-# These are in tool/, which captures.py puts into the path of modules.
+# These are in tool/, which captures.py puts into the path of modules, as it does tests/.
 import qpk.follow
 import qpk.huffman
 import qpk.strip
