@@ -146,16 +146,16 @@ if [ -z "$peer" ]; then
     exit
 fi
 choose_more held
-compile held held.c -O2
+compile held ../bench/held.c -O2
 run "$room/held" "$corpus"
-compile tails tails.c -O2
+compile tails ../bench/tails.c -O2
 run "$room/tails" 200 1 65536
 choose_more bench
-compile bench bench.c -O2
+compile bench ../bench/bench.c -O2
 run "$room/bench" "$corpus" 3
 run "$room/bench" "$corpus" 3 4096 10
-compile bytes bytes.c -O2
+compile bytes ../bench/bytes.c -O2
 run "$room/bytes" "$corpus"
-compile huffman huffman.c -O2
+compile huffman ../bench/huffman.c -O2
 run "$room/huffman" "$corpus" 3
 echo "c/check.sh: $passed runs passed over $library, $with$left_out"

@@ -79,9 +79,9 @@ def list_files():
     """Returns the files that are read, each with the function that keeps its prose."""
     patterns = {
         prose_of_markdown: [
-            "*.md", "docs/*.md", "docs/dev/*.md", "dist/README.md", "rust/README.md", "c/README.md", "crates/README.md",
-            "include/README.md", "tool/README.md", "tests/*.md", "bindings/README.md", "bindings/*/README.md", "examples/README.md",
-            "examples/*/README.md",
+            "*.md", "docs/*.md", "docs/dev/*.md", "dist/README.md", "rust/README.md", "c/README.md", "bench/README.md",
+            "crates/README.md", "include/README.md", "tool/README.md", "tests/*.md", "bindings/README.md",
+            "bindings/*/README.md", "examples/README.md", "examples/*/README.md",
         ],
         prose_of_c: ["include/h3_qpack.h"],
         prose_of_rust: ["rust/h3_qpack/src/**/*.rs"],

@@ -5,7 +5,7 @@
 set -euo pipefail
 [ $# = 2 ] || { echo "usage: bench_h3.sh H3_SRC ROUNDS" >&2; exit 2; }
 sources=$(cd "$1" && pwd)
-here=$(cd "$(dirname "$0")" && pwd)
+top=$(cd "$(dirname "$0")/.." && pwd)
 room=$(mktemp -d)
 trap 'rm -rf "$room"' EXIT
 mkdir -p "$room"/{.cargo,src,theirs/src/proto}
@@ -42,12 +42,12 @@ version = "0.1.0"
 edition = "2021"
 [dependencies]
 bytes = "1"
-h3_qpack = { path = "$here/h3_qpack" }
+h3_qpack = { path = "$top/rust/h3_qpack" }
 h3_theirs = { path = "theirs" }
 [workspace]
 END
-cp "$here/bench_h3.rs" "$room/src/main.rs"
-cc -O2 -Wall -Wextra -Werror -c "$here/bench_nghttp3.c" -o "$room/bench_nghttp3.o"
+cp "$top/bench/bench_h3.rs" "$room/src/main.rs"
+cc -O2 -Wall -Wextra -Werror -c "$top/bench/bench_nghttp3.c" -o "$room/bench_nghttp3.o"
 ar rcs "$room/libbench_nghttp3.a" "$room/bench_nghttp3.o"
 cat >"$room/build.rs" <<END
 fn main() {
@@ -58,4 +58,4 @@ fn main() {
 END
 cd "$room"
 CARGO_TARGET_DIR=$room/target cargo build -q --offline --release
-target/release/bench_h3 "$here/../crates/qpack_tests/data/corpus.qif" "$2"
+target/release/bench_h3 "$top/crates/qpack_tests/data/corpus.qif" "$2"

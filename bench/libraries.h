@@ -2,7 +2,7 @@
 #ifndef LIBRARIES_H
 #define LIBRARIES_H
 
-#include "tests/peer.h"
+#include "../c/tests/peer.h"
 
 /* What an encoder wrote of a list. */
 typedef struct {

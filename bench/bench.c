@@ -5,7 +5,7 @@
  * copied to memory of the caller. With a capacity the lists are timed at that one alone, but for the first of them, as
  * many as UNTIMED says. COLD is how many KiB of other memory are written after each phase, so that the next one finds
  * little in the caches. */
-#include "tests/peer.h"
+#include "../c/tests/peer.h"
 
 static uint8_t section[1 << 16], stream[1 << 16], bytes[1 << 16];
 static h3_qpack_field fields[1 << 10];

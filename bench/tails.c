@@ -4,7 +4,7 @@
  * median, the greatest but for one call in 10,000, and the greatest time, and the most bytes that were allocated in one
  * call, and the most allocations. Columns are parted by TABs. */
 #include "libraries.h"
-#include "counted.h"
+#include "../c/counted.h"
 
 #define FIELDS 10
 #define NEW 3

@@ -7,7 +7,7 @@
  *               whole corpus
  *   full table  an encoder and a decoder whose table of 65,536 bytes is full of entries of 61 bytes with five names */
 #include "libraries.h"
-#include "counted.h"
+#include "../c/counted.h"
 
 #define CAPACITY 4096
 #define FULL 65536
