@@ -6,6 +6,7 @@
  * many as UNTIMED says. COLD is how many KiB of other memory are written after each phase, so that the next one finds
  * little in the caches. */
 #include "../c/tests/peer.h"
+#include "clock.h"
 
 static uint8_t section[1 << 16], stream[1 << 16], bytes[1 << 16];
 static h3_qpack_field fields[1 << 10];
@@ -22,19 +23,6 @@ typedef struct {
 
 /* How many lists fill the table before anything counts, and how many fields the others have. */
 static size_t filling, ncounted;
-
-/* ns that a look at the clock takes itself, the least of some rounds of a thousand. */
-static double clock_cost;
-
-static void measure_clock(void) {
-  clock_cost = 1e18;
-  for (int r = 0; r < 100; r++) {
-    double begin = now();
-    for (int i = 1; i < 1000; i++) now();
-    double cost = (now() - begin) / 1000;
-    if (cost < clock_cost) clock_cost = cost;
-  }
-}
 
 /* Memory that neither library uses, and how much of it is written after a phase. */
 static uint8_t *other;

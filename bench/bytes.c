@@ -18,17 +18,18 @@ static int is_response(const list *l) {
 static size_t play_one_way(const library *library, setting s, int responses) {
   static answer answers[MOST_LATE + 1];
   static wire wire;
-  void *both = library->open(s.capacity, s.blocked);
+  connection both;
+  library->open(&both, s.capacity, s.blocked);
   size_t bytes = 0, count = 0;
   CHECK(s.late <= MOST_LATE);
   for (size_t i = 0; i < nlists; i++) {
     if (is_response(&lists[i]) != responses) continue;
-    exchange(library, both, 4 * count, &lists[i], &wire, &answers[count % (s.late + 1)]);
+    exchange(library, &both, 4 * count, &lists[i], &wire, &answers[count % (s.late + 1)]);
     bytes += wire.section_len + wire.stream_len;
     count++;
-    if (count > s.late) library->hear(both, &answers[count % (s.late + 1)]);
+    if (count > s.late) library->hear(&both, &answers[count % (s.late + 1)]);
   }
-  close_both(library, both);
+  close_both(library, &both);
   return bytes;
 }
 

@@ -38,7 +38,7 @@ static void print_row(const char *corpus, const char *what, double ours, double 
 static wire sent;
 static answer answered;
 
-static void exchange_heard(const library *library, void *both, uint64_t stream_id, const list *l) {
+static void exchange_heard(const library *library, connection *both, uint64_t stream_id, const list *l) {
   exchange(library, both, stream_id, l, &sent, &answered);
   library->hear(both, &answered);
 }
@@ -46,10 +46,11 @@ static void exchange_heard(const library *library, void *both, uint64_t stream_i
 /* What both ends hold after 12 lists. */
 static size_t hold_idle(const library *library, size_t first) {
   size_t before = held();
-  void *both = library->open(CAPACITY, BLOCKED);
-  for (size_t i = 0; i < 12; i++) exchange_heard(library, both, 4 * i, &lists[(first + i) % nlists]);
+  connection both;
+  library->open(&both, CAPACITY, BLOCKED);
+  for (size_t i = 0; i < 12; i++) exchange_heard(library, &both, 4 * i, &lists[(first + i) % nlists]);
   size_t found = held() - before;
-  close_both(library, both);
+  close_both(library, &both);
   CHECK(held() == before);
   return found;
 }
@@ -61,21 +62,23 @@ typedef struct {
 /* How often each phase of a connection with all lists asks for memory. */
 static asked ask(const library *library) {
   asked a = {0, 0, 0};
-  void *both = library->open(CAPACITY, BLOCKED);
+  connection both;
+  library->open(&both, CAPACITY, BLOCKED);
   for (size_t i = 0; i < nlists; i++) {
     size_t before = allocations;
-    library->encode(both, 4 * i, &lists[i], &sent);
+    library->encode(&both, 4 * i, &lists[i], &sent);
+    library->collect(&sent);
     a.encode += allocations - before;
     before = allocations;
-    library->receive(both, &sent);
+    library->receive(&both, &sent);
     a.receive += allocations - before;
     before = allocations;
-    library->decode(both, 4 * i, &lists[i], &sent);
+    library->decode(&both, 4 * i, &lists[i], &sent);
     a.decode += allocations - before;
-    library->report(both, &answered);
-    library->hear(both, &answered);
+    library->report(&both, &answered);
+    library->hear(&both, &answered);
   }
-  close_both(library, both);
+  close_both(library, &both);
   return a;
 }
 
@@ -110,14 +113,15 @@ static void fill(const library *library, size_t *encoder, size_t *decoder) {
   nlists = 0;
   for (size_t i = 0; i < FULL / ENTRY / 10 + 20; i++) add_new_fields(add_list(), &made);
   size_t before = held();
-  void *both = library->open(FULL, BLOCKED);
+  connection both;
+  library->open(&both, FULL, BLOCKED);
   for (size_t turn = 0; turn < 3; turn++) /* an encoder may insert a field when it comes again */
-    for (size_t i = 0; i < nlists; i++) exchange_heard(library, both, 4 * (turn * nlists + i), &lists[i]);
+    for (size_t i = 0; i < nlists; i++) exchange_heard(library, &both, 4 * (turn * nlists + i), &lists[i]);
   size_t all = held() - before;
-  library->close_decoder(both);
+  library->close_decoder(&both);
   *encoder = held() - before;
   *decoder = all - *encoder;
-  library->close_encoder(both);
+  library->close_encoder(&both);
   free_lists();
 }
 

@@ -69,14 +69,15 @@ static void make_pairs(void) {
 /* Returns the ns that a library takes to decode all sections, with the strings in code or as they are. */
 static uint64_t decode_all(const library *library, int coded) {
   uint64_t all = 0;
-  void *both = library->open(0, 0);
+  connection both;
+  library->open(&both, 0, 0);
   for (size_t i = 0; i < nlists; i++) {
     const wire *w = coded ? pairs[i].coded : pairs[i].plain;
     uint64_t since = now();
-    library->decode(both, 4 * i, &pairs[i].fields, w);
+    library->decode(&both, 4 * i, &pairs[i].fields, w);
     all += now() - since;
   }
-  close_both(library, both);
+  close_both(library, &both);
   return all;
 }
 

@@ -76,22 +76,24 @@ static void play(const library *library, size_t capacity, size_t count, costs *c
   nghttp3_nv ng[FIELDS];
   list l = {nv, ng, FIELDS, FIELDS};
   merge_free_blocks();
-  void *both = library->open(capacity, 100);
+  connection both;
+  library->open(&both, capacity, 100);
   made = 0;
   seed = 0x9e3779b97f4a7c15u;
   for (size_t i = 0; i < count; i++) {
     fill_list(nv, ng, capacity);
     mark m = begin();
-    library->encode(both, 4 * i, &l, &sent);
+    library->encode(&both, 4 * i, &l, &sent);
     end(c, ENCODE, i, m);
+    library->collect(&sent);
     m = begin();
-    library->receive(both, &sent);
+    library->receive(&both, &sent);
     end(c, RECEIVE, i, m);
-    library->decode(both, 4 * i, &l, &sent);
-    library->report(both, &answered);
-    library->hear(both, &answered);
+    library->decode(&both, 4 * i, &l, &sent);
+    library->report(&both, &answered);
+    library->hear(&both, &answered);
   }
-  close_both(library, both);
+  close_both(library, &both);
 }
 
 static int compare(const void *one, const void *other) {

@@ -148,6 +148,8 @@ fi
 choose_more held
 compile held ../bench/held.c -O2
 run "$room/held" "$corpus"
+compile servers ../bench/servers.c -O2
+run "$room/servers" ../crates/qpack_tests/data 3
 compile tails ../bench/tails.c -O2
 run "$room/tails" 200 1 65536
 choose_more bench

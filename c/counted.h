@@ -17,6 +17,9 @@ static size_t live, blocks, most_live, most_moving;
 /* How many blocks were made or enlarged, and their bytes. */
 static size_t allocations, allocated;
 
+/* A program whose calls are timed counts nothing meanwhile. */
+static int is_counting = 1;
+
 void *__real_malloc(size_t size);
 void *__real_calloc(size_t count, size_t size);
 void *__real_realloc(void *p, size_t size);
@@ -43,11 +46,18 @@ static void *uncount_block(void *p) {
   return p;
 }
 
-void *__wrap_malloc(size_t size) { return count_block(__real_malloc(size), 0); }
+void *__wrap_malloc(size_t size) {
+  void *p = __real_malloc(size);
+  return is_counting ? count_block(p, 0) : p;
+}
 
-void *__wrap_calloc(size_t count, size_t size) { return count_block(__real_calloc(count, size), 0); }
+void *__wrap_calloc(size_t count, size_t size) {
+  void *p = __real_calloc(count, size);
+  return is_counting ? count_block(p, 0) : p;
+}
 
 void *__wrap_realloc(void *p, size_t size) {
+  if (!is_counting) return __real_realloc(p, size);
   size_t before = malloc_usable_size(p);
   void *q = __real_realloc(p, size);
   if (!q) return q;
@@ -56,7 +66,7 @@ void *__wrap_realloc(void *p, size_t size) {
   return count_block(q, before);
 }
 
-void __wrap_free(void *p) { __real_free(uncount_block(p)); }
+void __wrap_free(void *p) { __real_free(is_counting ? uncount_block(p) : p); }
 
 /* What the live blocks take, with 8 bytes more for each, for the heap itself. */
 static inline size_t held(void) { return live + 8 * blocks; }
