@@ -141,6 +141,8 @@ choose_more bounds
 compile bounds bounds.c -O2
 run "$room/bounds"
 cat "$room/told"
+run ../bench/counts.py "$room/usr/lib/libh3_qpack.a"
+cat "$room/told"
 if [ -z "$peer" ]; then
     echo "c/check.sh: $passed runs passed over $library, $with$left_out"
     exit
