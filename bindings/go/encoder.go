@@ -137,7 +137,7 @@ func (e *Encoder) SetPeerSettings(maxCapacity, maxBlocked uint64) error {
 // SetCapacity sets the capacity of the table, in bytes. An error changes nothing.
 //
 // It fails with ErrInvalid above the peer's maximum, and with ErrHeld while the peer may still reference entries that
-// would be evicted.
+// would be evicted. On a busy connection it always may: call Shrink.
 func (e *Encoder) SetCapacity(capacity uint64) error {
 	if e.isClosed() {
 		return ErrClosed
@@ -146,6 +146,32 @@ func (e *Encoder) SetCapacity(capacity uint64) error {
 		return check("set capacity", C.H3_QPACK_ERR_INVALID)
 	}
 	return check("set capacity", C.int32_t(C.h3_qpack_encoder_set_capacity(e.end, C.size_t(capacity))))
+}
+
+// Shrink sets the capacity of the table, in bytes, as SetCapacity does, or has it wait while the peer may still
+// reference an entry that does not fit. The next Encode that finds no such entry sets it, and announces it before its
+// section. An error changes nothing.
+//
+// While it waits, sections reference only the static table, and nothing is inserted. So it comes once all sections that
+// reference those entries are acknowledged or cancelled, and the insertions acknowledged. A later call, or a capacity
+// that SetCapacity sets, takes its place. It fails with ErrInvalid above the peer's maximum.
+func (e *Encoder) Shrink(capacity uint64) error {
+	if e.isClosed() {
+		return ErrClosed
+	}
+	if uint64(C.size_t(capacity)) != capacity {
+		return check("shrink", C.H3_QPACK_ERR_INVALID)
+	}
+	return check("shrink", C.int32_t(C.h3_qpack_encoder_shrink(e.end, C.size_t(capacity))))
+}
+
+// PendingCapacity returns the capacity that waits, in bytes, if one does.
+func (e *Encoder) PendingCapacity() (capacity int, ok bool) {
+	var pending C.size_t
+	if C.h3_qpack_encoder_get_pending_capacity(e.end, &pending) == 0 {
+		return 0, false
+	}
+	return int(pending), true
 }
 
 // Blocked returns how many streams may be blocked at the peer.

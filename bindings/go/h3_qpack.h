@@ -276,11 +276,31 @@ H3_QPACK_INLINE int h3_qpack_encoder_set_peer_settings(h3_qpack_encoder *encoder
  * Returns a status. With an error nothing changes:
  *   H3_QPACK_OK
  *   H3_QPACK_ERR_INVALID    |capacity| is above the maximum.
- *   H3_QPACK_ERR_HELD       the table has entries that the peer may still reference: call it again after more
- *                           acknowledgments.
+ *   H3_QPACK_ERR_HELD       the peer may still reference an entry that does not fit. On a busy connection it always may:
+ *                           call h3_qpack_encoder_shrink.
  *   H3_QPACK_ERR_NO_MEMORY  call it again later.
  *   above 0                 an earlier call returned it. */
 H3_QPACK_INLINE int h3_qpack_encoder_set_capacity(h3_qpack_encoder *encoder, size_t capacity);
+
+/* Sets the capacity of the table, in bytes, as h3_qpack_encoder_set_capacity does, or has it wait while the peer may still
+ * reference an entry that does not fit (section 3.2.3). The next encode that finds no such entry sets it, and announces it
+ * before its section.
+ *
+ * While it waits, sections reference only the static table, and nothing is inserted. So it comes once all sections that
+ * reference those entries are acknowledged or cancelled, and the insertions acknowledged. A later call of this, or a
+ * capacity that h3_qpack_encoder_set_capacity sets, takes its place.
+ *
+ * Returns a status. With an error nothing changes:
+ *   H3_QPACK_OK             it is set, or it waits: h3_qpack_encoder_get_pending_capacity says which.
+ *   H3_QPACK_ERR_INVALID    |capacity| is above the maximum.
+ *   H3_QPACK_ERR_NO_MEMORY  call it again later.
+ *   above 0                 an earlier call returned it. */
+H3_QPACK_INLINE int h3_qpack_encoder_shrink(h3_qpack_encoder *encoder, size_t capacity);
+
+/* Stores in |capacity| the capacity that waits, in bytes.
+ *
+ * Returns 1, or 0 if none waits or |capacity| is NULL. */
+H3_QPACK_INLINE int h3_qpack_encoder_get_pending_capacity(h3_qpack_encoder *encoder, size_t *capacity);
 
 /* Returns how many streams may be blocked at the peer (section 2.1.2). A stream counts while it has a section that
  * requires insertions not known to have arrived, and that is neither acknowledged nor cancelled. */
@@ -508,6 +528,8 @@ H3_QPACK_CALL size_t h3q_encoder_stream_len(h3_qpack_encoder *encoder);
 H3_QPACK_CALL h3_qpack_received h3q_encoder_read(h3_qpack_encoder *encoder, const uint8_t *src, size_t srclen);
 H3_QPACK_CALL int32_t h3q_encoder_set_peer_settings(h3_qpack_encoder *encoder, size_t max_capacity, size_t max_blocked);
 H3_QPACK_CALL int32_t h3q_encoder_set_capacity(h3_qpack_encoder *encoder, size_t capacity);
+H3_QPACK_CALL int32_t h3q_encoder_shrink(h3_qpack_encoder *encoder, size_t capacity);
+H3_QPACK_CALL uint32_t h3q_encoder_pending_capacity(h3_qpack_encoder *encoder, size_t *capacity);
 H3_QPACK_CALL size_t h3q_encoder_blocked(h3_qpack_encoder *encoder);
 H3_QPACK_CALL size_t h3q_encoder_unacknowledged(h3_qpack_encoder *encoder);
 H3_QPACK_CALL size_t h3q_encoder_insert_count(h3_qpack_encoder *encoder);
@@ -626,6 +648,14 @@ H3_QPACK_INLINE int h3_qpack_encoder_set_peer_settings(h3_qpack_encoder *encoder
 
 H3_QPACK_INLINE int h3_qpack_encoder_set_capacity(h3_qpack_encoder *encoder, size_t capacity) {
   return H3Q_IS_END(encoder) ? h3q_encoder_set_capacity(encoder, capacity) : H3_QPACK_ERR_INVALID;
+}
+
+H3_QPACK_INLINE int h3_qpack_encoder_shrink(h3_qpack_encoder *encoder, size_t capacity) {
+  return H3Q_IS_END(encoder) ? h3q_encoder_shrink(encoder, capacity) : H3_QPACK_ERR_INVALID;
+}
+
+H3_QPACK_INLINE int h3_qpack_encoder_get_pending_capacity(h3_qpack_encoder *encoder, size_t *capacity) {
+  return H3Q_IS_END(encoder) && capacity && h3q_encoder_pending_capacity(encoder, capacity);
 }
 
 H3_QPACK_INLINE size_t h3_qpack_encoder_get_num_blocked(h3_qpack_encoder *encoder) {

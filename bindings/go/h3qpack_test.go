@@ -324,6 +324,31 @@ func TestCapacity(t *testing.T) {
 	must(t, encoder.SetCapacity(0))
 }
 
+func TestShrink(t *testing.T) {
+	encoder, decoder := newPair(t, 4096, 16)
+	first := encode(t, encoder, 0, []Field{{Name: "foo", Value: "bar"}})
+	expect(t, encoder.Shrink(4097), ErrInvalid)
+	must(t, encoder.Shrink(33))
+	if pending, ok := encoder.PendingCapacity(); !ok || pending != 33 {
+		t.Fatalf("pending %d, %v", pending, ok)
+	}
+	if waiting := encode(t, encoder, 4, []Field{{Name: "foo", Value: "bar"}}); waiting.Required != 0 {
+		t.Fatal("a reference while a capacity waits")
+	}
+	must(t, decoder.Receive(encoder.TakeEncoderStream()))
+	_, err := decoder.Decode(0, first.Section)
+	must(t, err)
+	must(t, encoder.Receive(decoder.TakeDecoderStream()))
+	encode(t, encoder, 8, []Field{{Name: "foo", Value: "bar"}})
+	if _, ok := encoder.PendingCapacity(); ok || encoder.Capacity() != 33 {
+		t.Fatalf("capacity %d", encoder.Capacity())
+	}
+	must(t, decoder.Receive(encoder.TakeEncoderStream()))
+	if decoder.Capacity() != 33 {
+		t.Fatalf("capacity %d at the decoder", decoder.Capacity())
+	}
+}
+
 func TestNoTable(t *testing.T) {
 	encoder, _ := newPair(t, 4096, 16)
 	must(t, encoder.SetCapacity(0))
@@ -386,7 +411,7 @@ func TestClose(t *testing.T) {
 	_, encodeErr := encoder.Encode(0, request)
 	_, decodeErr := decoder.Decode(0, []byte{0, 0})
 	for _, err := range []error{
-		encodeErr, encoder.Receive([]byte{0x44}), encoder.SetCapacity(0),
+		encodeErr, encoder.Receive([]byte{0x44}), encoder.SetCapacity(0), encoder.Shrink(0),
 		decodeErr, decoder.Receive([]byte{0x20}), decoder.CancelStream(0),
 	} {
 		if err != ErrClosed {

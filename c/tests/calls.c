@@ -69,8 +69,10 @@ static void use_settings(void) {
 
 /* Whether an encoder that an error ended returns its status from each later call. */
 static int is_over(h3_qpack_encoder *e, int status) {
+  size_t pending;
   return h3_qpack_encoder_encode(e, 0, &get, 1, section, sizeof section).status == status &&
          h3_qpack_encoder_set_peer_settings(e, 0, 0) == status && h3_qpack_encoder_set_capacity(e, 0) == status &&
+         h3_qpack_encoder_shrink(e, 0) == status && !h3_qpack_encoder_get_pending_capacity(e, &pending) &&
          h3_qpack_encoder_read_decoder(e, NULL, 0).status == status;
 }
 
@@ -111,7 +113,7 @@ static void take_peer_settings(void) {
 static void refuse_arguments(void) {
   h3_qpack_encoder none = {NULL}, e;
   h3_qpack_decoder nothing = {NULL}, d;
-  size_t much = (size_t)PTRDIFF_MAX + 1;
+  size_t much = (size_t)PTRDIFF_MAX + 1, pending;
   h3_qpack_nv null_name = {NULL, 1, (const uint8_t *)"", 0, 0}, null_value = {(const uint8_t *)"a", 1, NULL, 1, 0};
   uint64_t id = 7;
   CHECK(new_encoder(NULL, 0, 0) == H3_QPACK_ERR_INVALID && new_decoder(NULL, 0, 0, 0) == H3_QPACK_ERR_INVALID);
@@ -124,6 +126,8 @@ static void refuse_arguments(void) {
   CHECK(h3_qpack_encoder_section(NULL, section, 9).status == H3_QPACK_ERR_INVALID);
   CHECK(h3_qpack_encoder_read_decoder(&none, NULL, 0).status == H3_QPACK_ERR_INVALID);
   CHECK(h3_qpack_encoder_set_capacity(&none, 0) == H3_QPACK_ERR_INVALID);
+  CHECK(h3_qpack_encoder_shrink(&none, 0) == H3_QPACK_ERR_INVALID);
+  CHECK(!h3_qpack_encoder_get_pending_capacity(&none, &pending));
   CHECK(!h3_qpack_encoder_write_encoder(&none, section, 9) && !h3_qpack_encoder_get_encoder_streamlen(NULL));
   CHECK(!h3_qpack_encoder_get_num_blocked(&none) && !h3_qpack_encoder_get_num_unacked(NULL));
   CHECK(!h3_qpack_encoder_get_icnt(&none) && !h3_qpack_encoder_get_krcnt(&none));
@@ -476,6 +480,50 @@ static void tell_tables(void) {
   h3_qpack_decoder_del(&d);
 }
 
+/* How many sections later the answer to one comes, of how many, and behind how many a lower capacity is asked for. */
+enum { LATE = 3, LISTS = 12, BEFORE = 5 };
+
+/* Asks for capacities below that of a table whose entries are referenced: the last one waits. */
+static void ask_for_less(h3_qpack_encoder *e) {
+  size_t pending = 7;
+  CHECK(!h3_qpack_encoder_get_pending_capacity(e, &pending) && pending == 7);
+  CHECK(h3_qpack_encoder_set_capacity(e, 32) == H3_QPACK_ERR_HELD);
+  CHECK(h3_qpack_encoder_shrink(e, 4097) == H3_QPACK_ERR_INVALID);
+  CHECK(!h3_qpack_encoder_get_pending_capacity(e, &pending));
+  CHECK(h3_qpack_encoder_shrink(e, 0) == H3_QPACK_OK && h3_qpack_encoder_shrink(e, 32) == H3_QPACK_OK);
+  CHECK(h3_qpack_encoder_get_pending_capacity(e, &pending) && pending == 32);
+  CHECK(!h3_qpack_encoder_get_pending_capacity(e, NULL) && h3_qpack_encoder_get_capacity(e) == 4096);
+}
+
+/* A capacity comes down on a busy connection: with the first section behind the answers to all that reference an entry. */
+static void shrink_tables(void) {
+  static const char names[] = "abcdefghijkl";
+  h3_qpack_encoder e;
+  h3_qpack_decoder d;
+  uint8_t answers[LISTS][9];
+  size_t answered[LISTS], pending;
+  CHECK(!new_encoder(&e, 4096, 100) && !new_decoder(&d, 4096, 100, 1000));
+  for (size_t i = 0; i < LISTS; i++) {
+    h3_qpack_nv nv = {(const uint8_t *)names + i, 1, (const uint8_t *)"1", 1, 0};
+    if (i == BEFORE) ask_for_less(&e);
+    h3_qpack_encoded a = h3_qpack_encoder_encode(&e, 4 * i, &nv, 1, section, sizeof section);
+    CHECK(a.status == H3_QPACK_OK && a.required == (i < BEFORE ? i + 1 : 0) && a.size == 34);
+    CHECK(h3_qpack_encoder_get_pending_capacity(&e, &pending) == (i >= BEFORE && i < BEFORE + LATE));
+    size_t len = h3_qpack_encoder_write_encoder(&e, stream, sizeof stream);
+    CHECK(!len == (i >= BEFORE && i != BEFORE + LATE));
+    CHECK(h3_qpack_decoder_read_encoder(&d, stream, len).status == H3_QPACK_OK);
+    CHECK(h3_qpack_decoder_decode(&d, 4 * i, section, a.len).fields == 1);
+    check_field(&d, 0, &nv);
+    answered[i] = h3_qpack_decoder_write_decoder(&d, answers[i], sizeof answers[i]);
+    if (i >= LATE) hear(&e, answers[i - LATE], answered[i - LATE]);
+  }
+  check_counts(&e, BEFORE, BEFORE, 0);
+  CHECK(h3_qpack_encoder_get_capacity(&e) == 32 && h3_qpack_decoder_get_capacity(&d) == 32);
+  CHECK(h3_qpack_encoder_shrink(&e, 100) == H3_QPACK_OK && h3_qpack_encoder_get_capacity(&e) == 100);
+  h3_qpack_encoder_del(&e);
+  h3_qpack_decoder_del(&d);
+}
+
 /* Both ends have the same table. */
 static void compare_tables(h3_qpack_encoder *e, h3_qpack_decoder *d) {
   static _Thread_local uint8_t ours[1 << 12], theirs[1 << 12];
@@ -590,6 +638,7 @@ int main(int argc, char **argv) {
   wait_for_insertions();
   refuse_ready();
   tell_tables();
+  shrink_tables();
   pthread_t threads[2];
   int rounds = 20;
   for (int i = 0; i < 2; i++) CHECK(!pthread_create(&threads[i], NULL, run_connection, &rounds));

@@ -1,5 +1,6 @@
 """The encoder of a connection."""
 
+import ctypes
 import secrets
 from typing import Any, Iterable, NamedTuple, Optional
 
@@ -108,10 +109,30 @@ class Encoder(End):
         """Sets the capacity of the table, in bytes. An error changes nothing.
 
         Raises InvalidArgument above the peer's maximum, and EntriesHeld while the peer may still reference entries that
-        would be evicted.
+        would be evicted. On a busy connection it always may: call `shrink`.
         """
         range_text = "the capacity must be at most the peer's max_capacity"
         check(self._call("set_capacity", in_range(capacity, 1 << 30, range_text)), range_text)
+
+    def shrink(self, capacity: int) -> None:
+        """Sets the capacity of the table, in bytes, as `set_capacity` does, or has it wait while the peer may still
+        reference an entry that does not fit. The next `encode` that finds no such entry sets it, and announces it before
+        its section. An error changes nothing.
+
+        While it waits, sections reference only the static table, and nothing is inserted. So it comes once all sections
+        that reference those entries are acknowledged or cancelled, and the insertions acknowledged. A later call, or a
+        capacity that `set_capacity` sets, takes its place.
+
+        Raises InvalidArgument above the peer's maximum.
+        """
+        range_text = "the capacity must be at most the peer's max_capacity"
+        check(self._call("shrink", in_range(capacity, 1 << 30, range_text)), range_text)
+
+    @property
+    def pending_capacity(self) -> Optional[int]:
+        """The capacity that waits, in bytes, or None."""
+        capacity = ctypes.c_size_t()
+        return capacity.value if self._call("get_pending_capacity", capacity) else None
 
     @property
     def unacknowledged(self) -> int:

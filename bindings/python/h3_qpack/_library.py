@@ -113,6 +113,8 @@ FUNCTIONS: Dict[str, Tuple[Any, List[Any]]] = {
     "encoder_read_decoder": (Received, [END, *BYTES]),
     "encoder_set_peer_settings": (c_int, [END, c_uint64, c_uint64]),
     "encoder_set_capacity": (c_int, [END, c_size_t]),
+    "encoder_shrink": (c_int, [END, c_size_t]),
+    "encoder_get_pending_capacity": (c_int, [END, POINTER(c_size_t)]),
     "encoder_get_num_blocked": (c_size_t, [END]),
     "encoder_get_num_unacked": (c_size_t, [END]),
     "encoder_get_icnt": (c_size_t, [END]),

@@ -233,6 +233,23 @@ class EndsTest(unittest.TestCase):
         encoder.set_capacity(0)
         self.assertEqual(encoder.entries(), [])
 
+    def test_shrink(self) -> None:
+        encoder, decoder = self.pair()
+        first = encoder.encode(0, [(b"foo", b"bar")])
+        self.refused(InvalidArgument, encoder.shrink, 4097)
+        self.assertIsNone(encoder.pending_capacity)
+        encoder.shrink(33)
+        self.assertEqual(encoder.pending_capacity, 33)
+        waiting = encoder.encode(4, [(b"foo", b"bar")])
+        self.assertEqual((waiting.required, encoder.unacknowledged), (0, 1))
+        decoder.receive(encoder.take_encoder_stream())
+        self.assertEqual(decoder.decode(4, waiting.section), decoder.decode(0, first.section))
+        encoder.receive(decoder.take_decoder_stream())
+        encoder.encode(8, [(b"foo", b"bar")])
+        self.assertEqual((encoder.pending_capacity, encoder.capacity), (None, 33))
+        decoder.receive(encoder.take_encoder_stream())
+        self.assertEqual(decoder.capacity, 33)
+
     def test_settings(self) -> None:
         with Encoder(max_capacity=4096, max_blocked=16, capacity=64, most_unacknowledged=1) as encoder:
             self.assertEqual(encoder.encode(0, [(b"foo", b"bar")]).required, 1)
@@ -261,6 +278,7 @@ class EndsTest(unittest.TestCase):
             self.refused(InvalidArgument, decoder.decode, number, METHOD)
             self.refused(InvalidArgument, decoder.cancel_stream, number)
             self.refused(InvalidArgument, encoder.set_capacity, number)
+            self.refused(InvalidArgument, encoder.shrink, number)
         self.assertIsInstance(self.refused(QpackError, encoder.encode, -1, REQUEST), ValueError)
 
     def test_closed(self) -> None:
@@ -274,6 +292,8 @@ class EndsTest(unittest.TestCase):
             lambda: encoder.encode(0, REQUEST),
             lambda: encoder.receive(b"\x44"),
             lambda: encoder.set_capacity(0),
+            lambda: encoder.shrink(0),
+            lambda: encoder.pending_capacity,
             encoder.take_encoder_stream,
             encoder.entries,
             lambda: decoder.decode(0, METHOD),

@@ -87,3 +87,8 @@ Makes InRange IsMade AsBefore status =
     ((status ≡ done) × InRange × IsMade)
     ⊎ ((status ≡ no_memory) × InRange × AsBefore)
     ⊎ ((status ≡ invalid) × (InRange → ⊥) × AsBefore)
+
+-- a value is stored, and 1 is returned; or there is none, and 0 is
+abbrev pub StoresOption : Option ℕ → ℕ → ℕ → ℕ → Type 0
+StoresOption None old new told = (told ≡ 0) × (new ≡ old)
+StoresOption (Some value) old new told = (told ≡ 1) × (new ≡ value)

@@ -130,11 +130,6 @@ pub record ReceivesTo (old new : State) (bytes : List ℕ) (told : Received) : T
   pub fields : new.fields ≡ old.fields
   pub told_is : told ≡ told_of_receiving answer (taken_of old.end.failure answer (length bytes) (length left))
 
--- a stream that can be decoded now is stored, and 1 is returned; or there is none, and 0 is
-abbrev pub TellsReady : Option ℕ → ℕ → ℕ → ℕ → Type 0
-TellsReady None old new told = (told ≡ 0) × (new ≡ old)
-TellsReady (Some stream) old new told = (told ≡ 1) × (new ≡ stream)
-
 -- a front of the decoder stream, as much as the caller's memory has room for, is copied there, and dropped
 pub record TakesStream (old new : State) (before after : List ℕ) (taken : ℕ) : Type 0 where
   pub taken_is : taken ≡ min (length old.end.unsent.bytes) (length before)

@@ -1,6 +1,7 @@
 pub mod Statuses
 pub mod Tokens
 pub mod Crossing
+pub mod Lowering
 pub mod Encoding
 pub mod Decoding
 pub mod Alone

@@ -6,8 +6,8 @@ ghost use Rattle.qpack_spec.specs.Table.{insert_count};
 ghost use Rattle.qpack_ends.specs.Blocked.{ready};
 ghost use Rattle.qpack_ends.specs.Decoders.{end_of, FailsSettings, blocked_streams};
 ghost use Rattle.qpack_ends.specs.declared.decoder.DecoderSettings.{DecoderSettings};
-ghost use Rattle.h3_qpack_c.specs.Crossing.{Makes, Gives, GivesAll};
-ghost use Rattle.h3_qpack_c.specs.Decoding.{DecodesTo, ReceivesTo, CancelsTo, TakesStream, TellsReady, InRange};
+ghost use Rattle.h3_qpack_c.specs.Crossing.{Makes, Gives, GivesAll, StoresOption};
+ghost use Rattle.h3_qpack_c.specs.Decoding.{DecodesTo, ReceivesTo, CancelsTo, TakesStream, InRange};
 ghost use Rattle.h3_qpack_c.specs.Decoding.{SaysPrefix, of_waiting, taken_of};
 ghost use Rattle.h3_qpack_c.specs.Decoding.{told_of_refusal, told_of_receiving, IsNew, KeepsNew};
 
@@ -341,7 +341,7 @@ pub extern "C" fn h3q_decoder_blocked(handle: &mut Handle) -> usize
 #[unsafe(no_mangle)]
 pub extern "C" fn h3q_decoder_next_ready(handle: &mut Handle, stream: &mut u64) -> u32
     ensures same { handle.new.value ≡ handle.old.value }
-    ensures tells { TellsReady (ready (insert_count handle.old.value.end.table) handle.old.value.end.blocked)
+    ensures tells { StoresOption (ready (insert_count handle.old.value.end.table) handle.old.value.end.blocked)
         stream.old stream.new result }
 {
     let state = state(handle);

@@ -202,6 +202,8 @@ declare! {
     fn h3q_encoder_read(encoder: *mut Handle, bytes: *const u8, bytes_len: usize) -> Received;
     fn h3q_encoder_set_peer_settings(encoder: *mut Handle, max_capacity: usize, max_blocked: usize) -> i32;
     fn h3q_encoder_set_capacity(encoder: *mut Handle, capacity: usize) -> i32;
+    fn h3q_encoder_shrink(encoder: *mut Handle, capacity: usize) -> i32;
+    fn h3q_encoder_pending_capacity(encoder: *mut Handle, capacity: *mut usize) -> u32;
     fn h3q_encoder_blocked(encoder: *mut Handle) -> usize;
     fn h3q_encoder_unacknowledged(encoder: *mut Handle) -> usize;
     fn h3q_encoder_insert_count(encoder: *mut Handle) -> usize;
@@ -398,6 +400,24 @@ impl Encoder {
     pub(crate) fn set_capacity(&mut self, capacity: usize) -> i32 {
         // SAFETY: the end is one that `new` made.
         unsafe { h3q_encoder_set_capacity(self.handle.get_mut(), capacity) }
+    }
+
+    /// Sets the capacity now or has it wait, and answers a status.
+    pub(crate) fn shrink(&mut self, capacity: usize) -> i32 {
+        // SAFETY: the end is one that `new` made.
+        unsafe { h3q_encoder_shrink(self.handle.get_mut(), capacity) }
+    }
+
+    /// Returns the capacity that waits, in bytes.
+    pub(crate) fn pending_capacity(&self) -> Option<usize> {
+        let mut capacity = 0;
+        // SAFETY: as for `stream_len`; `capacity` is there for the call, which may write to it.
+        let is_one = unsafe { h3q_encoder_pending_capacity(self.handle.get(), &mut capacity) } != 0;
+        if is_one {
+            Some(capacity)
+        } else {
+            None
+        }
     }
 
     /// Returns how many streams may be blocked.

@@ -43,6 +43,21 @@ fn an_encoder_refuses_and_goes_on() {
 }
 
 #[test]
+fn a_capacity_waits_until_no_entry_is_needed() {
+    let (mut encoder, mut section) = (encoder(), Vec::new());
+    assert_eq!(encoder.shrink(4097), Err(EncodingError::CapacityTooLarge));
+    assert_eq!(encoder.encode(0, [("foo", "bar")], &mut section), Ok(1));
+    assert_eq!((encoder.shrink(33), encoder.pending_capacity()), (Ok(()), Some(33)));
+    assert_eq!(encoder.encode(1 << 62, [("a", "b")], &mut section), Err(EncodingError::StreamId));
+    assert_eq!(encoder.encode(4, [("foo", "bar")], &mut section), Ok(0)); // no reference while it waits
+    assert_eq!((encoder.insert_count(), encoder.pending_capacity()), (1, Some(33)));
+    assert_eq!(encoder.receive(b"\x80"), Ok(()));
+    assert_eq!(encoder.encode(8, [("foo", "bar")], &mut section), Ok(0)); // an entry has 38 bytes
+    assert_eq!((encoder.capacity(), encoder.pending_capacity()), (33, None));
+    assert_eq!((encoder.shrink(100), encoder.capacity()), (Ok(()), 100));
+}
+
+#[test]
 fn an_encoder_is_over_behind_its_decoder_stream() {
     let (mut encoder, mut section) = (encoder(), vec![7]);
     let instruction = Some(Place::new(2, 1));

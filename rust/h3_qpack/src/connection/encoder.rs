@@ -247,7 +247,7 @@ impl ConnectionEncoder {
     /// Nothing changes.
     /// - [`EncodingError::CapacityTooLarge`] if it is above the maximum.
     /// - [`EncodingError::EntriesHeld`] if entries would be evicted that the peer may still reference (RFC 9204, section
-    ///   2.1.1): call it again after more acknowledgments.
+    ///   2.1.1). On a busy connection it always may: call [`shrink`](Self::shrink).
     /// - [`EncodingError::NoMemory`]: call it again later.
     /// - [`EncodingError::DecoderStream`] if [`receive`](Self::receive) returned it before.
     pub fn set_capacity(&mut self, capacity: usize) -> Result<(), EncodingError> {
@@ -255,6 +255,43 @@ impl ConnectionEncoder {
             sys::OK => Ok(()),
             status => Err(EncodingError::of(status, EncodingError::CapacityTooLarge, None)),
         }
+    }
+
+    /// Sets the capacity of the table, in bytes, as [`set_capacity`](Self::set_capacity) does, or has it wait while the
+    /// peer may still reference an entry that does not fit (RFC 9204, section 3.2.3). The next
+    /// [`encode`](Self::encode) that finds no such entry sets it, and announces it before its section.
+    ///
+    /// While it waits, sections reference only the static table, and nothing is inserted. So it comes once all sections
+    /// that reference those entries are acknowledged or cancelled, and the insertions acknowledged. A later call, or a
+    /// capacity that `set_capacity` sets, takes its place.
+    ///
+    /// # Errors
+    /// Nothing changes.
+    /// - [`EncodingError::CapacityTooLarge`] if it is above the maximum.
+    /// - [`EncodingError::NoMemory`]: call it again later.
+    /// - [`EncodingError::DecoderStream`] if [`receive`](Self::receive) returned it before.
+    ///
+    /// ```
+    /// # use h3_qpack::connection::{ConnectionEncoder, EncoderSettings};
+    /// let mut encoder = ConnectionEncoder::new(EncoderSettings::new(4096, 16))?;
+    /// encoder.encode(4, [("foo", "bar")], &mut Vec::new())?;
+    /// encoder.shrink(0)?;
+    /// assert_eq!(encoder.pending_capacity(), Some(0)); // the section of stream 4 references the entry
+    /// encoder.receive(&[0x84])?; // its acknowledgment
+    /// encoder.encode(8, [("foo", "bar")], &mut Vec::new())?;
+    /// assert_eq!((encoder.pending_capacity(), encoder.capacity()), (None, 0));
+    /// # Ok::<(), Box<dyn std::error::Error>>(())
+    /// ```
+    pub fn shrink(&mut self, capacity: usize) -> Result<(), EncodingError> {
+        match self.end.shrink(capacity) {
+            sys::OK => Ok(()),
+            status => Err(EncodingError::of(status, EncodingError::CapacityTooLarge, None)),
+        }
+    }
+
+    /// Returns the capacity that waits, in bytes, if one does ([`shrink`](Self::shrink)).
+    pub fn pending_capacity(&self) -> Option<usize> {
+        self.end.pending_capacity()
     }
 
     /// Returns the number of streams that may be blocked at the peer (RFC 9204, section 2.1.2).
