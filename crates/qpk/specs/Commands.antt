@@ -7,10 +7,10 @@ use Rattle.std.specs.Str.{bytes_eq}
 use Rattle.qpk.specs.Scripts.{number_of}
 use Rattle.qpk.specs.declared.command.Command.{Command}
 use Rattle.qpk.specs.declared.command.Command.TheVariants as command
-use Rattle.qpk.specs.declared.command.ConnectionWords.{ConnectionWords}
-use Rattle.qpk.specs.declared.command.ExplainWords.{ExplainWords}
-use Rattle.qpk.specs.declared.command.Expected.{Expected}
-use Rattle.qpk.specs.declared.command.Expected.TheVariants as expected
+use Rattle.qpk.specs.declared.command.connection.ConnectionWords.{ConnectionWords}
+use Rattle.qpk.specs.declared.command.explain.ExplainWords.{ExplainWords}
+use Rattle.qpk.specs.declared.command.connection.Expected.{Expected}
+use Rattle.qpk.specs.declared.command.connection.Expected.TheVariants as expected
 use Rattle.qpk_view.specs.declared.explain.Kind.TheVariants as kind
 use Rattle.qpk.specs.declared.usage.Topic.{Topic}
 use Rattle.qpk.specs.declared.usage.Topic.TheVariants as topic

@@ -1,6 +1,6 @@
 use Rattle.std.proofs.Common.{◌≡◌, map, string_bytes, length}
 use Rattle.qpk.specs.Commands.{connection_words, with_connection_words}
-use Rattle.qpk.proofs.command.read_connection_words.Given as goal
+use Rattle.qpk.proofs.command.connection.read_connection_words.Given as goal
 
 abbrev pub invariant-loop-first : goal.invariant-loop-first
 invariant-loop-first l =

@@ -1,6 +1,6 @@
 use Rattle.std.proofs.Common.{◌≡◌, map, string_bytes, length}
 use Rattle.qpk.specs.Commands.{explain_words, with_explain_words}
-use Rattle.qpk.proofs.command.read_explain_words.Given as goal
+use Rattle.qpk.proofs.command.explain.read_explain_words.Given as goal
 
 abbrev pub invariant-loop-first : goal.invariant-loop-first
 invariant-loop-first l =
