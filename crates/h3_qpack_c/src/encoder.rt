@@ -167,6 +167,7 @@ fn encode(state: &mut State, stream: u64, fields: &[Field], section: &mut [u8]) 
 }
 
 /// Encodes a section to the memory that is kept for it, which is empty.
+#[inline(always)]
 fn encode_section(state: &mut State, stream: u64, fields: &[Field]) -> Result<usize, EncodingError>
     requires { state.old.section.items ≡ [] }
     ensures { EncodesLowered state.old.lower state.old state.new stream (map line_of_lent fields.now)
@@ -180,6 +181,7 @@ fn encode_section(state: &mut State, stream: u64, fields: &[Field]) -> Result<us
 
 /// Encodes a section while a capacity waits, which the table gets before if it takes it. Else the section references no
 /// entry, and the end stays as it is.
+#[inline(never)]
 fn encode_waiting(
     state: &mut State,
     capacity: usize,
