@@ -24,8 +24,8 @@ IN_THE_GATE, ALL = (1_000, 10_000), (1_000, 10_000, 100_000)
 MOST_BYTES, MOST_MEMORY, MOST_SECONDS, MOST_READY, MOST_ANSWER = 5_000_000, 150_000, 3, 1.0, 0.2
 MOST_OPEN = 5.0  # seconds by the clock until a page is ready that --sizes measures
 ABOUT = """`tests/browsers/report.py --sizes` measured these on {date}, in headless Chromium, beside other work on the machine. Each
-request has 17 fields, and its response 8. The seconds of `report` are those of the processor, with what it starts. Until the page
-is ready it is by the clock. Then follow the longest of 24 scrolls and of 5 filters, in milliseconds of the processor.
+request has 17 fields, and its response 8. Seconds until the page is ready are by the clock, and others of the processor. A scroll and a
+filter are the longest of 24 and of 5.
 
 | requests | MB of HTML | s of `report` | MB of memory | s until ready | ms a scroll | ms a filter |
 |---|---|---|---|---|---|---|
