@@ -5,10 +5,10 @@
 
 It reads the documents, the comments of the C header, the doc comments of the Rust crate, the help of qpk, and the
 comments of the sources and the definitions of all crates. Code in them is left out. It prints each forbidden word with
-its file and line, the count of each watched word, and the number of words of all documents: with code and the signs of
-tables, as wc counts them, and without. In the comments of the crates no watched words are counted. README may have a
-number of lines and words, and all documents a number of words. The exit status is 1 if a forbidden word was found, or there
-are more.
+its file and line, the count of each watched word, and the number of words of all documents: as wc counts them, with code
+and the signs of tables, and without. In the comments of the crates no watched words are counted. README may have a number
+of lines and words, and all documents that no script writes a number of words, both as wc counts them. The exit status is 1
+if a forbidden word was found, or there are more.
 """
 import re
 import sys
@@ -63,7 +63,7 @@ WATCHED = {
 }
 # The most lines and words, as wc counts them, of a document that is read before all others.
 MOST = {"README.md": (130, 1000)}
-# The most words, without code, of all documents that no script writes.
+# The most words, as wc counts them, of all documents that no script writes.
 MOST_OF_ALL = 24_000
 # Documents that a script writes.
 GENERATED = [f"docs/{it}.md" for it in ("API", "CALLS", "CAUSES", "DEFINITIONS", "QPK-REFERENCE")]
@@ -197,12 +197,12 @@ def main():
         if is_document or keep_prose in (prose_of_manual, prose_of_c, prose_of_rust):
             forbidden = in_documents if name in OF_H3 else in_documents + but_of_h3
         wrong += find_forbidden(name, prose, forbidden)
-    if words_of_prose > MOST_OF_ALL:
-        wrong.append(f"the documents have {words_of_prose} words without code, and may have {MOST_OF_ALL}")
+    if words > MOST_OF_ALL:
+        wrong.append(f"the documents have {words} words as wc counts them, and may have {MOST_OF_ALL}")
     for it in wrong:
         print(it)
     print("watched:", ", ".join(f"{word} {count}" for word, count in counts.items()))
-    print(f"words: {len(wrong)} faults, in documents of {words} words, {words_of_prose} without code")
+    print(f"words: {len(wrong)} faults, in documents of {words} words of at most {MOST_OF_ALL}, {words_of_prose} without code")
     return 1 if wrong else 0
 
 
