@@ -5,8 +5,9 @@
     tests/calls.py --check     compares it with what would be written; the exit status is 1 if it differs
 
 For each module of the crates below it has the errors and the other enums, with the comment of each variant, and the calls,
-with their comments and the definitions that their contracts cite. The text at its front is tests/calls.md. The exit status
-is 2 if a public call has no comment.
+with their comments and the definitions that their contracts cite. The text at its front is tests/calls.md. At its end are the
+public names that h3 does not have, of docs/h3-lacks.tsv. The exit status is 2 if a public call has no comment, or such a name
+is not there.
 """
 import re
 import sys
@@ -17,6 +18,9 @@ from pages import check_page
 
 FRONT = TOP / "tests" / "calls.md"
 PAGE = TOP / "docs" / "CALLS.md"
+NAMES = TOP / "docs" / "h3-lacks.tsv"
+# The crates below h3's names, whose public names are h3's or in that file.
+OF_H3 = ("h3_qpack", "qpack_codec", "qpack_table", "qpack_wire", "qpack_base", "qpack_spec")
 # The crates with calls, those that a user begins with first. The header is over the calls of h3_qpack_c.
 OF_CALLS = [
     "qpack_ends", "qpack_connection", "h3_qpack", "qpack_codec", "qpack_table", "qpack_wire", "qpack_base", "h3_qpack_c",
@@ -129,6 +133,26 @@ def write_crate(crate, known):
     return lines
 
 
+def read_names():
+    """Returns the modules with the public names that h3 does not have."""
+    rows = [line.split("\t") for line in NAMES.read_text(encoding="utf-8").splitlines()[1:]]
+    return [(module, names.split(", ")) for module, names in rows]
+
+
+def not_declared(names):
+    """Returns those of the names that no source of the crates below h3's names declares."""
+    sources = (path.read_text(encoding="utf-8") for crate in OF_H3 for path in (CRATES / crate / "src").rglob("*.rt"))
+    declared = set(re.findall(r"\b(?:fn|struct|enum|trait|const|type|mod|use) (?:\w+::)*(\w+)", "\n".join(sources)))
+    return [it for it in names if it.split("::")[-1] not in declared]
+
+
+def write_names():
+    """Returns the lines on the public names that h3 does not have."""
+    rows = [(module, ", ".join(f"`{it}`" for it in names)) for module, names in read_names()]
+    said = "The ends, C, `qpk` or the tests use these. All else that h3 does not have is `pub(crate)`."
+    return ["## Names that h3 does not have", "", said, "", *table(("module", "names"), rows), ""]
+
+
 def missing(known):
     """Returns the public calls that have no comment."""
     found = ((crate, name, module) for crate in OF_CALLS for name, module in modules_of(crate, known))
@@ -141,9 +165,14 @@ def write():
     if missing(known):
         print("tests/calls.py: no comment at", ", ".join(missing(known)), file=sys.stderr)
         sys.exit(2)
+    gone = not_declared([it for _, names in read_names() for it in names])
+    if gone:
+        print("tests/calls.py: docs/h3-lacks.tsv has names that are not there:", ", ".join(gone), file=sys.stderr)
+        sys.exit(2)
     lines = FRONT.read_text(encoding="utf-8").rstrip("\n").split("\n") + [""]
     for crate in OF_CALLS:
         lines += write_crate(crate, known)
+    lines += write_names()
     return "\n".join(lines).rstrip("\n") + "\n"
 
 
