@@ -5,10 +5,10 @@
 
 It reads the documents, the comments of the C header, the doc comments of the Rust crate, the help of qpk, and the
 comments of the sources and the definitions of all crates. Code in them is left out. It prints each forbidden word with
-its file and line, the count of each watched word, and the number of words of all documents: as wc counts them, with code
-and the signs of tables, and without. In the comments of the crates no watched words are counted. README may have a number
-of lines and words, and all documents that no script writes a number of words, both as wc counts them. The exit status is 1
-if a forbidden word was found, or there are more.
+its file and line, the count of each watched word, and the number of words of all documents that no script writes: with
+code, and without. A sign alone, as of a table or a list, is no word. In the comments of the crates no watched words are
+counted. README may have a number of lines and words, as wc counts them, and all these documents a number of words, with
+code. The exit status is 1 if a forbidden word was found, or there are more.
 """
 import re
 import sys
@@ -63,7 +63,7 @@ WATCHED = {
 }
 # The most lines and words, as wc counts them, of a document that is read before all others.
 MOST = {"README.md": (130, 1000)}
-# The most words, as wc counts them, of all documents that no script writes.
+# The most words, with code, of all documents that no script writes.
 MOST_OF_ALL = 24_000
 # Documents that a script writes.
 GENERATED = [f"docs/{it}.md" for it in ("API", "CALLS", "CAUSES", "DEFINITIONS", "QPK-REFERENCE")]
@@ -168,6 +168,11 @@ def find_forbidden(name, prose, forbidden):
             yield f"{name}:{line}: '{' '.join(it[0].split())}' is forbidden; write: {instead}"
 
 
+def count_words(text):
+    """Returns how many words of a text have a letter or a digit."""
+    return sum(1 for it in text.split() if re.search(r"\w", it))
+
+
 def find_length(name, text):
     """Yields what to say of a document that is longer than it may be."""
     lines, words = text.count("\n"), len(text.split())
@@ -187,8 +192,8 @@ def main():
         name, prose = str(path.relative_to(TOP)), keep_prose(text)
         is_document = path.suffix == ".md"
         if is_document:
-            words += len(text.split())
-            words_of_prose += len([it for it in prose.split() if re.search(r"\w", it)])
+            words += count_words(text)
+            words_of_prose += count_words(prose)
         if keep_prose is not prose_of_rattle:
             for word, pattern in watched.items():
                 counts[word] += len(pattern.findall(prose))
@@ -198,7 +203,7 @@ def main():
             forbidden = in_documents if name in OF_H3 else in_documents + but_of_h3
         wrong += find_forbidden(name, prose, forbidden)
     if words > MOST_OF_ALL:
-        wrong.append(f"the documents have {words} words as wc counts them, and may have {MOST_OF_ALL}")
+        wrong.append(f"the documents have {words} words, and may have {MOST_OF_ALL}")
     for it in wrong:
         print(it)
     print("watched:", ", ".join(f"{word} {count}" for word, count in counts.items()))
