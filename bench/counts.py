@@ -9,9 +9,11 @@ list: allocations; the instructions of the proved functions; and the lines of 64
 of data with those of the heap and the stack. Callgrind counts all but the first. What compilers and the C library make
 is left out: the layer in C, the heap, copies. Each function begins at a line, wherever the linker puts it.
 
-counts.tsv has a bound for each count, 2 % above what was measured, and 3 % for lines of data, of which a compiler places
-some. A count above its bound is a fault. One that is more than 5 % below is named, so that its bound can be lowered by
---record. Then the script plants faults: each bound in turn is set below its count, and far above, which must be found.
+counts.tsv has a bound for each count, 2 % above what was measured, and 3 % for lines: assemblers write some instructions in
+other lengths, and a compiler places some data. A count above its bound is a fault. One that is more than 6 % below is named,
+so that its bound can be lowered by --record. Then the script plants faults: each bound in turn is set below its count, and
+far above, which must be found.
+
 Without valgrind, or on another processor than x86-64, only allocations are compared, and a line `not shown: ..` says so.
 The exit status is 1 if there is a fault.
 """
@@ -30,10 +32,10 @@ BENCH = Path(__file__).resolve().parent
 TOP = BENCH.parent
 DATA = TOP / "crates" / "qpack_tests" / "data"
 BOUNDS = BENCH / "counts.tsv"
-# How the names of such counts end: their bounds have more room.
-OF_DATA = "lines of data a list"
+# How the names of counts of lines end: their bounds have more room.
+OF_CODE, OF_DATA = "lines of code a list", "lines of data a list"
 # How far below its bound a count is named.
-BELOW = 0.95
+BELOW = 0.94
 # The phases of a list, and the functions of counts.c for each.
 PHASES = {"encode": "encode_list", "receive": "receive_stream", "decode": "decode_section", "hear": "hear_answer"}
 # The last cache has the size that counts.c fills; the first ones are so small that the last one sees each line.
@@ -125,7 +127,7 @@ def count_phase(program, phase, rows, room):
         proved, all_of_them = read_costs(out.with_name(f"{phase}.{number}"))
         front, lists = f"{name_of(row)} {phase}", int(row["lists"])
         counts[f"{front}: instructions a field"] = proved["Ir"] / int(row["fields"])
-        counts[f"{front}: lines of code a list"] = proved["ILmr"] / lists
+        counts[f"{front}: {OF_CODE}"] = proved["ILmr"] / lists
         counts[f"{front}: {OF_DATA}"] = (all_of_them["DLmr"] + all_of_them["DLmw"]) / lists
     return counts
 
@@ -151,7 +153,7 @@ def count_all(archive, room):
 
 def bound_for(name, count):
     """Returns the bound of a count that was measured."""
-    return count * (1.03 if name.endswith(OF_DATA) else 1.02)
+    return count * (1.03 if name.endswith((OF_CODE, OF_DATA)) else 1.02)
 
 
 def write_bounds(counts):
