@@ -11,7 +11,6 @@ is not there.
 """
 import re
 import sys
-from pathlib import Path
 
 from definitions import CRATES, TOP, cell, plain, read_crates, table
 from pages import check_page

@@ -1,5 +1,4 @@
 """The lists of the page of qpk report: sorted by a click, the waterfall with its lines, and the packets of a capture."""
-import json
 import sys
 from pathlib import Path
 

@@ -3,7 +3,7 @@
 from bisect import bisect_right
 from typing import Iterator, List, NamedTuple, Optional, Tuple
 
-from qpk.keys import HANDSHAKE, INITIAL, RETRY, VERSIONS, Version
+from qpk.keys import INITIAL, RETRY, VERSIONS, Version
 from qpk.streams import NotWhole, read_integer
 
 LONGEST_ID = 20  # bytes of a connection ID

@@ -269,7 +269,6 @@ def test_mutated_packets():
 
 def test_bounds_of_a_hostile_capture():
     """Many connections, packets without keys and strangers: the time is linear, and tables keep to their bounds."""
-    connection = made()
     junk = [b"\x41" + bytes([it % 256, it // 256]) + bytes(40) for it in range(3000)]
     log = qpk.keys.KeyLog()
     log.learn("".join(Made(name=str(it)).keys() for it in range(50)))

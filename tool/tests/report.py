@@ -613,6 +613,8 @@ def test_no_traceback():
             (f"exec {script} stats {wider}", "a section is too large: over 200000 lines, or 64 MB as JSON; read it by qpk show"),
             (f"{script} stats {RECORDING} >/dev/full", "No space left on device: name another file, or make room there"),
             (f"{script} stats {RECORDING} >&-", "refused: output: standard output is closed"),
+            (f"{script} stats --help >/dev/full", "No space left on device: name another file, or make room there"),
+            (f"{script} stats --help >&-", "refused: output: standard output is closed"),
             (f"{script} stats - <&-", "refused: input: standard input is closed"),
         ):
             words = ["sh", "-c", command]

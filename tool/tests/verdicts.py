@@ -12,7 +12,7 @@ tested. It ends with a line 'verdicts: N tests .. passed', and with status 1 if 
 import sys
 
 from connections import run_with_libcrypto
-from planted import KINDS, NEW_STREAM, TABLE, ask, findings_of, integer, lines_of, section
+from planted import NEW_STREAM, TABLE, ask, findings_of, integer, lines_of, section
 
 # This is in tool/, which captures.py puts into the path of modules.
 from qpk.findings import Causes

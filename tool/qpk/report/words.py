@@ -361,5 +361,5 @@ def answer(words: argparse.Namespace) -> int:
 def main() -> int:
     """Answers the words of the script, and returns the status."""
     gc.disable()  # no object refers to itself over others, and the search for such ones takes a tenth of the time
-    words = read_words(sys.argv[1:])
-    return run(f"qpk {words.command}", lambda: answer(words))
+    command = [it for it in sys.argv[1:2] if it in COMMANDS]
+    return run(" ".join(["qpk", *command]), lambda: answer(read_words(sys.argv[1:])))
