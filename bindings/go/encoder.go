@@ -139,13 +139,9 @@ func (e *Encoder) SetPeerSettings(maxCapacity, maxBlocked uint64) error {
 // It fails with ErrInvalid above the peer's maximum, and with ErrHeld while the peer may still reference entries that
 // would be evicted. On a busy connection it always may: call Shrink.
 func (e *Encoder) SetCapacity(capacity uint64) error {
-	if e.isClosed() {
-		return ErrClosed
-	}
-	if uint64(C.size_t(capacity)) != capacity {
-		return check("set capacity", C.H3_QPACK_ERR_INVALID)
-	}
-	return check("set capacity", C.int32_t(C.h3_qpack_encoder_set_capacity(e.end, C.size_t(capacity))))
+	return e.callWithCapacity("set capacity", capacity, func(size C.size_t) C.int {
+		return C.h3_qpack_encoder_set_capacity(e.end, size)
+	})
 }
 
 // Shrink sets the capacity of the table, in bytes, as SetCapacity does, or has it wait while the peer may still
@@ -156,13 +152,21 @@ func (e *Encoder) SetCapacity(capacity uint64) error {
 // reference those entries are acknowledged or cancelled, and the insertions acknowledged. A later call, or a capacity
 // that SetCapacity sets, takes its place. It fails with ErrInvalid above the peer's maximum.
 func (e *Encoder) Shrink(capacity uint64) error {
+	return e.callWithCapacity("shrink", capacity, func(size C.size_t) C.int {
+		return C.h3_qpack_encoder_shrink(e.end, size)
+	})
+}
+
+// callWithCapacity makes a call of this name with a capacity, which must fit the type of sizes in C.
+func (e *Encoder) callWithCapacity(name string, capacity uint64, call func(C.size_t) C.int) error {
 	if e.isClosed() {
 		return ErrClosed
 	}
-	if uint64(C.size_t(capacity)) != capacity {
-		return check("shrink", C.H3_QPACK_ERR_INVALID)
+	size := C.size_t(capacity)
+	if uint64(size) != capacity {
+		return check(name, C.H3_QPACK_ERR_INVALID)
 	}
-	return check("shrink", C.int32_t(C.h3_qpack_encoder_shrink(e.end, C.size_t(capacity))))
+	return check(name, C.int32_t(call(size)))
 }
 
 // PendingCapacity returns the capacity that waits, in bytes, if one does.

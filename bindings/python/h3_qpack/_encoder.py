@@ -111,8 +111,7 @@ class Encoder(End):
         Raises InvalidArgument above the peer's maximum, and EntriesHeld while the peer may still reference entries that
         would be evicted. On a busy connection it always may: call `shrink`.
         """
-        range_text = "the capacity must be at most the peer's max_capacity"
-        check(self._call("set_capacity", in_range(capacity, 1 << 30, range_text)), range_text)
+        self._call_with_capacity("set_capacity", capacity)
 
     def shrink(self, capacity: int) -> None:
         """Sets the capacity of the table, in bytes, as `set_capacity` does, or has it wait while the peer may still
@@ -125,8 +124,12 @@ class Encoder(End):
 
         Raises InvalidArgument above the peer's maximum.
         """
+        self._call_with_capacity("shrink", capacity)
+
+    def _call_with_capacity(self, call: str, capacity: int) -> None:
+        """Makes a call with a capacity, which is refused above the peer's maximum."""
         range_text = "the capacity must be at most the peer's max_capacity"
-        check(self._call("shrink", in_range(capacity, 1 << 30, range_text)), range_text)
+        check(self._call(call, in_range(capacity, 1 << 30, range_text)), range_text)
 
     @property
     def pending_capacity(self) -> Optional[int]:

@@ -413,11 +413,7 @@ impl Encoder {
         let mut capacity = 0;
         // SAFETY: as for `stream_len`; `capacity` is there for the call, which may write to it.
         let is_one = unsafe { h3q_encoder_pending_capacity(self.handle.get(), &mut capacity) } != 0;
-        if is_one {
-            Some(capacity)
-        } else {
-            None
-        }
+        is_one.then_some(capacity)
     }
 
     /// Returns how many streams may be blocked.
@@ -580,11 +576,7 @@ impl Decoder {
         let mut stream_id = 0;
         // SAFETY: as for `insert_count`; `stream_id` is there for the call, which may write to it.
         let is_one = unsafe { h3q_decoder_next_ready(self.handle.get(), &mut stream_id) } != 0;
-        if is_one {
-            Some(stream_id)
-        } else {
-            None
-        }
+        is_one.then_some(stream_id)
     }
 
     /// Takes bytes of the decoder stream, as many as there is room for.

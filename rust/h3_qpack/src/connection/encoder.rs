@@ -235,10 +235,7 @@ impl ConnectionEncoder {
     /// # Ok::<(), Box<dyn std::error::Error>>(())
     /// ```
     pub fn set_peer_settings(&mut self, max_capacity: usize, max_blocked: usize) -> Result<(), EncodingError> {
-        match self.end.set_peer_settings(max_capacity, max_blocked) {
-            sys::OK => Ok(()),
-            status => Err(EncodingError::of(status, EncodingError::MaximumTooLarge, None)),
-        }
+        done(self.end.set_peer_settings(max_capacity, max_blocked), EncodingError::MaximumTooLarge)
     }
 
     /// Sets the capacity of the table, in bytes, at most the peer's maximum (RFC 9204, section 4.3.1).
@@ -251,10 +248,7 @@ impl ConnectionEncoder {
     /// - [`EncodingError::NoMemory`]: call it again later.
     /// - [`EncodingError::DecoderStream`] if [`receive`](Self::receive) returned it before.
     pub fn set_capacity(&mut self, capacity: usize) -> Result<(), EncodingError> {
-        match self.end.set_capacity(capacity) {
-            sys::OK => Ok(()),
-            status => Err(EncodingError::of(status, EncodingError::CapacityTooLarge, None)),
-        }
+        done(self.end.set_capacity(capacity), EncodingError::CapacityTooLarge)
     }
 
     /// Sets the capacity of the table, in bytes, as [`set_capacity`](Self::set_capacity) does, or has it wait while the
@@ -283,10 +277,7 @@ impl ConnectionEncoder {
     /// # Ok::<(), Box<dyn std::error::Error>>(())
     /// ```
     pub fn shrink(&mut self, capacity: usize) -> Result<(), EncodingError> {
-        match self.end.shrink(capacity) {
-            sys::OK => Ok(()),
-            status => Err(EncodingError::of(status, EncodingError::CapacityTooLarge, None)),
-        }
+        done(self.end.shrink(capacity), EncodingError::CapacityTooLarge)
     }
 
     /// Returns the capacity that waits, in bytes, if one does ([`shrink`](Self::shrink)).
@@ -373,6 +364,14 @@ impl Lines<'_> {
     /// Asks the encoder to insert nothing for any of the fields.
     pub(crate) fn insert_nothing(&mut self) {
         self.lent.iter_mut().for_each(Lent::insert_nothing);
+    }
+}
+
+/// Returns the result of a call that returns a status alone; this is the error of an argument out of its range.
+fn done(status: i32, invalid: EncodingError) -> Result<(), EncodingError> {
+    match status {
+        sys::OK => Ok(()),
+        status => Err(EncodingError::of(status, invalid, None)),
     }
 }
 
