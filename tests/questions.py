@@ -62,7 +62,7 @@ QUESTIONS = {
     "what is not proved": [Part("README.md", "Why believe it", "**Not proved:**", "the C library.")],
     "what do I get wrong": [
         Part("README.md", "What you have to do", "USING has", "(docs/USING.md#if-something-is-wrong)"),
-        Part("docs/USING.md", "If something is wrong", "| what you see |", "or not sent |"),
+        Part("docs/USING.md", "If something is wrong", "What you see", "or not sent."),
     ],
     "what is on the wire": [Part("README.md", "Debug a connection", "`./qpk check capture.pcapng", "[pages](docs/QPK.md)")],
     "why was it rejected": [

@@ -36,11 +36,6 @@ RUN = {
 # Commands that are not run here: why, and where each is run instead.
 NOT_RUN = {
     "./test": "runs this script, and is the first stage of .ci/run",
-    "c/check.sh": "./test runs it, as c",
-    "dist/fits && dist/fits --kit": "needs the kit; .ci/dist runs it",
-    "dist/generate ../made": "takes an hour; .ci/dist runs it",
-    "dist/check": "compares what dist/generate left; .ci/dist runs it",
-    "rust/check.sh": "./test runs it, as rust",
     "examples/http3-server/serve": "opens a browser; .ci/browsers builds this server, and runs it with browsers",
 }
 # Parts of commands that need root, and what takes their place: the library is installed in a folder of the room.
