@@ -5,10 +5,10 @@
 
 It reads the documents, the comments of the C header, the doc comments of the Rust crate, the help of qpk, and the
 comments of the sources and the definitions of all crates. Code in them is left out. It prints each forbidden word with
-its file and line, the count of each watched word, and the number of words of all documents that no script writes: with
-code, and without. A sign alone, as of a table or a list, is no word. In the comments of the crates no watched words are
-counted. README may have a number of lines and words, as wc counts them, and all these documents a number of words, with
-code. The exit status is 1 if a forbidden word was found, or there are more.
+its file and line, the count of each watched word, and the number of words of all documents that no script writes: all of
+them, and without code. Words are counted as `wc -w` does: a sign alone, as of a table or a list, is one too. In the comments
+of the crates no watched words are counted. README may have a number of lines and words, and all these documents a number of
+words, with code. The exit status is 1 if a forbidden word was found, or there are more.
 """
 import re
 import sys
@@ -63,7 +63,7 @@ WATCHED = {
 }
 # The most lines and words, as wc counts them, of a document that is read before all others.
 MOST = {"README.md": (130, 1000)}
-# The most words, with code, of all documents that no script writes.
+# The most words, with code and signs, of all documents that no script writes.
 MOST_OF_ALL = 24_000
 # Documents that a script writes.
 GENERATED = [f"docs/{it}.md" for it in ("API", "CALLS", "CAUSES", "DEFINITIONS", "QPK-REFERENCE")]
@@ -168,11 +168,6 @@ def find_forbidden(name, prose, forbidden):
             yield f"{name}:{line}: '{' '.join(it[0].split())}' is forbidden; write: {instead}"
 
 
-def count_words(text):
-    """Returns how many words of a text have a letter or a digit."""
-    return sum(1 for it in text.split() if re.search(r"\w", it))
-
-
 def find_length(name, text):
     """Yields what to say of a document that is longer than it may be."""
     lines, words = text.count("\n"), len(text.split())
@@ -192,8 +187,8 @@ def main():
         name, prose = str(path.relative_to(TOP)), keep_prose(text)
         is_document = path.suffix == ".md"
         if is_document:
-            words += count_words(text)
-            words_of_prose += count_words(prose)
+            words += len(text.split())
+            words_of_prose += len(prose.split())
         if keep_prose is not prose_of_rattle:
             for word, pattern in watched.items():
                 counts[word] += len(pattern.findall(prose))
