@@ -42,7 +42,7 @@ version = "0.1.0"
 edition = "2021"
 [dependencies]
 bytes = "1"
-h3_qpack = { path = "$top/rust/h3_qpack" }
+h3_qpack = { path = "$top/bindings/rust/h3_qpack" }
 h3_theirs = { path = "theirs" }
 [workspace]
 END

@@ -28,7 +28,7 @@ FOR_GO = {
 LIBRARY = ["h3_qpack.h", "h3_qpack.c", "heap.c"]
 # Where copies stand, where they are copied from, and what is copied: patterns, or names with those of their copies.
 COPIES = [
-    ("rust/h3_qpack", ".", ["LICENSE"]),
+    ("bindings/rust/h3_qpack", ".", ["LICENSE"]),
     ("bindings/go", ".", ["LICENSE"]),
     ("bindings/go", "dist", LIBRARY),
     ("bindings/go", "dist", FOR_GO),
@@ -38,9 +38,9 @@ COPIES = [
     ("bindings/python/native", "dist", ["x86_64-macho.s", "aarch64-macho.s"]),
     ("bindings/pylsqpack", ".", ["LICENSE"]),
     ("bindings/pylsqpack", "bindings/python", ["build_backend.py"]),
-    ("rust/h3_qpack/generated", "dist", ["[!q]*-elf.s", "*-coff.s", "*-macho.s"]),
-    ("rust/h3_qpack/tests", "c/tests", ["layout.txt"]),
-    ("rust/h3_qpack/tests/data", "crates/qpack_tests/data", ["corpus.qif", "nghttp3_*.txt", "stateless_h3.tsv"]),
+    ("bindings/rust/h3_qpack/generated", "dist", ["[!q]*-elf.s", "*-coff.s", "*-macho.s"]),
+    ("bindings/rust/h3_qpack/tests", "c/tests", ["layout.txt"]),
+    ("bindings/rust/h3_qpack/tests/data", "crates/qpack_tests/data", ["corpus.qif", "nghttp3_*.txt", "stateless_h3.tsv"]),
     ("examples/http3-server/www", "tool/qpk/report", ["element.js", "qpack.css"]),
     ("tool/qpk/tab", "examples/http3-server/www", ["qpack.js", "tables.js"]),
 ]

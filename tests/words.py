@@ -45,7 +45,7 @@ FORBIDDEN_BUT_OF_H3 = {
 }
 OF_H3 = (
     "docs/DECISIONS.md", "docs/DIFFERENCES.md", "docs/H3-TESTS.md", "docs/PROVED.md", "tests/calls.md",
-    "tests/definitions.md", "rust/h3_qpack/src/heap.rs",
+    "tests/definitions.md", "bindings/rust/h3_qpack/src/heap.rs",
 )
 # Words that are right in few places: behind for a position, stands for what it is short for. They are counted.
 WATCHED = {
@@ -79,12 +79,12 @@ def list_files():
     """Returns the files that are read, each with the function that keeps its prose."""
     patterns = {
         prose_of_markdown: [
-            "*.md", "docs/*.md", "docs/dev/*.md", "dist/README.md", "rust/README.md", "c/README.md", "bench/README.md",
+            "*.md", "docs/*.md", "docs/dev/*.md", "dist/README.md", "c/README.md", "bench/README.md",
             "crates/README.md", "include/README.md", "tool/README.md", "tests/*.md", "bindings/README.md",
             "bindings/*/README.md", "examples/README.md", "examples/*/README.md",
         ],
         prose_of_c: ["include/h3_qpack.h"],
-        prose_of_rust: ["rust/h3_qpack/src/**/*.rs"],
+        prose_of_rust: ["bindings/rust/h3_qpack/src/**/*.rs"],
         prose_of_help: ["crates/qpk/src/usage.rt"],
         prose_of_manual: ["tool/qpk.1"],
         prose_of_rattle: ["crates/*/src/**/*.rt", "crates/*/specs/**/*.antt"],

@@ -3,7 +3,7 @@
 
 They are declared in include/h3_qpack.h and, with #[repr(C)], in crates/h3_qpack_c/src. Each declaration must have the
 fields of the table, by name and in order, with types of the sizes there. c/tests/layout.c prints what a compiler makes
-of the header, and the tests of rust/h3_qpack/src/sys.rs hold the structs of the Rust crate to the same table.
+of the header, and the tests of bindings/rust/h3_qpack/src/sys.rs hold the structs of the Rust crate to the same table.
 """
 
 import re

@@ -6,8 +6,8 @@
 # valgrind and clippy are used where they are there, and quic/run.sh and the tests of bytes/ run where they can. Ends in a
 # line of what passed, with a status that is not 0 if something failed.
 set -euo pipefail
-cd "$(dirname "$0")"
-script=rust/check.sh
+cd "$(dirname "$0")/.."
+script=bindings/rust/check.sh
 . ../c/archive
 . ../tests/licence
 
@@ -20,7 +20,7 @@ list_wanted() {
 run() {
     if ! "$@" >"$room/told" 2>&1; then
         cat "$room/told" >&2
-        echo "rust/check.sh: failed: ${*//$room/ROOM}" >&2
+        echo "$script: failed: ${*//$room/ROOM}" >&2
         exit 1
     fi
 }
@@ -33,7 +33,7 @@ check_memory() {
         run valgrind -q --error-exitcode=9 --leak-check=full --errors-for-leak-kinds=definite,indirect "$program"
         programs=$((programs + 1))
     done
-    [ "$programs" -gt 0 ] || { echo "rust/check.sh: cargo named no program" >&2; exit 1; }
+    [ "$programs" -gt 0 ] || { echo "$script: cargo named no program" >&2; exit 1; }
 }
 
 # Runs the tests of the crate in this folder, with more words for cargo, and adds those that passed to $tests. There must be
@@ -44,7 +44,7 @@ run_tests() {
         run cargo test --offline "$kind" "$@"
         tests=$((tests + $(awk '/^test result: ok/ { sum += $4 } END { print sum + 0 }' "$room/told")))
     done
-    [ "$tests" -gt "$before" ] || { echo "rust/check.sh: cargo ran no test" >&2; exit 1; }
+    [ "$tests" -gt "$before" ] || { echo "$script: cargo ran no test" >&2; exit 1; }
 }
 
 # Has clippy look at the crate, if it is there, with more words for cargo.
@@ -116,8 +116,8 @@ check_package() {
 check_linked() {
     (cd ../linked && run cargo build --offline)
     rm -f ../linked/Cargo.lock
-    run cc -Wall -Wextra -Werror -I../../include ../linked/main.c "$CARGO_TARGET_DIR/debug/liblinked.a" "$room/c/libh3_qpack.a" \
-        -lpthread -ldl -lm -o "$room/linked"
+    run cc -Wall -Wextra -Werror -I../../../include ../linked/main.c "$CARGO_TARGET_DIR/debug/liblinked.a" \
+        "$room/c/libh3_qpack.a" -lpthread -ldl -lm -o "$room/linked"
     run "$room/linked"
 }
 
@@ -167,7 +167,7 @@ choose_library
 run make_library BUILD="$room/c"
 export H3_QPACK_LIB=$room/c
 export CARGO_TARGET_DIR=$room/target
-cd h3_qpack
+cd rust/h3_qpack
 run check_choice
 run check_target
 run check_cfg
@@ -193,7 +193,7 @@ if ../quic/run.sh --can; then
     with="$with, HTTP/3 over quinn"
 fi
 passed="$tests tests and $examples examples passed over $library$with"
-if (cd .. && fits_dist); then
+if (cd ../.. && fits_dist); then
     tests=0
     lacking=
     test_assembly
@@ -201,4 +201,4 @@ if (cd .. && fits_dist); then
 else
     passed="$passed; the assembly was generated from other sources, and is not tested"
 fi
-echo "rust/check.sh: $passed, with $(rustc --version | cut -d ' ' -f 1,2)"
+echo "$script: $passed, with $(rustc --version | cut -d ' ' -f 1,2)"

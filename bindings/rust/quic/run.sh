@@ -16,7 +16,7 @@ if [ "${1:-}" = --can ]; then
     can_run
     exit
 fi
-can_run || { echo "rust/quic/run.sh: install openssl, librust-quinn-dev and librust-tokio-dev first" >&2; exit 1; }
+can_run || { echo "bindings/rust/quic/run.sh: install openssl, librust-quinn-dev and librust-tokio-dev first" >&2; exit 1; }
 room=$(mktemp -d)
 trap 'rm -rf "$room"' EXIT
 cat >"$room/openssl.cnf" <<'END'
