@@ -62,7 +62,7 @@ def build(archive, room):
     """Builds counts.c over the archive, with each function at the beginning of a line, and returns the program."""
     program, aligned = room / "counts", room / "aligned.a"
     run("objcopy", *ALIGNED, archive, aligned)
-    words = ["-std=c11", "-D_GNU_SOURCE", "-Wall", "-Wextra", "-Werror", "-O2", f"-I{TOP / 'include'}"]
+    words = ["-std=c11", "-D_GNU_SOURCE", "-Wall", "-Wextra", "-Werror", "-O2", f"-I{TOP / 'dist'}"]
     words.append("-fno-optimize-sibling-calls")  # callgrind sees the end of a function at its return
     run(os.environ.get("CC", "cc"), *words, BENCH / "counts.c", aligned, WRAPPED, "-o", program)
     return program

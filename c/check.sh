@@ -65,7 +65,7 @@ strict=(-Wall -Wextra -Werror)
 # The functions that the header declares are exported and nothing else is, and only libc is wanted.
 check_symbols() {
     local archive=$room/usr/lib/libh3_qpack.a wanted
-    cc -E -P -DH3_QPACK_NO_INLINE ../include/h3_qpack.h | grep -oE '\bh3(q|_qpack)_\w+\(' | tr -d '(' | sort \
+    cc -E -P -DH3_QPACK_NO_INLINE ../dist/h3_qpack.h | grep -oE '\bh3(q|_qpack)_\w+\(' | tr -d '(' | sort \
         >"$room/declared"
     nm -g --defined-only "$archive" | awk 'NF == 3 { print $3 }' | sort >"$room/exported"
     wanted=$(nm -u "$archive" | awk 'NF == 2 { print $2 }' | list_unwanted)
@@ -75,7 +75,7 @@ check_symbols() {
 
 # The structs that cross the interface are laid out as the table says: in the header, by this compiler, and in Rattle.
 check_layout() {
-    cc "${strict[@]}" -std=c99 -pedantic -I../include tests/layout.c -o "$room/layout" || return
+    cc "${strict[@]}" -std=c99 -pedantic -I../dist tests/layout.c -o "$room/layout" || return
     "$room/layout" | diff - tests/layout.txt && python3 tests/layout.py
 }
 
@@ -103,7 +103,7 @@ rm -f "$room/usr/lib"/libh3_qpack.so* # of dist/: the tests are of the static li
 export PKG_CONFIG_PATH=$room/usr/lib/pkgconfig
 flags=$(pkg-config --cflags --libs h3_qpack)
 
-run cc "${strict[@]}" -std=c99 -pedantic -I../include -fsyntax-only h3_qpack.c
+run cc "${strict[@]}" -std=c99 -pedantic -I../dist -fsyntax-only ../dist/h3_qpack.c
 run is_licence "$room/usr/share/licenses/h3_qpack/LICENSE"
 run check_symbols
 run check_layout

@@ -1,5 +1,5 @@
 #!/usr/bin/env python3
-"""Writes docs/API.md, and pages for man, from the comments of include/h3_qpack.h.
+"""Writes docs/API.md, and pages for man, from the comments of dist/h3_qpack.h.
 
     tests/api.py                 writes docs/API.md
     tests/api.py --check         compares it with what would be written, and has groff read the pages for man, if it is
@@ -20,7 +20,7 @@ from pathlib import Path
 
 from pages import TOP, check_page
 
-HEADER = TOP / "include" / "h3_qpack.h"
+HEADER = TOP / "dist" / "h3_qpack.h"
 PAGE = TOP / "docs" / "API.md"
 END = "/* ---- The exports of the verified library"
 PART = re.compile(r"^/\* ---- (.*?) ?\*/$", re.M | re.S)

@@ -42,7 +42,7 @@ OF_INTERFACE = [
 ]
 # Places of the first number, or of the second. The name of the shared library has the first: it is 0 until 1.0.
 MAJOR = [
-    ("include/h3_qpack.h", r"^#define H3_QPACK_VERSION_MAJOR (\d+)$"),
+    ("dist/h3_qpack.h", r"^#define H3_QPACK_VERSION_MAJOR (\d+)$"),
     ("dist/Makefile", r"^NUMBER = (\d+)$"),
     ("dist/CMakeLists.txt", r"\bSOVERSION (\d+)$"),
     ("dist/CMakeLists.txt", r"\bRUNTIME_OUTPUT_NAME h3_qpack-(\d+)$"),
@@ -50,7 +50,7 @@ MAJOR = [
     ("dist/h3_qpack.map", r"^H3_QPACK_(\d+) \{$"),
     ("dist/debian/libh3-qpack0.symbols", r"^libh3_qpack\.so\.(\d+) "),
 ]
-MINOR = [("include/h3_qpack.h", r"^#define H3_QPACK_VERSION_MINOR (\d+)$")]
+MINOR = [("dist/h3_qpack.h", r"^#define H3_QPACK_VERSION_MINOR (\d+)$")]
 # Places of the first two numbers in one: the first times 65,536, and the second.
 NUMBER = [
     ("crates/h3_qpack_c/src/lib.rt", r"^pub extern \"C\" fn h3q_version\(\) -> u32\n +ensures \{ result ≡ (\d+) \}"),

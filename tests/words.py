@@ -80,10 +80,10 @@ def list_files():
     patterns = {
         prose_of_markdown: [
             "*.md", "docs/*.md", "docs/dev/*.md", "dist/README.md", "c/README.md", "bench/README.md",
-            "crates/README.md", "include/README.md", "tool/README.md", "tests/*.md", "bindings/README.md",
-            "bindings/*/README.md", "examples/README.md", "examples/*/README.md",
+            "crates/README.md", "tool/README.md", "tests/*.md", "bindings/README.md", "bindings/*/README.md",
+            "examples/README.md", "examples/*/README.md",
         ],
-        prose_of_c: ["include/h3_qpack.h"],
+        prose_of_c: ["dist/h3_qpack.h"],
         prose_of_rust: ["bindings/rust/h3_qpack/src/**/*.rs"],
         prose_of_help: ["crates/qpk/src/usage.rt"],
         prose_of_manual: ["tool/qpk.1"],

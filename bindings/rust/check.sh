@@ -116,7 +116,7 @@ check_package() {
 check_linked() {
     (cd ../linked && run cargo build --offline)
     rm -f ../linked/Cargo.lock
-    run cc -Wall -Wextra -Werror -I../../../include ../linked/main.c "$CARGO_TARGET_DIR/debug/liblinked.a" \
+    run cc -Wall -Wextra -Werror -I../../../dist ../linked/main.c "$CARGO_TARGET_DIR/debug/liblinked.a" \
         "$room/c/libh3_qpack.a" -lpthread -ldl -lm -o "$room/linked"
     run "$room/linked"
 }

@@ -1,7 +1,7 @@
 #!/usr/bin/env python3
 """Compares the structs that cross the C interface, as they are declared, with c/tests/layout.txt.
 
-They are declared in include/h3_qpack.h and, with #[repr(C)], in crates/h3_qpack_c/src. Each declaration must have the
+They are declared in dist/h3_qpack.h and, with #[repr(C)], in crates/h3_qpack_c/src. Each declaration must have the
 fields of the table, by name and in order, with types of the sizes there. c/tests/layout.c prints what a compiler makes
 of the header, and the tests of bindings/rust/h3_qpack/src/sys.rs hold the structs of the Rust crate to the same table.
 """
@@ -84,7 +84,7 @@ def fields_in_c(body: str, struct: str) -> Fields:
     for declaration in filter(None, map(str.strip, body.split(";"))):
         match = re.fullmatch(r"(?:const )?(\w+) (\*?)(\w+)", declaration)
         if not match:
-            sys.exit(f"c/tests/layout.py: include/h3_qpack.h: {struct}: this is no field: {declaration}")
+            sys.exit(f"c/tests/layout.py: dist/h3_qpack.h: {struct}: this is no field: {declaration}")
         fields.append((match[3], POINTER if match[2] else size_of(match[1], struct)))
     return fields
 
@@ -110,9 +110,9 @@ def place_of(struct: str) -> str:
 
 
 def structs_of_header() -> Iterator[Struct]:
-    text = re.sub(r"/\*.*?\*/", "", (TOP / "include/h3_qpack.h").read_text(), flags=re.S)
+    text = re.sub(r"/\*.*?\*/", "", (TOP / "dist/h3_qpack.h").read_text(), flags=re.S)
     for name, body in re.findall(r"typedef struct (\w+) \{(.*?)\}", text, flags=re.S):
-        yield Struct(f"include/h3_qpack.h: {name}", name, fields_in_c(body, name))
+        yield Struct(f"dist/h3_qpack.h: {name}", name, fields_in_c(body, name))
 
 
 def structs_of_rattle() -> Iterator[Struct]:
@@ -146,7 +146,7 @@ def find_differences(table: Table, structs: List[Struct]) -> Iterator[str]:
 
 def find_missing(table: Table, header: List[Struct], rattle: List[Struct]) -> Iterator[str]:
     for name in sorted(set(table) - {struct.name for struct in header}):
-        yield f"c/tests/layout.txt has {name}, and include/h3_qpack.h does not declare it"
+        yield f"c/tests/layout.txt has {name}, and dist/h3_qpack.h does not declare it"
     for place in sorted(set(map(place_of, NAMES)) - {struct.place for struct in rattle}):
         yield f"{place} is not declared with #[repr(C)]"
 

@@ -17,7 +17,7 @@ top=$room/tree
 copy_tree() {
     mkdir "$top" "$top/c" &&
         tar --exclude=out --exclude=must-fail --exclude=dist/build -cf - \
-            crates.txt LICENSE crates dist include .ci c/h3_qpack.c c/examples | tar -xf - -C "$top"
+            crates.txt LICENSE crates dist .ci c/examples | tar -xf - -C "$top"
 }
 
 # Writes SUMS of the files, the sources and the kit that are here.
@@ -83,7 +83,7 @@ write_functions() {
             'bytes addp(bytes, bytes) __asm__("llvm.aarch64.neon.addp.v16i8");' \
             'int main(void) { char *p = f(0, 1); bytes sums = addp(p[0] - (bytes){}, p[1] - (bytes){}); return sums[0] + sums[8]; }'
     else
-        "$kit/toolchain/bin/clang" -E -P -DH3_QPACK_NO_INLINE -isystem "$top/dist/wasm64" "$top/include/h3_qpack.h" |
+        "$kit/toolchain/bin/clang" -E -P -DH3_QPACK_NO_INLINE -isystem "$top/dist/wasm64" "$top/dist/h3_qpack.h" |
             tr '\n' ' ' | sed -E 's/h3q_(encode_copy|are_fields)/H3Q_\1/g
                 s/(h3q_[a-z_]+\([^()]*\)) *;/\1 { __builtin_trap(); }/g
                 s/H3Q_(encode_copy|are_fields)/h3q_\1/g'
@@ -215,7 +215,7 @@ texts=$(list_texts | cut -d ' ' -f 1)
 heaps=$(list_made | grep '^heap-')
 ports=$(list_ports | cut -d ' ' -f 1)
 wasm=$(list_wasm | cut -d ' ' -f 1)
-copies='LICENSE h3_qpack.c h3_qpack.h roundtrip.c'
+copies='LICENSE roundtrip.c'
 try "copy dist/ and its sources" copy_tree && try "make the copy equal" make_equal && try "nothing differs" expect 0 ||
     { tell_count; exit 1; }
 cp "$top/dist/SUMS" "$room/SUMS"
@@ -225,6 +225,8 @@ try "another constant in each file of assembly" refuse_constants $texts &&
     try "another byte in each file for WebAssembly" refuse_wasm &&
     try "a blank in each other file" refuse_blanks $heaps $copies &&
     try "another body in heap.c" refuse dist/heap.c 's/malloc(len ? len : align)/malloc(len)/' $heaps &&
+    try "another setting in h3_qpack.c" refuse dist/h3_qpack.c 's/capacity = 4096/capacity = 8192/' wasm64.wasm &&
+    try "another body in the header" refuse dist/h3_qpack.h 's/\(h3q_encoder_blocked(encoder) :\) 0/\1 1/' wasm64.wasm &&
     try "another heap for WebAssembly" refuse dist/heap_wasm64.c 's/HEAD + 16/HEAD + 32/' wasm64.wasm qpk-wasm64.wasm &&
     try "another instruction for WebAssembly" refuse dist/neon_wasm64.c 's/2 \* i + 1/2 * i/' qpk-wasm64.wasm &&
     try "os.c that is not there, and heap.c without a sum" refuse_lost os.c heap.c &&

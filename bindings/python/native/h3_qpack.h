@@ -1,6 +1,6 @@
 /* h3_qpack: QPACK, the header compression of HTTP/3 (RFC 9204).
  *
- * The library is formally verified. This header and c/h3_qpack.c, which check arguments and call it, are tested.
+ * The library is formally verified. This header and h3_qpack.c, which check arguments and call it, are tested.
  *
  * Each side of a connection has an encoder, made from the settings that the peer sent, and a decoder, made from the
  * settings that this side sent. In their order, for a connection:
@@ -40,7 +40,7 @@
 
 /* Each call is a function of the library. C99, later C and C++ also see its body, at the end of this header, and can
  * inline it. Define H3_QPACK_NO_INLINE for prototypes alone, for example to generate bindings. */
-#ifdef H3_QPACK_INLINE /* defined by c/h3_qpack.c, which defines the library's functions */
+#ifdef H3_QPACK_INLINE /* defined by h3_qpack.c, which defines the library's functions */
 #define H3Q_HAS_BODIES
 #elif defined(H3_QPACK_NO_INLINE)
 #define H3_QPACK_INLINE

@@ -1,4 +1,4 @@
-//! Safe calls of the exports of the proved library, as `include/h3_qpack.h` declares them. Besides, only `heap` has unsafe
+//! Safe calls of the exports of the proved library, as `dist/h3_qpack.h` declares them. Besides, only `heap` has unsafe
 //! code, and `generated` the assembly. This module keeps what the header asks of a caller:
 //!
 //! - An end is what its `_new` wrote. `Drop` frees it once, and it is never copied, for its handle is private.
