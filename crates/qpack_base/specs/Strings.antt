@@ -46,14 +46,6 @@ abbrev pub ReadsString : CursorView → CursorView → Result (Vec ℕ) Error �
 ReadsString old new (Ok v) read = ((flags : ℕ) × (read ≡ Ok (flags, v.items, new.rest))) × (new.total ≡ old.total)
 ReadsString old new (Err e) read = FailsString e read
 
--- the value that was read, under some flags, is appended, and the cursor is after it; or it is the fault, and the text
--- is unchanged
-abbrev pub AppendsString : {A : Type 0} → CursorView → CursorView → AnyVec ℕ A → AnyVec ℕ A → Result (Unit {0}) Error
-    → Result (ℕ × List ℕ × List ℕ) StringFault → Type 0
-AppendsString old new text_old text_new (Ok u) read = ((flags : ℕ) × (value : List ℕ)
-    × (read ≡ Ok (flags, value, new.rest)) × (text_new.items ≡ text_old.items ++ value)) × (new.total ≡ old.total)
-AppendsString old new text_old text_new (Err e) read = FailsString e read × (text_new.items ≡ text_old.items)
-
 -- what a payload means, which the lowest flag says to be plain or coded
 abbrev pub meaning : ℕ → List ℕ → Result (List ℕ) HuffmanFault
 meaning flags payload = if flags % 2 == 0 then Ok payload else text_of_bits (bits_of_bytes payload)

@@ -11,7 +11,7 @@ ghost use Rattle.qpack_base.specs.Cursor.{MovesPast};
 ghost use Rattle.qpack_base.specs.Payloads.{huffman_fault_of, HasRoom};
 ghost use Rattle.qpack_base.specs.Refusals.{IsRefusedFor};
 ghost use Rattle.qpack_base.specs.Writes.{Writes};
-ghost use Rattle.qpack_base.specs.Strings.{error_of_integer, string_fault_of, meaning, ReadsString, AppendsString};
+ghost use Rattle.qpack_base.specs.Strings.{error_of_integer, string_fault_of, meaning, ReadsString};
 ghost use Rattle.qpack_base.specs.Strings.{AppendsText, GivesValue, IsFaulty, GivesFault};
 ghost use Rattle.qpack_base.specs.Strings.{AppendsStringWithin, AppendsTextWithin, FitsWithin, FitsStringWithin};
 ghost use Rattle.qpack_base.specs.declared.prefix_string.Error.TheVariants.{UnexpectedEnd as Truncated};
@@ -145,29 +145,9 @@ pub fn decode(alloc: Global, size: u8, buf: &mut Cursor) -> Result<Vec<u8>, Erro
     read(alloc, size, buf)
 }
 
-/// Reads the string at the cursor, with a prefix of `size` bits, plain or coded, and appends its value to the text. On
-/// error the text is unchanged, and the cursor's position is unspecified. With free room for any text that the bytes
-/// left could mean, it takes no memory.
-pub fn decode_onto<A: Allocator>(
-    size: u8,
-    buf: &mut Cursor,
-    text: &mut Vec<u8, A>,
-) -> Result<(), Error>
-    requires least { 2 ≤ size }
-    requires most { size ≤ 8 }
-    // The value that is read is appended, and the cursor moves past exactly its string.
-    ensures exact { AppendsString buf.old buf.new text.old text.new result (string_at size buf.old.rest) }
-    // Memory is refused only if there was less room than any payload of the bytes that are left may need.
-    ensures memory { result ≡ Err NoRoom →
-        vec_capacity text.old < vec_len text.old + (length buf.old.rest / 5 * 8 + 6) }
-    ensures capacity { vec_capacity text.old ≤ vec_capacity text.new }
-{
-    read_payload(take_payload(size, buf)?, text)
-}
-
-/// Reads the string at the cursor as `decode_onto` does, and appends its value if it has at most `most` bytes. Returns
-/// how many it has. A longer one takes no memory, and the text is unchanged. The text never gets room for more than
-/// `most` more bytes.
+/// Reads the string at the cursor, with a prefix of `size` bits, plain or coded, and appends its value if it has at most
+/// `most` bytes. Returns how many it has. A longer one takes no memory, and the text is unchanged. The text never gets
+/// room for more than `most` more bytes. On error the text is unchanged, and the cursor's position is unspecified.
 pub fn decode_within<A: Allocator>(
     size: u8,
     most: usize,

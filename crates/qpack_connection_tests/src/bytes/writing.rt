@@ -166,7 +166,8 @@ fn write_string<A: Allocator>(call: &mut Call<'_>, out: &mut Vec<u8, A>) -> Resu
 fn read_onto<A: Allocator>(call: &mut Call<'_>, out: &mut Vec<u8, A>) -> Result<(), Error> {
     let size = read_size(call, 2);
     let bytes = call.bytes();
-    prefix_string::decode_onto(size, &mut Cursor::new(&bytes), out)
+    prefix_string::decode_within(size, bytes.len() * 2, &mut Cursor::new(&bytes), out)?;
+    Ok(())
 }
 
 /// Writes the prefix of a required insert count, a base, a number of insertions and a maximum capacity.
