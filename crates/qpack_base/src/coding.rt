@@ -292,17 +292,25 @@ pub fn append_within<A: Allocator>(
     Ok(len)
 }
 
-/// Returns the vector with the bytes appended, for which there is room: eight at a time, and the last ones four, two and
-/// one at a time. It is passed by value, so that it stays in registers.
+/// Returns the vector with the bytes appended, for which there is room: sixteen at a time, and the last ones eight, four,
+/// two and one at a time. It is passed by value, so that it stays in registers.
 fn extended<A: Allocator>(mut buf: Vec<u8, A>, bytes: &[u8]) -> (Vec<u8, A>, ())
     requires { vec_len buf + length bytes.now ≤ vec_capacity buf }
     ensures items { result.0.items ≡ buf.items ++ bytes.now }
     ensures capacity { vec_capacity result.0 ≡ vec_capacity buf }
 {
     let mut rest = bytes;
-    while let Some((eight, behind)) = rest.split_first_chunk::<8>() {
-        push_eight(*eight, &mut buf);
-        rest = behind;
+    while let Some((first, behind)) = rest.split_first_chunk::<8>() {
+        match behind.split_first_chunk::<8>() {
+            Some((second, after)) => {
+                push_sixteen(*first, *second, &mut buf);
+                rest = after;
+            }
+            None => {
+                push_eight(*first, &mut buf);
+                rest = behind;
+            }
+        }
     }
     if let Some((four, behind)) = rest.split_first_chunk::<4>() {
         push_four(*four, &mut buf);
@@ -316,6 +324,17 @@ fn extended<A: Allocator>(mut buf: Vec<u8, A>, bytes: &[u8]) -> (Vec<u8, A>, ())
         buf.push_reserved(*last);
     }
     (buf, ())
+}
+
+/// Appends twice eight bytes into the free room. All are loaded before the first is stored, so it takes one step.
+#[inline(always)]
+fn push_sixteen<A: Allocator>(first: [u8; 8], second: [u8; 8], buf: &mut Vec<u8, A>)
+    requires { vec_len buf.old + 16 ≤ vec_capacity buf.old }
+    ensures items { buf.new.items ≡ buf.old.items ++ (first ++ second) }
+    ensures capacity { vec_capacity buf.new ≡ vec_capacity buf.old }
+{
+    push_eight(first, buf);
+    push_eight(second, buf);
 }
 
 /// Appends eight bytes into the free room. All are loaded before the first is stored, so it takes one step.
