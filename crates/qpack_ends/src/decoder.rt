@@ -401,6 +401,7 @@ impl ConnectionDecoder {
     }
 
     /// Writes the acknowledgment of a section, if it requires insertions, and counts its stream as blocked no more.
+    #[inline(always)]
     fn acknowledge(&mut self, stream: u64, required: usize) -> Result<(), DecodingError>
         ensures acknowledges { Acknowledges (end_of self.old) (end_of self.new) stream required result }
         ensures lacks { OnErr result

@@ -155,6 +155,8 @@ impl FieldSection {
     }
 
     /// Drops every field. Memory past what a section within the limit can use is given back.
+    #[cold]
+    #[inline(never)]
     pub(crate) fn clear_within(&mut self, limit: u64)
         ensures none { self.new.fields ≡ [] }
         ensures text { self.new.text_room ≤ limit }

@@ -180,6 +180,7 @@ impl<I: EntryIndex, F: StoredField> Lines<'_, I, F> {
     }
 
     /// Appends the name that an index references if it has at most `most` bytes, and returns how many it has.
+    #[inline(always)]
     #[tactic(auto, unfolding(qpack_spec::specs::Reading::static_field))]
     fn append_name_of(
         &self,
@@ -217,6 +218,7 @@ impl<I: EntryIndex, F: StoredField> Lines<'_, I, F> {
     }
 
     /// Appends the field that an index references if it has at most `most` bytes, and returns how many it has.
+    #[inline(always)]
     #[tactic(auto, unfolding(qpack_spec::specs::Reading::static_field))]
     fn append_entry(
         &self,
@@ -253,6 +255,7 @@ impl<I: EntryIndex, F: StoredField> Lines<'_, I, F> {
     }
 
     /// Appends the field of an indexed field line (RFC 9204, sections 4.5.2 and 4.5.3), if it has at most `most` bytes.
+    #[inline(always)]
     fn append_indexed(
         &self,
         reference: Reference,
@@ -273,6 +276,7 @@ impl<I: EntryIndex, F: StoredField> Lines<'_, I, F> {
 
     /// Appends the field of a literal field line with a name reference (RFC 9204, sections 4.5.4 and 4.5.5), if it has
     /// at most `most` bytes. Faults of the line's bytes are reported before an invalid index.
+    #[inline(always)]
     fn append_named(
         &self,
         reference: Reference,
@@ -303,6 +307,7 @@ impl<I: EntryIndex, F: StoredField> Lines<'_, I, F> {
 
     /// Appends the field of the line at the cursor, which begins with this byte, if it has at most `most` bytes. Returns
     /// how many it has.
+    #[inline(always)]
     fn append_line(
         &self,
         first: u8,
@@ -353,6 +358,7 @@ fn most_of_field(limit: u64, sum: u64) -> usize
 /// Appends the field of the line at the cursor, which begins with this byte, unless the sizes pass the limit with it;
 /// those so far have this sum. Returns the sum with it. On error text and spans are unchanged. What passes the limit is
 /// never appended, and no room is made for it.
+#[inline(always)]
 fn read_line<I: EntryIndex, F: StoredField>(
     lines: &Lines<I, F>,
     first: u8,
