@@ -19,7 +19,7 @@ FRONT = TOP / "tests" / "calls.md"
 PAGE = TOP / "docs" / "CALLS.md"
 NAMES = TOP / "docs" / "h3-lacks.tsv"
 # The crates below h3's names, whose public names are h3's or in that file.
-OF_H3 = ("h3_qpack", "qpack_codec", "qpack_table", "qpack_wire", "qpack_base", "qpack_spec")
+OF_H3 = ("h3_qpack", "qpack_codec", "qpack_table", "qpack_wire", "qpack_base", "qpack_rules", "qpack_spec")
 # The crates with calls, those that a user begins with first. The header is over the calls of h3_qpack_c.
 OF_CALLS = [
     "qpack_ends", "qpack_connection", "h3_qpack", "qpack_codec", "qpack_table", "qpack_wire", "qpack_base", "h3_qpack_c",

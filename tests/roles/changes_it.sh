@@ -37,7 +37,7 @@ grep -q 'waits 0' said
 sed -i 's/^waits 0 -> false$/waits 0 -> true/' crates/qpack_tests/data/decoder.txt
 ./test qpack_connection_tests
 if [ "${PROVE:-}" = 1 ]; then
-    for crate in qpack_spec qpack_base qpack_wire qpack_table qpack_codec; do (cd crates/$crate && rt check); done
+    for crate in qpack_spec qpack_rules qpack_base qpack_wire qpack_table qpack_codec; do (cd crates/$crate && rt check); done
     cd crates/qpack_ends
     rt check --only decoder::ConnectionDecoder::is_blocked >said
     grep -q 'proved=3' said

@@ -15,7 +15,7 @@ use Rattle.std.specs.Prelude.{if◌then◌else◌}
 use Rattle.qpack_spec.specs.Field.{Field}
 use Rattle.qpack_spec.specs.Instruction.{written_encoder_instructions}
 use Rattle.qpack_spec.specs.Rule.{rule}
-use Rattle.qpack_spec.specs.Session.{stream_at}
+use Rattle.qpack_rules.specs.Session.{stream_at}
 use Rattle.qpack_spec.specs.Table.{Table, without_references}
 use Rattle.qpack_base.proofs.FieldLists.{fields_from_slice}
 use Rattle.qpack_base.specs.HeaderFields.{DrainsFields}

@@ -1,8 +1,8 @@
 -- What the session theorem says of the answers of the code.
 use Rattle.std.proofs.Common.{◌≤◌, ◌≡◌, ℕ, List, [], ◌∷◌, ◌++◌, Ok, Err, refl, subst}
 use Rattle.std.specs.List.{AllByRecursion}
-use Rattle.qpack_spec.specs.Session as spec
-use Rattle.qpack_spec.specs.Session.{Session, Run, Step, initial_session}
+use Rattle.qpack_rules.specs.Session as spec
+use Rattle.qpack_rules.specs.Session.{Session, Run, Step, initial_session}
 use Rattle.qpack_spec.specs.Table.{insert_count}
 use Rattle.qpack_safety.proofs.FourParts.{sessions_safe}
 use Rattle.qpack_safety.specs.SessionSafety.{IsSafe, DecodeAnswer, is_skipped, wants_memory, gives_fields, waits_for}

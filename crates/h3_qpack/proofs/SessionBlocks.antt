@@ -9,9 +9,9 @@ use Rattle.qpack_spec.specs.BlockReading.{written_block}
 use Rattle.qpack_spec.specs.Field.{Field}
 use Rattle.qpack_spec.specs.Instruction.{written_encoder_instructions}
 use Rattle.qpack_spec.specs.Rule.{rule, required_insert_count, block_of}
-use Rattle.qpack_spec.specs.Session as spec
-use Rattle.qpack_spec.specs.Session.{Session, KeptBlock, KeptStream, stream_at, with_block, after_refused_encode}
-use Rattle.qpack_spec.specs.Session.{LawfulStep, skip_reason}
+use Rattle.qpack_rules.specs.Session as spec
+use Rattle.qpack_rules.specs.Session.{Session, KeptBlock, KeptStream, stream_at, with_block, after_refused_encode}
+use Rattle.qpack_rules.specs.Session.{LawfulStep, skip_reason}
 use Rattle.qpack_spec.specs.Table.{Table, without_references}
 use Rattle.qpack_spec.specs.WrittenLaws.{IsByteField}
 use Rattle.h3_qpack.proofs.Sessions.{fits_reached, fits_changed, fits_kept, shows_changed, lawful}

@@ -5,13 +5,13 @@ use Rattle.std.proofs.Common.{Bool, true, false, Result, Ok, Err, if◌then◌el
 use Rattle.std.proofs.Common.{refl, sym, ap, subst, ◌∙◌, arith}
 use Rattle.std.proofs.lemmas.List.{take_min}
 use Rattle.std.specs.Prelude.{⊤}
-use Rattle.qpack_spec.specs.Session as spec
-use Rattle.qpack_spec.specs.Session.{Session, LawfulStep, skip_reason, EndsAtDecoder, EndsAtEncoder, takes_all}
-use Rattle.qpack_spec.specs.Session.{no_memory, bad_bytes, bad_instruction, takes_all_at_encoder}
-use Rattle.qpack_spec.specs.Session.{bad_bytes_at_encoder, bad_decoder_instruction, DeliversToDecoder}
-use Rattle.qpack_spec.specs.Session.{DeliversToEncoder}
-use Rattle.qpack_spec.specs.Session.{with_decoder_moved, with_encoder_moved, unreported_after, is_consumed}
-use Rattle.qpack_spec.specs.Session.{apply_encoder_instructions, apply_decoder_instructions}
+use Rattle.qpack_rules.specs.Session as spec
+use Rattle.qpack_rules.specs.Session.{Session, LawfulStep, skip_reason, EndsAtDecoder, EndsAtEncoder, takes_all}
+use Rattle.qpack_rules.specs.Session.{no_memory, bad_bytes, bad_instruction, takes_all_at_encoder}
+use Rattle.qpack_rules.specs.Session.{bad_bytes_at_encoder, bad_decoder_instruction, DeliversToDecoder}
+use Rattle.qpack_rules.specs.Session.{DeliversToEncoder}
+use Rattle.qpack_rules.specs.Session.{with_decoder_moved, with_encoder_moved, unreported_after, is_consumed}
+use Rattle.qpack_rules.specs.Session.{apply_encoder_instructions, apply_decoder_instructions}
 use Rattle.qpack_spec.specs.Table.{Table, insert_count}
 use Rattle.h3_qpack.proofs.Sessions.{fits_reached, lawful}
 use Rattle.qpack_codec.specs.Hearing as hearing

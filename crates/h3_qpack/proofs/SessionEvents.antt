@@ -9,9 +9,9 @@ use Rattle.qpack_spec.specs.BlockReading.{reading_of_bytes}
 use Rattle.qpack_spec.specs.Instruction.{Acknowledgment, Cancellation, SetCapacity, written_decoder_instruction}
 use Rattle.qpack_spec.specs.Instruction.{written_encoder_instruction}
 use Rattle.qpack_spec.specs.Reading.{Reading, Fields, Missing, Faulty}
-use Rattle.qpack_spec.specs.Session as spec
-use Rattle.qpack_spec.specs.Session.{Session, KeptBlock, KeptStream, stream_at, with_cancelled, with_acknowledged}
-use Rattle.qpack_spec.specs.Session.{LawfulStep, skip_reason, with_decoded, oldest_undecoded, decode_outcome, is_read}
+use Rattle.qpack_rules.specs.Session as spec
+use Rattle.qpack_rules.specs.Session.{Session, KeptBlock, KeptStream, stream_at, with_cancelled, with_acknowledged}
+use Rattle.qpack_rules.specs.Session.{LawfulStep, skip_reason, with_decoded, oldest_undecoded, decode_outcome, is_read}
 use Rattle.qpack_spec.specs.Table.{Table, with_capacity, window}
 use Rattle.qpack_spec.specs.Window.{TableRefusal}
 use Rattle.qpack_base.specs.Refusals.{IsRefusedFor}

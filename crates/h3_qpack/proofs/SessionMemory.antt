@@ -4,8 +4,8 @@ use Rattle.std.proofs.Common.{drop-drop, refl, sym, ap, subst, ◌∙◌, arith,
 use Rattle.std.proofs.Math.Seq.{drop-append_seam}
 use Rattle.std.proofs.lemmas.List.{take_min}
 use Rattle.std.specs.Prelude.{⊤}
-use Rattle.qpack_spec.specs.Session as spec
-use Rattle.qpack_spec.specs.Session.{stream_at, oldest_undecoded}
+use Rattle.qpack_rules.specs.Session as spec
+use Rattle.qpack_rules.specs.Session.{stream_at, oldest_undecoded}
 use Rattle.qpack_wire.specs.Memory.{AsksSectionForMemory}
 use Rattle.h3_qpack.proofs.SessionDeliveries.{Offers, front_consumed, decoder_moved}
 use Rattle.qpack_codec.specs.Receiving as receiving

@@ -2,7 +2,7 @@
 use Rattle.std.proofs.Common.{◌≡◌, ◌<◌, ◌^◌, ◌-◌, ℕ, List, [], Option, Some, None, Ok, Err, min}
 use Rattle.std.proofs.Common.{◌≤◌, ◌⊎◌, Result, inl, inr, refl, sym, ap, subst, ◌∙◌, arith}
 use Rattle.std.proofs.lemmas.Bool.{cases_lt, le-leb, lt-leb}
-use Rattle.qpack_spec.specs.Session.{begin_session, initial_session}
+use Rattle.qpack_rules.specs.Session.{begin_session, initial_session}
 use Rattle.qpack_spec.specs.History.{window_of}
 use Rattle.qpack_spec.specs.Table.{Table, empty_table, table_of, with_capacity, all_evictable}
 use Rattle.qpack_spec.specs.Window.{eviction_count, TableRefusal, AboveMaximum}

@@ -5,10 +5,11 @@ use Rattle.std.proofs.Common.{refl, sym, ap, subst, ◌∙◌, arith, inl, inr}
 use Rattle.std.proofs.lemmas.Bool.{cond_both}
 use Rattle.std.proofs.lemmas.List.{length-map}
 use Rattle.std.specs.List.{AllByRecursion}
-use Rattle.qpack_spec.specs.Session as spec
-use Rattle.qpack_spec.specs.Session.{KeptBlock, KeptStream, Session, RequestStream, stream_at, with_stream, skip_reason}
-use Rattle.qpack_spec.specs.Session.{awaits_acknowledgment, requires_entry, initial_session, Run, Passes, FitsMemory}
-use Rattle.qpack_spec.specs.Session.{IsByteEvent, LawfulStep, Skips}
+use Rattle.qpack_rules.specs.Session as spec
+use Rattle.qpack_rules.specs.Session.{KeptBlock, KeptStream, Session, RequestStream, stream_at, with_stream}
+use Rattle.qpack_rules.specs.Session.{skip_reason}
+use Rattle.qpack_rules.specs.Session.{awaits_acknowledgment, requires_entry, initial_session, Run, Passes, FitsMemory}
+use Rattle.qpack_rules.specs.Session.{IsByteEvent, LawfulStep, Skips}
 use Rattle.qpack_safety.specs.SessionSafety.{IsSafe}
 use Rattle.qpack_safety.proofs.FourParts.{sessions_safe}
 use Rattle.h3_qpack.specs.Sessions.{StoredBlock, StoredStream, stored_block, stored_stream, stored_requires_entry}

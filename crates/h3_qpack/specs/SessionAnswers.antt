@@ -1,7 +1,7 @@
 -- What the session theorem says of the outcomes of the code.
 use Rattle.std.specs.Prelude.{◌≡◌, ◌<◌, ℕ, List, [], ◌∷◌, ◌++◌, Some, Ok, Err}
-use Rattle.qpack_spec.specs.Session as spec
-use Rattle.qpack_spec.specs.Session.{Session, Run, initial_session}
+use Rattle.qpack_rules.specs.Session as spec
+use Rattle.qpack_rules.specs.Session.{Session, Run, initial_session}
 use Rattle.qpack_spec.specs.Table.{insert_count}
 use Rattle.qpack_safety.specs.Headline.{AnsweredEncode, next_encode}
 use Rattle.qpack_safety.specs.SessionSafety.{AnswersFields}

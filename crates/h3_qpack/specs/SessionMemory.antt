@@ -1,7 +1,7 @@
 -- When an event of a session asks for memory.
 use Rattle.std.specs.Prelude.{◌<◌, ℕ, ◌⊎◌, List, take, drop, Err, IsOk}
-use Rattle.qpack_spec.specs.Session as spec
-use Rattle.qpack_spec.specs.Session.{stream_at, oldest_undecoded}
+use Rattle.qpack_rules.specs.Session as spec
+use Rattle.qpack_rules.specs.Session.{stream_at, oldest_undecoded}
 use Rattle.qpack_spec.specs.Table.{with_capacity}
 use Rattle.qpack_wire.specs.Memory.{AsksSectionForMemory}
 use Rattle.qpack_codec.specs.Receiving.{AsksToTake}

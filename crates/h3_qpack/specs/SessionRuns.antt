@@ -1,8 +1,8 @@
 -- Runs of the session's code.
 use Rattle.std.specs.Prelude.{◌≡◌, ℕ, ◌⊎◌, List, [], ◌∷◌, ◌++◌, Result}
 use Rattle.qpack_base.specs.Refusals.{IsRefusedFor}
-use Rattle.qpack_spec.specs.Session as spec
-use Rattle.qpack_spec.specs.Session.{Session, StartRefusal}
+use Rattle.qpack_rules.specs.Session as spec
+use Rattle.qpack_rules.specs.Session.{Session, StartRefusal}
 use Rattle.qpack_safety.specs.Headline.{AnswersWhatWasHanded}
 use Rattle.qpack_table.specs.declared.dynamic.Error.{Error}
 use Rattle.qpack_table.specs.declared.dynamic.Error.TheVariants.{Memory}

@@ -2,7 +2,7 @@
 use Rattle.std.specs.Prelude.{◌≡◌, ℕ, List, Option, Some, None, Result, Ok, Err}
 use Rattle.std.specs.Borrow.{Bor}
 use Rattle.qpack_base.specs.Refusals.{IsRefusedFor}
-use Rattle.qpack_spec.specs.Session.{Session, StartRefusal, CapacityTooLarge, LimitTooLarge}
+use Rattle.qpack_rules.specs.Session.{Session, StartRefusal, CapacityTooLarge, LimitTooLarge}
 use Rattle.qpack_table.specs.declared.dynamic.Error.{Error}
 use Rattle.qpack_table.specs.declared.dynamic.Error.TheVariants.{MaximumTableSizeTooLarge, MaxBlockedStreamsTooLarge}
 use Rattle.h3_qpack.specs.Sessions.{StoredBlock, SessionView, Shows}

@@ -7,9 +7,9 @@ use Rattle.std.specs.Map.{lookup}
 use Rattle.std.specs.Ordering.{nat_cmp}
 use Rattle.qpack_spec.specs.Field.{Field}
 use Rattle.qpack_spec.specs.Form.{FormFault}
-use Rattle.qpack_spec.specs.Session as spec
-use Rattle.qpack_spec.specs.Session.{KeptBlock, KeptStream, RequestStream, stream_at, Session, Run, Passes}
-use Rattle.qpack_spec.specs.Session.{initial_session, awaits_acknowledgment}
+use Rattle.qpack_rules.specs.Session as spec
+use Rattle.qpack_rules.specs.Session.{KeptBlock, KeptStream, RequestStream, stream_at, Session, Run, Passes}
+use Rattle.qpack_rules.specs.Session.{initial_session, awaits_acknowledgment}
 use Rattle.qpack_codec.specs.RequestStreams.{ChangesStream}
 use Rattle.qpack_spec.specs.Table.{Table}
 use Rattle.qpack_spec.specs.Window.{TableRefusal}

@@ -3,7 +3,7 @@
 
 ghost use Rattle.std.specs.Prelude.{◌≡◌, ◌<◌, ◌≤◌, ◌⊎◌, ◌^◌, [], length, slice_get, Some, IfOk, IfErr};
 ghost use Rattle.std.specs.List.{AllByRecursion};
-ghost use Rattle.qpack_spec.specs.Session.{begin_session, initial_session, stream_at};
+ghost use Rattle.qpack_rules.specs.Session.{begin_session, initial_session, stream_at};
 ghost use Rattle.qpack_spec.specs.Table.{empty_table};
 ghost use Rattle.qpack_safety.specs.SessionSafety.{RunsByTheRule, RefusesNothing, DecodesWhatWasHanded};
 ghost use Rattle.qpack_safety.specs.SessionSafety.{WaitsOnlyForInsertions};

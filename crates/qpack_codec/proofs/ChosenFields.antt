@@ -7,7 +7,7 @@ use Rattle.std.proofs.lemmas.Bool.{cond_both}
 use Rattle.qpack_spec.specs.Chosen.{Choice, Alone, References, Names, Inserts, Chosen, passes_at, literal_alone, line_alone}
 use Rattle.qpack_spec.specs.Chosen.{named_or, literal_chosen, line_chosen, unreferenced_chosen, chosen_field, chosen_fields}
 use Rattle.qpack_spec.specs.Chosen.{with_unreferenced_entry, alone_chosen}
-use Rattle.qpack_spec.proofs.ChosenSteps.{field_by}
+use Rattle.qpack_rules.proofs.ChosenSteps.{field_by}
 use Rattle.qpack_spec.specs.Field.{Field, FieldLine, has_name, is_field}
 use Rattle.qpack_spec.specs.StaticTable.{static_index, static_name_index}
 use Rattle.qpack_spec.specs.Marked.{written_marked_lines}

@@ -6,7 +6,7 @@ use Rattle.qpack_spec.specs.Field.{Field, FieldLine, fields_of_lines, total_size
 use Rattle.qpack_spec.specs.Reading.{greatest_of}
 use Rattle.qpack_spec.specs.Rule.{Draft}
 use Rattle.qpack_spec.specs.Table.{Table, fields_in}
-use Rattle.qpack_spec.proofs.ChosenSteps.{IsKept, every_kept, kept_chosen_fields}
+use Rattle.qpack_rules.proofs.ChosenSteps.{IsKept, every_kept, kept_chosen_fields}
 use Rattle.qpack_spec.proofs.Drafts.{room}
 use Rattle.qpack_table.proofs.Greatest.{greatest_none}
 use Rattle.qpack_codec.specs.Encoding.{draft_at}

@@ -6,7 +6,7 @@ use Rattle.std.proofs.lemmas.List.{length-drop}
 use Rattle.qpack_spec.specs.Field.{Field, field_size}
 use Rattle.qpack_spec.specs.Instruction.{EncoderInstruction, InsertStaticName, InsertDynamicName, InsertLiteralName}
 use Rattle.qpack_spec.specs.Instruction.{Duplicate, SetCapacity}
-use Rattle.qpack_spec.specs.Session.{apply_encoder_instructions}
+use Rattle.qpack_rules.specs.Session.{apply_encoder_instructions}
 use Rattle.qpack_spec.specs.Table.{Table, Entry, insert_count, fields_in, can_evict, eviction_count_for, with_entry}
 use Rattle.qpack_spec.specs.Table.{put_entry, put, with_capacity, apply_encoder_instruction}
 use Rattle.qpack_spec.specs.Window.{TableRefusal, DoesNotFit, AboveMaximum, greatest_capacity, eviction_count}

@@ -8,8 +8,8 @@ use Rattle.std.proofs.Math.Seq.{take-append_seam}
 use Rattle.std.proofs.lemmas.List.{take-append-le}
 use Rattle.qpack_spec.specs.Instruction.{Increment, written_decoder_instruction}
 use Rattle.qpack_spec.specs.Instruction.{written_decoder_instructions}
-use Rattle.qpack_spec.specs.Session.{increments, pieces_of}
-use Rattle.qpack_spec.proofs.Pieces.{pieces_next}
+use Rattle.qpack_rules.specs.Session.{increments, pieces_of}
+use Rattle.qpack_rules.proofs.Pieces.{pieces_next}
 use Rattle.qpack_base.specs.Writes.{Writes}
 use Rattle.qpack_codec.specs.Receiving.{written_report}
 use Rattle.qpack_base.specs.declared.coding.NoMemory.{NoMemory}

@@ -17,7 +17,7 @@ use Rattle.qpack_spec.specs.Rule.{Draft, rule, block_of, required_insert_count, 
 use Rattle.qpack_spec.specs.Stateless.{stateless_line, stateless_literal}
 use Rattle.qpack_spec.specs.StaticTable.{static_name_index}
 use Rattle.qpack_spec.specs.Table.{Table, empty_table, without_references}
-use Rattle.qpack_spec.proofs.Marked.{is_rule_unmarked}
+use Rattle.qpack_rules.proofs.Marked.{is_rule_unmarked}
 use Rattle.qpack_base.specs.HeaderFields.{field_of, fields_behind, DrainsFields}
 use Rattle.qpack_base.specs.declared.field.HeaderField.{HeaderField}
 use Rattle.qpack_codec.specs.Encoding.{DrainsLinesOf}

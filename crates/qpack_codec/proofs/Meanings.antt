@@ -5,7 +5,7 @@ use Rattle.qpack_spec.specs.Field.{Field}
 use Rattle.qpack_spec.specs.Stateless.{StatelessFault, NamesEntry, stateless_reading}
 use Rattle.qpack_spec.specs.StatelessMeaning.{MeansStateless, StopsStateless}
 use Rattle.qpack_spec.proofs.Results.{ok_is}
-use Rattle.qpack_spec.proofs.StatelessMeanings.{reading_alone}
+use Rattle.qpack_rules.proofs.StatelessMeanings.{reading_alone}
 use Rattle.qpack_wire.specs.Answers.{ReadAs}
 use Rattle.qpack_codec.specs.declared.decoder.Decoded.{Decoded}
 use Rattle.qpack_codec.specs.declared.error.DecoderError.{DecoderError}

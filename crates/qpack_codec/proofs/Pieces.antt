@@ -7,7 +7,7 @@ use Rattle.qpack_spec.specs.Bytes.{Begins, ◌>>=◌}
 use Rattle.qpack_spec.specs.Form.{Form, FormFault, Spells, Refuses, Truncates, form_at}
 use Rattle.qpack_spec.specs.Stream.{SpellsAll}
 use Rattle.qpack_spec.specs.Table.{Table}
-use Rattle.qpack_spec.specs.Taking.{TakesAllOf, apply_in_turn}
+use Rattle.qpack_rules.specs.Taking.{TakesAllOf, apply_in_turn}
 use Rattle.qpack_spec.specs.Window.{TableRefusal}
 use Rattle.qpack_spec.proofs.Cuttings.{wire, nil_append, joined_append, refusal_apart}
 use Rattle.qpack_spec.proofs.FormLaws.{form_refused}

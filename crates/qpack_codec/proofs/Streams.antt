@@ -8,7 +8,7 @@ use Rattle.std.specs.BTreeMap.{BTreeMap, is_at, Updates, WritesThrough}
 use Rattle.std.specs.Map.{lookup}
 use Rattle.std.specs.Option.{unwrap_or, option_copied}
 use Rattle.std.specs.Borrow.{Bor}
-use Rattle.qpack_spec.specs.Session.{RequestStream, stream_at}
+use Rattle.qpack_rules.specs.Session.{RequestStream, stream_at}
 use Rattle.qpack_codec.specs.RequestStreams.{KeepsStreams, ChangesStream, IsOpen}
 
 -- a stream that was never used

@@ -4,9 +4,9 @@ use Rattle.std.proofs.Common.{length, sym, ap, subst, ◌∙◌, append_assoc, l
 use Rattle.std.specs.Prelude.{⊤}
 use Rattle.qpack_spec.specs.Form.{Form}
 use Rattle.qpack_spec.specs.Table.{Table}
-use Rattle.qpack_spec.specs.Taking.{TakesAllOf}
+use Rattle.qpack_rules.specs.Taking.{TakesAllOf}
 use Rattle.qpack_spec.specs.Window.{TableRefusal}
-use Rattle.qpack_spec.proofs.Taking.{joined_last, applied_last}
+use Rattle.qpack_rules.proofs.Taking.{joined_last, applied_last}
 use Rattle.qpack_codec.specs.Taking.{TakesOneOf, TakesNextOf, EndsTakingOf}
 
 module _ {L E : Type 0} (form_of : ℕ → Option (Form L)) (apply : Table → L → Result Table TableRefusal)

@@ -7,7 +7,7 @@ use Rattle.qpack_spec.specs.Instruction.{DecoderInstruction, decoder_instruction
 use Rattle.qpack_spec.specs.Instruction.{RefusesDecoderInstruction, SetCapacity, written_encoder_instruction}
 use Rattle.qpack_spec.specs.Table.{Table, apply_decoder_instruction, with_capacity}
 use Rattle.qpack_spec.specs.Window.{TableRefusal}
-use Rattle.qpack_spec.specs.Taking.{TakesAllOf}
+use Rattle.qpack_rules.specs.Taking.{TakesAllOf}
 use Rattle.qpack_base.specs.Integers.{integer_fault_of}
 use Rattle.qpack_base.specs.Refusals.{IsRefusedFor}
 use Rattle.qpack_table.specs.Tables as tables

@@ -11,11 +11,11 @@ use Rattle.qpack_spec.specs.Instruction.{EncoderInstruction, InsertStaticName, I
 use Rattle.qpack_spec.specs.Instruction.{Duplicate, SetCapacity, encoder_instruction_form, SpellsEncoderInstruction}
 use Rattle.qpack_spec.specs.Instruction.{RefusesEncoderInstruction, written_decoder_instructions}
 use Rattle.qpack_spec.specs.StaticTable.{static_table}
-use Rattle.qpack_spec.specs.Session.{is_consumed, increments, pieces_of}
+use Rattle.qpack_rules.specs.Session.{is_consumed, increments, pieces_of}
 use Rattle.qpack_spec.specs.Table.{Table, window, insert_count, apply_encoder_instruction, put}
 use Rattle.qpack_spec.specs.Window.{TableRefusal, NoEntry, NoStaticField, DoesNotFit, AboveMaximum, UnknownStream}
 use Rattle.qpack_spec.specs.Window.{relative_entry, with_value}
-use Rattle.qpack_spec.specs.Taking.{TakesAllOf}
+use Rattle.qpack_rules.specs.Taking.{TakesAllOf}
 use Rattle.qpack_base.specs.Refusals.{IsRefusedFor}
 use Rattle.qpack_table.specs.declared.dynamic.Error.TheVariants.{BadRelativeIndex, MaxTableSizeReached}
 use Rattle.qpack_table.specs.declared.dynamic.Error.TheVariants.{MaximumTableSizeTooLarge, UnknownStreamId}

@@ -4,7 +4,7 @@ use Rattle.std.specs.Ordering.{nat_cmp}
 use Rattle.std.specs.Map.{lookup}
 use Rattle.std.specs.BTreeMap.{is_at}
 use Rattle.std.specs.Option.{IsSome}
-use Rattle.qpack_spec.specs.Session.{RequestStream, stream_at}
+use Rattle.qpack_rules.specs.Session.{RequestStream, stream_at}
 
 -- no stream changes
 abbrev pub KeepsStreams : {B : Type 0} → List (ℕ × RequestStream B) → List (ℕ × RequestStream B) → Type 0

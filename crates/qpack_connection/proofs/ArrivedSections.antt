@@ -7,15 +7,15 @@ use Rattle.std.specs.List.{AllByRecursion}
 use Rattle.qpack_spec.specs.Form.{Truncates}
 use Rattle.qpack_spec.specs.History.{History, Leads, initial_history}
 use Rattle.qpack_spec.specs.Instruction.{EncoderInstruction, SpellsEncoderInstruction, encoder_instruction_form}
-use Rattle.qpack_spec.specs.Session.{RequestStream, stream_at, with_stream}
+use Rattle.qpack_rules.specs.Session.{RequestStream, stream_at, with_stream}
 use Rattle.qpack_spec.specs.Stream.{SpellsAll}
-use Rattle.qpack_spec.specs.StrictInstructions.{strict_apply}
+use Rattle.qpack_rules.specs.StrictInstructions.{strict_apply}
 use Rattle.qpack_spec.specs.Table.{empty_table, insert_count}
-use Rattle.qpack_spec.specs.Taking.{TakesAllOf}
+use Rattle.qpack_rules.specs.Taking.{TakesAllOf}
 use Rattle.qpack_spec.specs.Window.{window_insert_count}
 use Rattle.qpack_spec.proofs.Cuttings.{wire, reads_front, reads_delivered}
 use Rattle.qpack_spec.proofs.Lists.{front_of}
-use Rattle.qpack_spec.proofs.PutTables.{count_put}
+use Rattle.qpack_rules.proofs.PutTables.{count_put}
 use Rattle.qpack_spec.proofs.Windows.{leads_split, leads_unique, leads_grows}
 use Rattle.qpack_safety.specs.AbstractSession.{AbstractSession, abstract_start}
 use Rattle.qpack_safety.specs.Refines.{Agrees}

@@ -11,15 +11,15 @@ use Rattle.qpack_spec.specs.Chosen.{Chosen, chosen_rule}
 use Rattle.qpack_spec.specs.Field.{FieldLine}
 use Rattle.qpack_spec.specs.History.{History, history_after, initial_history, window_of}
 use Rattle.qpack_spec.specs.Instruction.{DecoderInstruction, Acknowledgment, Cancellation, Increment}
-use Rattle.qpack_spec.specs.LawfulDecoders.{KeepsNeeded}
+use Rattle.qpack_rules.specs.LawfulDecoders.{KeepsNeeded}
 use Rattle.qpack_spec.specs.Rule.{Draft, required_insert_count, committed_table}
-use Rattle.qpack_spec.specs.StrictInstructions.{required_by, oldest_required, known_at_least, or_unknown, strict_hear}
-use Rattle.qpack_spec.specs.StrictInstructions.{hear_in_turn}
+use Rattle.qpack_rules.specs.StrictInstructions.{required_by, oldest_required, known_at_least, or_unknown, strict_hear}
+use Rattle.qpack_rules.specs.StrictInstructions.{hear_in_turn}
 use Rattle.qpack_spec.specs.Table.{Table, UnacknowledgedBlock, empty_table, insert_count, window, fields_in, commit}
 use Rattle.qpack_spec.specs.Table.{without_references, without_oldest, without_stream, with_increment, with_capacity}
 use Rattle.qpack_spec.specs.Table.{apply_decoder_instruction}
 use Rattle.qpack_spec.specs.Window.{Resizes, UnknownStream, or_refusal, eviction_count}
-use Rattle.qpack_spec.proofs.ChosenDrafts.{chosen_drafts}
+use Rattle.qpack_rules.proofs.ChosenDrafts.{chosen_drafts}
 use Rattle.qpack_spec.proofs.Drafts.{IsLive, KeepsTable, count_inserted, keeps_unnamed}
 use Rattle.qpack_spec.proofs.Lists.{every_append, every_weaker}
 use Rattle.qpack_spec.proofs.Positions.{eviction_count_live}

@@ -8,7 +8,7 @@ use Rattle.std.specs.declared.vec.Vec.{Vec}
 use Rattle.std.specs.Global.{Global}
 use Rattle.qpack_spec.specs.Field.{FieldLine}
 use Rattle.qpack_spec.specs.Instruction.{DecoderInstruction}
-use Rattle.qpack_spec.specs.Session.{RequestStream, stream_at, with_stream, oldest_undecoded}
+use Rattle.qpack_rules.specs.Session.{RequestStream, stream_at, with_stream, oldest_undecoded}
 use Rattle.qpack_spec.specs.StrictReading.{StrictReading, Read, Blocked, Refused, strict_reading}
 use Rattle.qpack_spec.specs.Table.{Table, insert_count, window}
 use Rattle.qpack_codec.specs.Receiving.{written_report}

@@ -1,6 +1,6 @@
 -- How a connection begins of which both ends keep all that they wrote.
 use Rattle.std.proofs.Common.{◌≡◌, ℕ, List, [], refl, ap, arith}
-use Rattle.qpack_spec.specs.Session.{RequestStream}
+use Rattle.qpack_rules.specs.Session.{RequestStream}
 use Rattle.qpack_connection.specs.declared.connection.ConnectionSettings.{ConnectionSettings}
 use Rattle.qpack_ends.specs.declared.decoder.DecoderSettings.{DecoderSettings}
 use Rattle.qpack_ends.specs.declared.encoder.EncoderSettings.{EncoderSettings}

@@ -6,7 +6,7 @@ use Rattle.std.proofs.lemmas.Bool.{cond_both}
 use Rattle.std.specs.Prelude.{nat_eq, nat_lt, nat_le, unwrap_or}
 use Rattle.qpack_spec.specs.Bytes.{◌>>=◌}
 use Rattle.qpack_spec.specs.Instruction.{DecoderInstruction, Acknowledgment, Cancellation, Increment}
-use Rattle.qpack_spec.specs.StrictInstructions.{oldest_required, known_at_least, or_unknown, strict_hear, hear_in_turn}
+use Rattle.qpack_rules.specs.StrictInstructions.{oldest_required, known_at_least, or_unknown, strict_hear, hear_in_turn}
 use Rattle.qpack_spec.specs.Table.{Table, Entry, UnacknowledgedBlock, fields_in, insert_count, can_evict, with_capacity}
 use Rattle.qpack_spec.specs.Table.{apply_decoder_instruction, with_increment, without_oldest, all_evictable}
 use Rattle.qpack_spec.specs.Window.{DoesNotFit, AboveMaximum, UnknownStream, eviction_count, greatest_capacity}

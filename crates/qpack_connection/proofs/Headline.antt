@@ -1,6 +1,6 @@
 -- What the events of a connection of two ends answer is what was handed, by events and outcomes alone.
 use Rattle.std.proofs.Common.{◌≡◌, ℕ, List, [], ◌∷◌, refl, sym, ap, subst, ◌∙◌, arith, inl}
-use Rattle.qpack_spec.specs.Session.{RequestStream, stream_at}
+use Rattle.qpack_rules.specs.Session.{RequestStream, stream_at}
 use Rattle.qpack_spec.specs.Table.{Table, insert_count}
 use Rattle.qpack_connection.specs.declared.connection.ConnectionSettings.{ConnectionSettings}
 use Rattle.qpack_connection.specs.declared.connection.Event.{Event}

@@ -4,12 +4,12 @@ use Rattle.std.proofs.Common.{Result, Ok, Err, refl, sym, ap, subst, ◌∙◌, 
 use Rattle.std.specs.Global.{Vec}
 use Rattle.std.specs.Prelude.{⊤, nat_lt, IsOk}
 use Rattle.qpack_spec.specs.Field.{FieldLine, fields_of_lines, total_size}
-use Rattle.qpack_spec.specs.Session.{stream_at}
+use Rattle.qpack_rules.specs.Session.{stream_at}
 use Rattle.qpack_spec.specs.Stateless.{saturated_size}
 use Rattle.qpack_spec.specs.Table.{Table, insert_count, window, with_capacity}
 use Rattle.qpack_spec.specs.Window.{DoesNotFit, greatest_capacity}
-use Rattle.qpack_spec.proofs.PutTables.{count_put}
-use Rattle.qpack_spec.proofs.StrictReadings.{strict_are_within}
+use Rattle.qpack_rules.proofs.PutTables.{count_put}
+use Rattle.qpack_rules.proofs.StrictReadings.{strict_are_within}
 use Rattle.qpack_safety.specs.AbstractSession.{abstract_start}
 use Rattle.qpack_safety.specs.TwoEnds.{after_end_steps}
 use Rattle.qpack_ends.specs.FieldSections.{SectionView}

@@ -3,8 +3,8 @@ use Rattle.std.proofs.Common.{◌≡◌, ◌<◌, ◌+◌, ◌-◌, ◌^◌, ℕ
 use Rattle.std.proofs.Common.{arith}
 use Rattle.std.proofs.lemmas.Bool.{ne_eqb, le-ltb}
 use Rattle.qpack_spec.specs.Instruction.{DecoderInstruction, Acknowledgment, Cancellation, Increment}
-use Rattle.qpack_spec.specs.LawfulDecoders.{MayWrite}
-use Rattle.qpack_spec.specs.StrictInstructions.{known_at_least, strict_hear, hear_in_turn}
+use Rattle.qpack_rules.specs.LawfulDecoders.{MayWrite}
+use Rattle.qpack_rules.specs.StrictInstructions.{known_at_least, strict_hear, hear_in_turn}
 use Rattle.qpack_spec.specs.Table.{Table, UnacknowledgedBlock, insert_count, without_stream, with_increment}
 use Rattle.qpack_spec.specs.Table.{apply_decoder_instruction}
 use Rattle.qpack_spec.proofs.Results.{bind_ok, ok_is}

@@ -7,9 +7,10 @@ use Rattle.std.specs.Prelude.{nat_eq, nat_lt, not, filter}
 use Rattle.std.proofs.lemmas.Bool.{ltb-false}
 use Rattle.qpack_spec.specs.Bytes.{◌>>=◌}
 use Rattle.qpack_spec.specs.Instruction.{DecoderInstruction, Acknowledgment, Cancellation, Increment}
-use Rattle.qpack_spec.specs.LawfulDecoders.{MayWrite}
-use Rattle.qpack_spec.specs.StrictInstructions.{HearingRefusal, ZeroIncrement, PastInsertions, UnknownStream}
-use Rattle.qpack_spec.specs.StrictInstructions.{required_by, oldest_required, known_at_least, strict_hear, hear_in_turn}
+use Rattle.qpack_rules.specs.LawfulDecoders.{MayWrite}
+use Rattle.qpack_rules.specs.StrictInstructions.{HearingRefusal, ZeroIncrement, PastInsertions, UnknownStream}
+use Rattle.qpack_rules.specs.StrictInstructions.{required_by, oldest_required, known_at_least, strict_hear}
+use Rattle.qpack_rules.specs.StrictInstructions.{hear_in_turn}
 use Rattle.qpack_spec.specs.Table.{Table, UnacknowledgedBlock, insert_count, without_oldest, without_stream}
 use Rattle.qpack_spec.specs.Table.{with_increment, apply_decoder_instruction}
 use Rattle.qpack_connection.specs.LawfulVerdicts.{HeardStreamsAreLawful}

@@ -6,7 +6,7 @@ use Rattle.std.specs.List.{AllByRecursion}
 use Rattle.std.specs.Option.{IsSome}
 use Rattle.std.specs.Prelude.{nat_eq, not, slice_get}
 use Rattle.std.proofs.lemmas.Bool.{eqb-true}
-use Rattle.qpack_spec.specs.Session.{RequestStream, stream_at, with_stream, oldest_undecoded}
+use Rattle.qpack_rules.specs.Session.{RequestStream, stream_at, with_stream, oldest_undecoded}
 use Rattle.qpack_spec.proofs.Lists.{every_weaker}
 use Rattle.qpack_ends.specs.declared.blocked.BlockedStream.{BlockedStream}
 use Rattle.qpack_ends.specs.Blocked.{without, with_blocked}

@@ -8,14 +8,14 @@ use Rattle.qpack_spec.specs.Form.{Truncates}
 use Rattle.qpack_spec.specs.Instruction.{EncoderInstruction, SpellsEncoderInstruction}
 use Rattle.qpack_spec.specs.Instruction.{encoder_instruction_form}
 use Rattle.qpack_spec.specs.Stream.{SpellsAll}
-use Rattle.qpack_spec.specs.StrictInstructions.{strict_apply}
-use Rattle.qpack_spec.specs.Taking.{TakesAllOf}
+use Rattle.qpack_rules.specs.StrictInstructions.{strict_apply}
+use Rattle.qpack_rules.specs.Taking.{TakesAllOf}
 use Rattle.qpack_spec.proofs.Cuttings.{wire, reads_front}
 use Rattle.qpack_spec.proofs.Cuttings as cuttings
-use Rattle.qpack_spec.specs.Session.{stream_at}
+use Rattle.qpack_rules.specs.Session.{stream_at}
 use Rattle.qpack_spec.specs.StrictReading.{StrictReading, strict_reading}
 use Rattle.qpack_spec.specs.Table.{Table, empty_table, insert_count, window}
-use Rattle.qpack_spec.proofs.PutTables.{count_put}
+use Rattle.qpack_rules.proofs.PutTables.{count_put}
 use Rattle.qpack_safety.specs.AbstractSession.{AbstractSession, abstract_start}
 use Rattle.qpack_safety.specs.TwoEnds.{EndStep, after_end_steps}
 use Rattle.qpack_safety.proofs.MadeInsertions.{required_made, all_taken}

@@ -8,16 +8,16 @@ use Rattle.std.proofs.lemmas.List.{append_assoc}
 use Rattle.qpack_spec.specs.Field.{FieldLine, fields_of_lines, total_size}
 use Rattle.qpack_spec.specs.History.{History, window_of, initial_history, Leads}
 use Rattle.qpack_spec.specs.Instruction.{EncoderInstruction, SpellsEncoderInstruction, encoder_instruction_form}
-use Rattle.qpack_spec.specs.LawfulEncoders.{IsLawfulSection, ReadsLawfully}
+use Rattle.qpack_rules.specs.LawfulEncoders.{IsLawfulSection, ReadsLawfully}
 use Rattle.qpack_spec.specs.Stream.{SpellsAll}
-use Rattle.qpack_spec.specs.StrictInstructions.{strict_apply}
+use Rattle.qpack_rules.specs.StrictInstructions.{strict_apply}
 use Rattle.qpack_spec.specs.StrictReading.{StrictReading, strict_reading, Read, Blocked}
 use Rattle.qpack_spec.specs.Table.{Table, empty_table, table_of, insert_count, window}
-use Rattle.qpack_spec.specs.Taking.{apply_in_turn}
+use Rattle.qpack_rules.specs.Taking.{apply_in_turn}
 use Rattle.qpack_spec.specs.Window.{Window}
 use Rattle.qpack_spec.proofs.Cuttings.{wire, reads_front}
-use Rattle.qpack_spec.proofs.LawfulEncoders.{all_counted, strict_leads, begins_empty, lawful_sections_read}
-use Rattle.qpack_spec.proofs.PutTables.{count_put, window_put}
+use Rattle.qpack_rules.proofs.LawfulEncoders.{all_counted, strict_leads, begins_empty, lawful_sections_read}
+use Rattle.qpack_rules.proofs.PutTables.{count_put, window_put}
 use Rattle.qpack_spec.proofs.Windows.{Sound, sound_start, leads_sound}
 use Rattle.qpack_safety.specs.HandedSections.{IsOverLimit}
 use Rattle.qpack_safety.proofs.Limits.{IsAnswer, Limited, reading_limited}
@@ -36,7 +36,7 @@ use Rattle.qpack_connection.specs.RefinedDecodes.{AnswersSection, MayWait}
 use Rattle.qpack_ends.specs.declared.encoder_stream.Place.{Place}
 use Rattle.qpack_ends.specs.Receiving.{HasReceived}
 use Rattle.qpack_spec.specs.Form.{Truncates}
-use Rattle.qpack_spec.specs.LawfulEncoders.{IsLawfulEncoder}
+use Rattle.qpack_rules.specs.LawfulEncoders.{IsLawfulEncoder}
 use Rattle.qpack_spec.proofs.Windows.{leads_unique}
 use Rattle.std.proofs.lemmas.List.{append-nil}
 use Rattle.qpack_ends.specs.Sections.{TellsReading}

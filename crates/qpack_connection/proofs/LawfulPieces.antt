@@ -8,13 +8,13 @@ use Rattle.qpack_spec.specs.Form.{BadInteger}
 use Rattle.qpack_spec.specs.Instruction.{DecoderInstruction}
 use Rattle.qpack_spec.specs.Instruction.{SpellsDecoderInstruction, decoder_instruction_form}
 use Rattle.qpack_spec.specs.Integer.{Overflow}
-use Rattle.qpack_spec.specs.LawfulStreams.{IsNotRefused, IsLawfulStream}
+use Rattle.qpack_rules.specs.LawfulStreams.{IsNotRefused, IsLawfulStream}
 use Rattle.qpack_spec.specs.Stream.{SpellsAll}
-use Rattle.qpack_spec.specs.StrictInstructions.{HearingRefusal, strict_apply, strict_hear, hear_in_turn}
+use Rattle.qpack_rules.specs.StrictInstructions.{HearingRefusal, strict_apply, strict_hear, hear_in_turn}
 use Rattle.qpack_spec.specs.Table.{Table}
 use Rattle.qpack_spec.specs.Window.{TableRefusal}
 use Rattle.qpack_spec.proofs.Cuttings.{wire, refusal_apart, nil_append, reads_front}
-use Rattle.qpack_spec.proofs.LawfulStreams.{never_refused}
+use Rattle.qpack_rules.proofs.LawfulStreams.{never_refused}
 use Rattle.qpack_spec.proofs.Results.{bind_ok, ok_is}
 use Rattle.qpack_codec.specs.declared.error.DecoderError.{DecoderError}
 use Rattle.qpack_ends.specs.declared.decoder_stream.HearingError.{HearingError}

@@ -14,15 +14,15 @@ use Rattle.qpack_spec.specs.Instruction.{DecoderInstruction, Acknowledgment, Can
 use Rattle.qpack_spec.specs.Instruction.{encoder_instruction_form, decoder_instruction_form, SpellsEncoderInstruction}
 use Rattle.qpack_spec.specs.Instruction.{SpellsDecoderInstruction}
 use Rattle.qpack_spec.specs.Integer.{full, SpellsInteger, UnexpectedEnd}
-use Rattle.qpack_spec.specs.LawfulEncoders.{IsInsertion, MayBeReferenced, SpellsField, TellsPrefix}
-use Rattle.qpack_spec.specs.LawfulEncoders.{IsLawfulSection, IsLawfulEncoder}
+use Rattle.qpack_rules.specs.LawfulEncoders.{IsInsertion, MayBeReferenced, SpellsField, TellsPrefix}
+use Rattle.qpack_rules.specs.LawfulEncoders.{IsLawfulSection, IsLawfulEncoder}
 use Rattle.qpack_spec.specs.Line.{IndexedStatic, IndexedDynamic, IndexedPostBase, NamedStatic, NamedDynamic}
 use Rattle.qpack_spec.specs.Line.{NamedPostBase, Literal, line_form}
 use Rattle.qpack_spec.specs.Reading.{references_of_line}
 use Rattle.qpack_spec.specs.Prefix.{Prefix, SpellsPrefix}
 use Rattle.qpack_spec.specs.StaticTable.{field}
 use Rattle.qpack_spec.specs.Stream.{SpellsAll}
-use Rattle.qpack_spec.specs.StrictInstructions.{strict_apply}
+use Rattle.qpack_rules.specs.StrictInstructions.{strict_apply}
 use Rattle.qpack_spec.specs.StrictReading.{is_never_indexed}
 use Rattle.qpack_spec.specs.Table.{has_number}
 use Rattle.qpack_spec.specs.Window.{Inserts, Resizes}

@@ -14,28 +14,28 @@ use Rattle.qpack_spec.specs.History.{History, window_of, initial_history, histor
 use Rattle.qpack_spec.specs.Instruction.{EncoderInstruction, SetCapacity, SpellsEncoderInstruction}
 use Rattle.qpack_spec.specs.Instruction.{DecoderInstruction, Acknowledgment, Cancellation, Increment}
 use Rattle.qpack_spec.specs.Instruction.{written_encoder_instruction, written_encoder_instructions}
-use Rattle.qpack_spec.specs.LawfulEncoders.{IsLawfulEncoder, IsLawfulSection}
+use Rattle.qpack_rules.specs.LawfulEncoders.{IsLawfulEncoder, IsLawfulSection}
 use Rattle.qpack_spec.specs.Marked.{stateless_block_marked, written_marked_block}
 use Rattle.qpack_spec.specs.Reading.{greatest_of}
 use Rattle.qpack_spec.specs.Rule.{block_of, required_insert_count, committed_table}
 use Rattle.qpack_spec.specs.Stream.{SpellsAll}
-use Rattle.qpack_spec.specs.StrictInstructions.{inserts, strict_apply, oldest_required, or_unknown}
-use Rattle.qpack_spec.specs.StrictInstructions.{known_at_least, strict_hear, hear_in_turn}
+use Rattle.qpack_rules.specs.StrictInstructions.{inserts, strict_apply, oldest_required, or_unknown}
+use Rattle.qpack_rules.specs.StrictInstructions.{known_at_least, strict_hear, hear_in_turn}
 use Rattle.qpack_spec.specs.Table.{Table, UnacknowledgedBlock, empty_table, table_of, window, insert_count}
 use Rattle.qpack_spec.specs.Table.{with_capacity, commit, without_references, with_unacknowledged}
 use Rattle.qpack_spec.specs.Table.{apply_encoder_instruction}
 use Rattle.qpack_spec.specs.Table.{without_oldest, without_stream, with_increment, apply_decoder_instruction}
-use Rattle.qpack_spec.specs.Taking.{apply_in_turn}
+use Rattle.qpack_rules.specs.Taking.{apply_in_turn}
 use Rattle.qpack_spec.specs.Window.{Window, TableRefusal, greatest_capacity, DoesNotFit, Effect, Resizes}
 use Rattle.qpack_spec.specs.Window.{window_after, apply}
 use Rattle.qpack_spec.specs.Window.{UnknownStream, or_refusal}
 use Rattle.qpack_spec.specs.WrittenLaws.{IsByteField, IsSmall}
-use Rattle.qpack_spec.proofs.ChosenWritten.{chosen_written, chosen_inserts}
+use Rattle.qpack_rules.proofs.ChosenWritten.{chosen_written, chosen_inserts}
 use Rattle.qpack_spec.proofs.Cuttings.{joined_append}
 use Rattle.qpack_spec.proofs.Drafts.{IsLive, KeepsTable, count_inserted, keeps_unnamed}
-use Rattle.qpack_spec.proofs.LawfulEncoders.{begins_empty}
+use Rattle.qpack_rules.proofs.LawfulEncoders.{begins_empty}
 use Rattle.qpack_spec.proofs.Lists.{every_weaker}
-use Rattle.qpack_spec.proofs.PutTables.{applied_put}
+use Rattle.qpack_rules.proofs.PutTables.{applied_put}
 use Rattle.qpack_spec.proofs.Results.{bind_ok, ok_is}
 use Rattle.qpack_spec.proofs.Windows.{Sound, Agreed, sound_start, agreed_start, sound_grown, leads_agreed, leads_append}
 use Rattle.qpack_spec.proofs.Windows.{leads_grows, window_grown, allowed, Grows}

@@ -6,19 +6,19 @@ use Rattle.std.proofs.lemmas.Bool.{ltb-false, eq-eqb, and_cases}
 use Rattle.qpack_spec.specs.Field.{FieldLine}
 use Rattle.qpack_spec.specs.Form.{FormFault}
 use Rattle.qpack_spec.specs.History.{History, window_of, initial_history}
-use Rattle.qpack_spec.specs.LawfulEncoders.{IsLawfulSection}
+use Rattle.qpack_rules.specs.LawfulEncoders.{IsLawfulSection}
 use Rattle.qpack_spec.specs.StrictReading.{SectionFault, strict_lines_at, Read, strict_reading, lines_behind}
 use Rattle.qpack_spec.specs.StrictReading.{strict_behind, strict_section_behind}
 use Rattle.qpack_spec.specs.Window.{Window, maximum_capacity, window_insert_count}
 use Rattle.qpack_spec.proofs.Results.{chosen}
 use Rattle.qpack_spec.proofs.BlockReadings.{prefix_takes}
-use Rattle.qpack_spec.proofs.LawfulEncoders.{all_counted, maximum_is, strict_leads, begins_empty}
+use Rattle.qpack_rules.proofs.LawfulEncoders.{all_counted, maximum_is, strict_leads, begins_empty}
 use Rattle.qpack_spec.proofs.Windows.{Sound, Agreed, sound_start, agreed_start, leads_sound, leads_agreed}
 use Rattle.qpack_spec.specs.LengthLaws.{longest_section}
 use Rattle.qpack_spec.specs.Prefix.{Prefix, PrefixFault, most_entries, strict_base, read_strict_prefix, prefix_at}
-use Rattle.qpack_spec.specs.StrictInstructions.{strict_apply}
+use Rattle.qpack_rules.specs.StrictInstructions.{strict_apply}
 use Rattle.qpack_spec.specs.Table.{Table, table_of}
-use Rattle.qpack_spec.specs.Taking.{apply_in_turn}
+use Rattle.qpack_rules.specs.Taking.{apply_in_turn}
 use Rattle.qpack_connection.specs.LawfulVerdicts.{TakenStreamsAreLawful, ReadSectionsAreLawful}
 use Rattle.qpack_connection.proofs.ReadLines.{lines_lawful, lines_from}
 use Rattle.qpack_connection.proofs.ReadPrefixes.{spelled_small, based, count_told, base_told}

@@ -11,11 +11,11 @@ use Rattle.qpack_spec.specs.Field.{FieldLine, fields_of_lines}
 use Rattle.qpack_spec.specs.History.{History}
 use Rattle.qpack_spec.specs.Instruction.{EncoderInstruction, DecoderInstruction, SetCapacity}
 use Rattle.qpack_spec.specs.Instruction.{written_encoder_instruction, written_encoder_instructions}
-use Rattle.qpack_spec.specs.LawfulEncoders.{IsLawfulEncoder, IsLawfulSection}
+use Rattle.qpack_rules.specs.LawfulEncoders.{IsLawfulEncoder, IsLawfulSection}
 use Rattle.qpack_spec.specs.Marked.{written_marked_block}
 use Rattle.qpack_spec.specs.Reading.{greatest_of}
 use Rattle.qpack_spec.specs.Rule.{block_of, required_insert_count, committed_table}
-use Rattle.qpack_spec.specs.StrictInstructions.{HearingRefusal, required_by, hear_in_turn}
+use Rattle.qpack_rules.specs.StrictInstructions.{HearingRefusal, required_by, hear_in_turn}
 use Rattle.qpack_spec.specs.Table.{Table, UnacknowledgedBlock, empty_table, has_number}
 use Rattle.qpack_spec.specs.Table.{with_unacknowledged}
 use Rattle.qpack_spec.specs.WrittenLaws.{IsByteField}

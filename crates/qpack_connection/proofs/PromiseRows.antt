@@ -3,7 +3,7 @@
 use Rattle.std.proofs.Common.{◌≡◌, ◌+◌, ◌<◌, ◌≤◌, ◌^◌, ℕ, false, List, [], ◌∷◌, length, Option, Some, None, Ok, Err, ap, sym, ◌∙◌, arith}
 use Rattle.std.proofs.lemmas.Option.{none-some}
 use Rattle.qpack_spec.specs.Field.{FieldLine}
-use Rattle.qpack_spec.specs.LawfulDecoders.{KeepsNeeded, IsQuiet, IsToBeInserted}
+use Rattle.qpack_rules.specs.LawfulDecoders.{KeepsNeeded, IsQuiet, IsToBeInserted}
 use Rattle.qpack_spec.specs.Table.{insert_count}
 use Rattle.qpack_codec.specs.declared.encoder.choices.Wish.{Wish}
 use Rattle.qpack_codec.specs.declared.encoder.choices.Wish.TheVariants.{Insert}

@@ -8,7 +8,7 @@ use Rattle.qpack_spec.specs.Bytes.{◌>>=◌}
 use Rattle.qpack_spec.specs.Field.{Field, FieldLine, field_size}
 use Rattle.qpack_spec.specs.Form.{FormFault, form_at}
 use Rattle.qpack_spec.specs.History.{History, window_of}
-use Rattle.qpack_spec.specs.LawfulEncoders.{IsInsertion, MeansLine, MayBeReferenced, SpellsField}
+use Rattle.qpack_rules.specs.LawfulEncoders.{IsInsertion, MeansLine, MayBeReferenced, SpellsField}
 use Rattle.qpack_spec.specs.Line.{Line, IndexedStatic, IndexedDynamic, IndexedPostBase, NamedStatic, NamedDynamic}
 use Rattle.qpack_spec.specs.Line.{NamedPostBase, Literal, line_form}
 use Rattle.qpack_spec.specs.Reading.{Fault, or_fault, static_field, relative_field, post_base_field, field_with_value}
@@ -22,7 +22,7 @@ use Rattle.qpack_spec.proofs.FormLaws.{form_takes}
 use Rattle.qpack_spec.proofs.Lists.{get_drop}
 use Rattle.qpack_spec.proofs.Results.{bind_ok, chosen, ok_is, ok_pair}
 use Rattle.qpack_spec.proofs.BlockReadings.{spelled_length}
-use Rattle.qpack_spec.proofs.StrictReadings.{strict_none}
+use Rattle.qpack_rules.proofs.StrictReadings.{strict_none}
 
 -- ---- what is there
 

@@ -4,9 +4,9 @@ use Rattle.std.specs.Prelude.{take, drop}
 use Rattle.std.proofs.lemmas.List.{take-append-drop}
 use Rattle.qpack_spec.specs.Instruction.{DecoderInstruction, Acknowledgment, Cancellation, Increment}
 use Rattle.qpack_spec.specs.Instruction.{decoder_instruction_form, SpellsDecoderInstruction}
-use Rattle.qpack_spec.specs.LawfulDecoders.{MayWrite, HasDecoded}
+use Rattle.qpack_rules.specs.LawfulDecoders.{MayWrite, HasDecoded}
 use Rattle.qpack_spec.specs.Stream.{SpellsAll}
-use Rattle.qpack_spec.specs.StrictInstructions.{oldest_required}
+use Rattle.qpack_rules.specs.StrictInstructions.{oldest_required}
 use Rattle.qpack_spec.specs.Table.{UnacknowledgedBlock, insert_count, without_oldest}
 use Rattle.qpack_ends.specs.Encoders.{EncodingEnd}
 use Rattle.qpack_ends.specs.Hearing.{Receives}

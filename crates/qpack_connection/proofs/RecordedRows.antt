@@ -1,7 +1,7 @@
 -- What other encoders wrote is lawful.
 use Rattle.std.proofs.Common.{ℕ, refl, lit≤}
 use Rattle.qpack_spec.specs.Instruction.{encoder_instruction_form, SpellsEncoderInstruction}
-use Rattle.qpack_spec.specs.LawfulEncoders.{IsLawfulEncoder, IsLawfulSection}
+use Rattle.qpack_rules.specs.LawfulEncoders.{IsLawfulEncoder, IsLawfulSection}
 use Rattle.qpack_spec.specs.Stream.{SpellsAll}
 use Rattle.qpack_spec.specs.StrictReading.{within_size, strict_field, strict_line_at, strict_lines_at, strict_reading}
 use Rattle.qpack_spec.specs.Window.{Inserts, Resizes}

@@ -6,7 +6,7 @@ use Rattle.std.specs.Prelude.{nat_eq}
 use Rattle.std.proofs.lemmas.List.{append_assoc, append-nil, take-append-le}
 use Rattle.qpack_spec.specs.Instruction.{DecoderInstruction, Cancellation, SpellsDecoderInstruction}
 use Rattle.qpack_spec.specs.Instruction.{written_decoder_instruction, written_decoder_instructions}
-use Rattle.qpack_spec.specs.Session.{RequestStream, stream_at, with_stream}
+use Rattle.qpack_rules.specs.Session.{RequestStream, stream_at, with_stream}
 use Rattle.qpack_spec.specs.Stream.{SpellsAll}
 use Rattle.qpack_spec.specs.Table.{Table, empty_table, insert_count}
 use Rattle.qpack_spec.specs.WrittenLaws.{IsWritableDecoderInstruction}

@@ -12,12 +12,12 @@ use Rattle.qpack_spec.specs.Instruction.{written_encoder_instruction, written_en
 use Rattle.qpack_spec.specs.Marked.{written_marked_block}
 use Rattle.qpack_spec.specs.Reading.{greatest_of}
 use Rattle.qpack_spec.specs.Rule.{block_of, committed_table}
-use Rattle.qpack_spec.specs.Session.{RequestStream, stream_at, with_stream}
+use Rattle.qpack_rules.specs.Session.{RequestStream, stream_at, with_stream}
 use Rattle.qpack_spec.specs.Stream.{SpellsAll}
 use Rattle.qpack_spec.specs.Table.{Table, with_capacity, empty_table}
 use Rattle.qpack_spec.specs.Window.{TableRefusal}
 use Rattle.qpack_spec.specs.WrittenLaws.{IsByteField, IsWritableEncoderInstruction}
-use Rattle.qpack_spec.proofs.ChosenWritten.{chosen_written}
+use Rattle.qpack_rules.proofs.ChosenWritten.{chosen_written}
 use Rattle.qpack_spec.proofs.Cuttings.{joined_append}
 use Rattle.qpack_spec.proofs.WrittenDrafts.{instructions_fit}
 use Rattle.qpack_safety.specs.AbstractSession.{AbstractBlock, AbstractStream, AbstractSession, abstract_start}

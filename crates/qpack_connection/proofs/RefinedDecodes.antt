@@ -9,15 +9,15 @@ use Rattle.std.proofs.lemmas.List.{append_assoc, append-nil}
 use Rattle.qpack_spec.specs.Field.{FieldLine, fields_of_lines, total_size}
 use Rattle.qpack_spec.specs.Instruction.{DecoderInstruction, Acknowledgment, written_decoder_instruction}
 use Rattle.qpack_spec.specs.Instruction.{written_decoder_instructions}
-use Rattle.qpack_spec.specs.Session.{RequestStream, stream_at, with_stream, oldest_undecoded, increments, pieces_of}
+use Rattle.qpack_rules.specs.Session.{RequestStream, stream_at, with_stream, oldest_undecoded, increments, pieces_of}
 use Rattle.qpack_spec.specs.StrictReading.{StrictReading, strict_reading, Read, Blocked, Refused}
 use Rattle.qpack_spec.specs.StrictReading as strict
 use Rattle.qpack_spec.specs.Table.{window, insert_count}
 use Rattle.qpack_spec.specs.Window.{Window, window_insert_count}
 use Rattle.qpack_spec.specs.WrittenLaws.{IsWritableDecoderInstruction}
 use Rattle.qpack_spec.proofs.Lists.{every_append}
-use Rattle.qpack_spec.proofs.Pieces.{pieces_small}
-use Rattle.qpack_spec.proofs.PutTables.{window_put, count_put}
+use Rattle.qpack_rules.proofs.Pieces.{pieces_small}
+use Rattle.qpack_rules.proofs.PutTables.{window_put, count_put}
 use Rattle.qpack_safety.specs.AbstractSession.{AbstractBlock, required_count, is_dynamic, AbstractStream}
 use Rattle.qpack_safety.specs.AbstractSession.{AbstractSession, abstract_start}
 use Rattle.qpack_safety.specs.HandedSections.{IsReadStrictly, section_of, IsOverLimit}

@@ -5,7 +5,7 @@ use Rattle.std.specs.Prelude.{⊤}
 use Rattle.std.proofs.lemmas.List.{append_assoc, append-nil, append_cancel_left, take-append-drop, length-take, take_min}
 use Rattle.qpack_spec.specs.Instruction.{DecoderInstruction, SpellsDecoderInstruction, decoder_instruction_form}
 use Rattle.qpack_spec.specs.Stream.{SpellsAll}
-use Rattle.qpack_spec.specs.StrictInstructions.{hear_in_turn}
+use Rattle.qpack_rules.specs.StrictInstructions.{hear_in_turn}
 use Rattle.qpack_spec.specs.Table.{Table}
 use Rattle.qpack_spec.proofs.Cuttings.{wire, reads_front}
 use Rattle.qpack_safety.specs.AbstractSession.{AbstractSession, abstract_start}

@@ -8,16 +8,16 @@ use Rattle.qpack_spec.specs.Bytes.{◌>>=◌}
 use Rattle.qpack_spec.specs.Form.{Truncates}
 use Rattle.qpack_spec.specs.Instruction.{EncoderInstruction, SpellsEncoderInstruction}
 use Rattle.qpack_spec.specs.Instruction.{encoder_instruction_form, written_decoder_instructions}
-use Rattle.qpack_spec.specs.Session.{increments, pieces_of}
+use Rattle.qpack_rules.specs.Session.{increments, pieces_of}
 use Rattle.qpack_spec.specs.Stream.{SpellsAll}
-use Rattle.qpack_spec.specs.StrictInstructions.{strict_apply}
+use Rattle.qpack_rules.specs.StrictInstructions.{strict_apply}
 use Rattle.qpack_spec.specs.Table.{Table, empty_table, table_of, insert_count}
-use Rattle.qpack_spec.specs.Taking.{apply_in_turn}
+use Rattle.qpack_rules.specs.Taking.{apply_in_turn}
 use Rattle.qpack_spec.specs.Window.{Window, TableRefusal}
 use Rattle.qpack_spec.proofs.Cuttings.{wire, reads_front, reads_delivered}
 use Rattle.qpack_spec.proofs.Lists.{front_of}
-use Rattle.qpack_spec.proofs.Pieces.{pieces_small}
-use Rattle.qpack_spec.proofs.PutTables.{count_put}
+use Rattle.qpack_rules.proofs.Pieces.{pieces_small}
+use Rattle.qpack_rules.proofs.PutTables.{count_put}
 use Rattle.qpack_spec.proofs.Results.{bind_ok, ok_is}
 use Rattle.qpack_safety.specs.AbstractSession.{AbstractSession, abstract_start}
 use Rattle.qpack_safety.specs.LawfulFlights.{IsLawfulToItsEnd}

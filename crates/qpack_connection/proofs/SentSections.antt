@@ -8,7 +8,7 @@ use Rattle.std.specs.Ordering.{nat_cmp}
 use Rattle.std.specs.Prelude.{if◌then◌else◌}
 use Rattle.qpack_base.specs.declared.coding.NoMemory.{NoMemory}
 use Rattle.qpack_spec.specs.Field.{FieldLine}
-use Rattle.qpack_spec.specs.Session.{RequestStream, stream_at}
+use Rattle.qpack_rules.specs.Session.{RequestStream, stream_at}
 use Rattle.qpack_codec.proofs.Streams.{stream_found, stream_put}
 use Rattle.qpack_codec.specs.RequestStreams.{KeepsStreams, ChangesStream}
 use Rattle.qpack_ends.specs.declared.encoder.EncodingError.{EncodingError}

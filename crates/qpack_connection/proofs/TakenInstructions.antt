@@ -5,7 +5,7 @@ use Rattle.std.proofs.lemmas.List.{append-nil}
 use Rattle.std.specs.Prelude.{nat_eq}
 use Rattle.qpack_spec.specs.History.{History, Leads, initial_history}
 use Rattle.qpack_spec.specs.Instruction.{EncoderInstruction, DecoderInstruction, Acknowledgment, Cancellation}
-use Rattle.qpack_spec.specs.Session.{stream_at, with_stream, sum_of, is_read, increments}
+use Rattle.qpack_rules.specs.Session.{stream_at, with_stream, sum_of, is_read, increments}
 use Rattle.qpack_spec.specs.Table.{Table, with_capacity, apply_decoder_instruction}
 use Rattle.qpack_spec.specs.Window.{Window, TableRefusal, apply, window_insert_count}
 use Rattle.qpack_spec.proofs.Windows.{leads_split, leads_unique, leads_grows}

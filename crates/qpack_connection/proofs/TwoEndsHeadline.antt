@@ -8,7 +8,7 @@ use Rattle.std.specs.List.{AllByRecursion, filter}
 use Rattle.std.specs.Prelude.{nat_lt}
 use Rattle.qpack_spec.specs.Table.{Table, insert_count}
 use Rattle.qpack_spec.specs.Window.{window_insert_count}
-use Rattle.qpack_spec.proofs.PutTables.{count_put}
+use Rattle.qpack_rules.proofs.PutTables.{count_put}
 use Rattle.qpack_safety.specs.AbstractSession.{abstract_start}
 use Rattle.qpack_safety.specs.TwoEnds.{EndStep, after_end_steps}
 use Rattle.qpack_safety.proofs.TwoEnds.{strict_ends_safe}

@@ -7,17 +7,17 @@ use Rattle.std.proofs.lemmas.Bool.{lt-ltb}
 use Rattle.qpack_spec.specs.Chosen.{Choice, Inserts, Chosen, chosen_rule}
 use Rattle.qpack_spec.specs.Field.{FieldLine}
 use Rattle.qpack_spec.specs.Marked.{stateless_block_marked}
-use Rattle.qpack_spec.specs.LawfulDecoders.{IsQuiet, IsToBeInserted}
+use Rattle.qpack_rules.specs.LawfulDecoders.{IsQuiet, IsToBeInserted}
 use Rattle.qpack_spec.specs.Rule.{block_of, empty_draft, required_insert_count}
 use Rattle.qpack_spec.specs.Table.{Table, UnacknowledgedBlock, insert_count, window, with_numbers, without_references}
 use Rattle.qpack_spec.specs.Table.{below_limit, has_room, newest_index}
 use Rattle.qpack_spec.specs.Table.{with_unacknowledged}
-use Rattle.qpack_spec.proofs.AloneSections.{none_referenced}
-use Rattle.qpack_spec.proofs.ChosenDrafts.{chosen_drafts}
+use Rattle.qpack_rules.proofs.AloneSections.{none_referenced}
+use Rattle.qpack_rules.proofs.ChosenDrafts.{chosen_drafts}
 use Rattle.qpack_safety.proofs.Encoding.{same_committed}
 use Rattle.qpack_connection.specs.LawfulDecoders.{CountsSection, Counts}
-use Rattle.qpack_spec.proofs.ChosenGoesOn.{go_on_chosen}
-use Rattle.qpack_spec.proofs.LawfulDecoders.{instructions_heard, has_room_quiet}
+use Rattle.qpack_rules.proofs.ChosenGoesOn.{go_on_chosen}
+use Rattle.qpack_rules.proofs.LawfulDecoders.{instructions_heard, has_room_quiet}
 use Rattle.qpack_ends.specs.declared.encoder.EncoderSettings.{EncoderSettings}
 use Rattle.qpack_ends.specs.declared.encoder.EncodingError.{EncodingError}
 use Rattle.qpack_ends.specs.declared.encoder.EncodingError.TheVariants.{DecoderStream, CapacityTooLarge}

@@ -6,12 +6,12 @@ use Rattle.std.proofs.lemmas.List.{append_assoc, append-nil, append_cancel_right
 use Rattle.qpack_spec.specs.Field.{FieldLine}
 use Rattle.qpack_spec.specs.Form.{Truncates}
 use Rattle.qpack_spec.specs.Instruction.{EncoderInstruction, SpellsEncoderInstruction, encoder_instruction_form}
-use Rattle.qpack_spec.specs.LawfulStreams.{IsLawfulStream}
+use Rattle.qpack_rules.specs.LawfulStreams.{IsLawfulStream}
 use Rattle.qpack_spec.specs.Stream.{SpellsAll}
-use Rattle.qpack_spec.specs.StrictInstructions.{strict_apply}
+use Rattle.qpack_rules.specs.StrictInstructions.{strict_apply}
 use Rattle.qpack_spec.specs.StrictReading.{StrictReading, strict_reading}
 use Rattle.qpack_spec.specs.Table.{Table, empty_table, insert_count, window}
-use Rattle.qpack_spec.specs.Taking.{apply_in_turn}
+use Rattle.qpack_rules.specs.Taking.{apply_in_turn}
 use Rattle.qpack_spec.proofs.Cuttings.{wire, reads_front}
 use Rattle.qpack_spec.proofs.Lists.{front_of}
 use Rattle.qpack_ends.specs.declared.decoder.DecodingError.{DecodingError}
@@ -48,7 +48,7 @@ use Rattle.qpack_ends.specs.Receiving.{StreamView, Receives}
 use Rattle.qpack_connection.specs.RefinedDecodes.{AnswersSection}
 use Rattle.qpack_connection.proofs.RefinedDecodes.{refusal_is}
 use Rattle.qpack_connection.proofs.RefinedDecodes.{stops_for_memory}
-use Rattle.qpack_spec.specs.LawfulEncoders.{IsLawfulEncoder}
+use Rattle.qpack_rules.specs.LawfulEncoders.{IsLawfulEncoder}
 use Rattle.qpack_connection.proofs.LawfulEncoders.{all_made, taken, is_read_as, decode_answers}
 
 -- ---- between calls

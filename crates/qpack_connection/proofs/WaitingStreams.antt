@@ -6,9 +6,9 @@ use Rattle.std.specs.List.{AllByRecursion, filter}
 use Rattle.std.specs.Option.{option_map, is_some}
 use Rattle.std.specs.Prelude.{nat_eq, nat_lt, find, ◌||◌}
 use Rattle.std.proofs.lemmas.Bool.{eqb-true, eqb-false, ne_eqb, ltb-true, ltb-false}
-use Rattle.qpack_spec.specs.Session.{stream_at, oldest_undecoded}
+use Rattle.qpack_rules.specs.Session.{stream_at, oldest_undecoded}
 use Rattle.qpack_spec.specs.Table.{Table, insert_count, has_number}
-use Rattle.qpack_spec.proofs.PutTables.{count_put}
+use Rattle.qpack_rules.proofs.PutTables.{count_put}
 use Rattle.qpack_safety.specs.AbstractSession.{AbstractSession, abstract_start}
 use Rattle.qpack_safety.specs.TwoEnds.{EndStep, after_end_steps}
 use Rattle.qpack_safety.proofs.WaitingStreams.{waiting_unacknowledged}

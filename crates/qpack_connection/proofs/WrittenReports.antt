@@ -8,14 +8,14 @@ use Rattle.std.proofs.lemmas.List.{append_assoc, append-nil, take-append-drop}
 use Rattle.qpack_spec.specs.Field.{FieldLine}
 use Rattle.qpack_spec.specs.Instruction.{DecoderInstruction, Acknowledgment, Cancellation, SpellsDecoderInstruction}
 use Rattle.qpack_spec.specs.Instruction.{written_decoder_instruction}
-use Rattle.qpack_spec.specs.LawfulDecoders.{MayWrite}
-use Rattle.qpack_spec.specs.Session.{sum_of, increments, IsPiece, pieces_of}
+use Rattle.qpack_rules.specs.LawfulDecoders.{MayWrite}
+use Rattle.qpack_rules.specs.Session.{sum_of, increments, IsPiece, pieces_of}
 use Rattle.qpack_spec.specs.Stream.{SpellsAll}
-use Rattle.qpack_spec.specs.StrictInstructions.{oldest_required}
+use Rattle.qpack_rules.specs.StrictInstructions.{oldest_required}
 use Rattle.qpack_spec.specs.StrictReading.{StrictReading, strict_reading}
 use Rattle.qpack_spec.specs.Table.{UnacknowledgedBlock, insert_count, window, without_oldest, without_stream}
 use Rattle.qpack_spec.proofs.Cuttings.{joined_append}
-use Rattle.qpack_spec.proofs.Pieces.{pieces_add_up, pieces_small}
+use Rattle.qpack_rules.proofs.Pieces.{pieces_add_up, pieces_small}
 use Rattle.qpack_spec.proofs.WrittenForms.{decoder_instructions_spelled}
 use Rattle.qpack_safety.proofs.Shown.{decoder_instructions_joined, increments_writable, one_joined}
 use Rattle.qpack_codec.specs.Receiving.{written_report}

@@ -10,8 +10,8 @@ use Rattle.std.proofs.lemmas.Bool.{leb-true, leb-false}
 use Rattle.qpack_spec.specs.Chosen.{Chosen, chosen_rule}
 use Rattle.qpack_spec.specs.Field.{Field, FieldLine, fields_of_lines}
 use Rattle.qpack_spec.specs.History.{History, window_of, whole_window, Leads}
-use Rattle.qpack_spec.specs.LawfulEncoders.{IsInsertion, MeansLine, MayBeReferenced, SpellsField}
-use Rattle.qpack_spec.specs.LawfulEncoders.{TellsPrefix, IsLawfulSection}
+use Rattle.qpack_rules.specs.LawfulEncoders.{IsInsertion, MeansLine, MayBeReferenced, SpellsField}
+use Rattle.qpack_rules.specs.LawfulEncoders.{TellsPrefix, IsLawfulSection}
 use Rattle.qpack_spec.specs.Line.{Line, IndexedStatic, IndexedDynamic, IndexedPostBase, NamedStatic, NamedDynamic}
 use Rattle.qpack_spec.specs.Line.{NamedPostBase, Literal, SpellsLine, written_lines, written_marked_line}
 use Rattle.qpack_spec.specs.Marked.{stateless_block_marked, stateless_line_marked, written_marked_lines}
@@ -27,19 +27,19 @@ use Rattle.qpack_spec.specs.StrictReading.{is_never_indexed}
 use Rattle.qpack_spec.specs.Table.{Table, insert_count, has_number, window}
 use Rattle.qpack_spec.specs.Window.{Window, with_value, maximum_capacity}
 use Rattle.qpack_spec.specs.WrittenLaws.{IsByteField, IsByteLine, IsWritableLine}
-use Rattle.qpack_spec.proofs.AloneSections.{lines_alone, none_referenced, literals_alone, written_alone}
+use Rattle.qpack_rules.proofs.AloneSections.{lines_alone, none_referenced, literals_alone, written_alone}
 use Rattle.qpack_spec.proofs.BlockReadings.{prefix_spelled}
-use Rattle.qpack_spec.proofs.ChosenDrafts.{chosen_drafts}
-use Rattle.qpack_spec.proofs.ChosenLines.{chosen_have_lines}
-use Rattle.qpack_spec.proofs.ChosenWritten.{chosen_written}
+use Rattle.qpack_rules.proofs.ChosenDrafts.{chosen_drafts}
+use Rattle.qpack_rules.proofs.ChosenLines.{chosen_have_lines}
+use Rattle.qpack_rules.proofs.ChosenWritten.{chosen_written}
 use Rattle.qpack_spec.proofs.Drafts.{IsLive, KeepsTable, Drafting, count_inserted}
 use Rattle.qpack_spec.proofs.Lists.{every_left, every_right, every_weaker, get_append}
-use Rattle.qpack_spec.proofs.MarkedForms.{marked_lines_spelled, line_tells}
+use Rattle.qpack_rules.proofs.MarkedForms.{marked_lines_spelled, line_tells}
 use Rattle.qpack_spec.proofs.Positions.{every_number}
 use Rattle.qpack_spec.proofs.Readings.{followed_ok, nil_parts, fields_plain, greatest_bound, below_greatest}
 use Rattle.qpack_spec.proofs.Readings.{greatest_has}
 use Rattle.qpack_spec.proofs.Results.{chosen, ok_is}
-use Rattle.qpack_spec.proofs.StrictWritten.{lines_length}
+use Rattle.qpack_rules.proofs.StrictWritten.{lines_length}
 use Rattle.qpack_spec.proofs.Windows.{Sound, Agreed, leads_sound, leads_agreed}
 use Rattle.qpack_spec.proofs.References.{KeepsReferences}
 use Rattle.qpack_spec.proofs.WrittenDrafts.{lines_fit}

@@ -5,7 +5,7 @@ use Rattle.std.specs.Prelude.{Option, None, Some, Result, Ok, Err}
 use Rattle.std.specs.List.{AllByRecursion}
 use Rattle.std.specs.Option.{is_some}
 use Rattle.qpack_spec.specs.Field.{FieldLine, fields_of_lines}
-use Rattle.qpack_spec.specs.Session.{RequestStream, stream_at, oldest_undecoded}
+use Rattle.qpack_rules.specs.Session.{RequestStream, stream_at, oldest_undecoded}
 use Rattle.qpack_spec.specs.WrittenLaws.{IsByteField}
 use Rattle.qpack_codec.specs.RequestStreams.{KeepsStreams, ChangesStream}
 use Rattle.qpack_connection.specs.declared.connection.ConnectionSettings.{ConnectionSettings}

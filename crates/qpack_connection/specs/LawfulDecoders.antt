@@ -5,7 +5,7 @@ use Rattle.std.specs.Prelude.{◌≡◌, ◌<◌, ◌≤◌, ◌^◌, ℕ, ⊤, 
 use Rattle.std.specs.Option.{IfSome}
 use Rattle.qpack_spec.specs.Field.{FieldLine}
 use Rattle.qpack_spec.specs.Instruction.{DecoderInstruction, SpellsDecoderInstruction}
-use Rattle.qpack_spec.specs.LawfulDecoders.{MayWrite, KeepsNeeded, IsQuiet, IsToBeInserted}
+use Rattle.qpack_rules.specs.LawfulDecoders.{MayWrite, KeepsNeeded, IsQuiet, IsToBeInserted}
 use Rattle.qpack_spec.specs.Marked.{written_marked_block}
 use Rattle.qpack_spec.specs.Reading.{Block, references_of}
 use Rattle.qpack_spec.specs.Stream.{SpellsAll}

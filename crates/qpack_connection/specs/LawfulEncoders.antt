@@ -7,7 +7,7 @@ use Rattle.std.specs.List.{AllByRecursion}
 use Rattle.qpack_spec.specs.Field.{FieldLine}
 use Rattle.qpack_spec.specs.History.{History}
 use Rattle.qpack_spec.specs.Instruction.{EncoderInstruction, SpellsEncoderInstruction}
-use Rattle.qpack_spec.specs.LawfulEncoders.{IsLawfulEncoder, IsLawfulSection}
+use Rattle.qpack_rules.specs.LawfulEncoders.{IsLawfulEncoder, IsLawfulSection}
 use Rattle.qpack_spec.specs.Stream.{SpellsAll}
 use Rattle.qpack_spec.specs.StrictReading.{strict_reading}
 use Rattle.qpack_spec.specs.Table.{Table, insert_count, window, has_number}

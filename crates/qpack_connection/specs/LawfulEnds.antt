@@ -8,9 +8,9 @@ use Rattle.qpack_spec.specs.Field.{FieldLine, fields_of_lines}
 use Rattle.qpack_spec.specs.History.{History}
 use Rattle.qpack_spec.specs.Instruction.{EncoderInstruction, DecoderInstruction, Acknowledgment, Cancellation}
 use Rattle.qpack_spec.specs.Instruction.{Increment, SpellsDecoderInstruction}
-use Rattle.qpack_spec.specs.LawfulDecoders.{MayWrite}
-use Rattle.qpack_spec.specs.LawfulEncoders.{IsLawfulSection}
-use Rattle.qpack_spec.specs.StrictInstructions.{required_by, oldest_required, hear_in_turn}
+use Rattle.qpack_rules.specs.LawfulDecoders.{MayWrite}
+use Rattle.qpack_rules.specs.LawfulEncoders.{IsLawfulSection}
+use Rattle.qpack_rules.specs.StrictInstructions.{required_by, oldest_required, hear_in_turn}
 use Rattle.qpack_spec.specs.Stream.{SpellsAll}
 use Rattle.qpack_spec.specs.Table.{Table, UnacknowledgedBlock, insert_count, without_oldest, without_stream}
 use Rattle.qpack_spec.specs.WrittenLaws.{IsByteField}

@@ -2,7 +2,7 @@
 -- both streams come to for a lawful peer (RFC 9204, sections 4.2 to 4.4).
 use Rattle.std.specs.Prelude.{◌≡◌, ℕ, List, ◌++◌, Ok, Err}
 use Rattle.qpack_spec.specs.Instruction.{EncoderInstruction, DecoderInstruction, SpellsDecoderInstruction}
-use Rattle.qpack_spec.specs.LawfulStreams.{IsLawfulStream}
+use Rattle.qpack_rules.specs.LawfulStreams.{IsLawfulStream}
 use Rattle.qpack_spec.specs.Stream.{SpellsAll}
 use Rattle.qpack_spec.specs.Table.{Table}
 use Rattle.qpack_codec.specs.declared.error.DecoderError.{DecoderError}

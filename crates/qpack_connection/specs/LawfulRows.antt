@@ -7,7 +7,7 @@ use Rattle.qpack_spec.specs.History.{History, window_of, initial_history}
 use Rattle.qpack_spec.specs.Instruction.{EncoderInstruction, InsertStaticName, InsertDynamicName, InsertLiteralName}
 use Rattle.qpack_spec.specs.Instruction.{Duplicate, SetCapacity, DecoderInstruction, Acknowledgment, Cancellation}
 use Rattle.qpack_spec.specs.Instruction.{Increment}
-use Rattle.qpack_spec.specs.LawfulEncoders.{IsLawfulSection}
+use Rattle.qpack_rules.specs.LawfulEncoders.{IsLawfulSection}
 use Rattle.qpack_spec.specs.StaticTable.{field}
 use Rattle.qpack_spec.specs.Table.{Table, UnacknowledgedBlock, sent_entry, table_of}
 use Rattle.qpack_ends.specs.declared.blocked.BlockedStream.{BlockedStream}

@@ -6,12 +6,12 @@ use Rattle.std.specs.List.{AllByRecursion}
 use Rattle.qpack_spec.specs.Field.{FieldLine}
 use Rattle.qpack_spec.specs.History.{History, window_of}
 use Rattle.qpack_spec.specs.Instruction.{EncoderInstruction, DecoderInstruction}
-use Rattle.qpack_spec.specs.LawfulDecoders.{MayWrite}
-use Rattle.qpack_spec.specs.LawfulEncoders.{IsLawfulEncoder, IsLawfulSection}
-use Rattle.qpack_spec.specs.StrictInstructions.{strict_apply, required_by, hear_in_turn}
+use Rattle.qpack_rules.specs.LawfulDecoders.{MayWrite}
+use Rattle.qpack_rules.specs.LawfulEncoders.{IsLawfulEncoder, IsLawfulSection}
+use Rattle.qpack_rules.specs.StrictInstructions.{strict_apply, required_by, hear_in_turn}
 use Rattle.qpack_spec.specs.StrictReading.{strict_reading, Read}
 use Rattle.qpack_spec.specs.Table.{Table, empty_table, insert_count, table_of}
-use Rattle.qpack_spec.specs.Taking.{apply_in_turn}
+use Rattle.qpack_rules.specs.Taking.{apply_in_turn}
 
 -- instructions that a strict decoder takes in turn are lawful for an encoder that knows of all insertions that were
 -- evicted; and the table is that of the insertions that they make

@@ -6,7 +6,7 @@ use Rattle.qpack_spec.specs.Field.{Field, FieldLine, unmarked}
 use Rattle.qpack_spec.specs.History.{History}
 use Rattle.qpack_spec.specs.Instruction.{EncoderInstruction, InsertStaticName, InsertLiteralName, SetCapacity}
 use Rattle.qpack_spec.specs.Instruction.{SpellsEncoderInstruction}
-use Rattle.qpack_spec.specs.LawfulEncoders.{IsLawfulEncoder, IsLawfulSection}
+use Rattle.qpack_rules.specs.LawfulEncoders.{IsLawfulEncoder, IsLawfulSection}
 use Rattle.qpack_spec.specs.StaticTable.{field}
 use Rattle.qpack_spec.specs.Stream.{SpellsAll}
 

@@ -3,7 +3,7 @@ use Rattle.std.specs.Prelude.{◌≡◌, ◌<◌, ◌≤◌, ◌^◌, ◌+◌, �
 use Rattle.std.specs.List.{AllByRecursion}
 use Rattle.qpack_spec.specs.Field.{FieldLine, fields_of_lines}
 use Rattle.qpack_spec.specs.Instruction.{DecoderInstruction, SpellsEncoderInstruction, SpellsDecoderInstruction}
-use Rattle.qpack_spec.specs.Session.{RequestStream, stream_at}
+use Rattle.qpack_rules.specs.Session.{RequestStream, stream_at}
 use Rattle.qpack_spec.specs.Stream.{SpellsAll}
 use Rattle.qpack_spec.specs.Table.{empty_table, table_of, insert_count}
 use Rattle.qpack_spec.specs.WrittenLaws.{IsByteField}

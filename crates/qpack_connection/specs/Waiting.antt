@@ -2,7 +2,7 @@
 -- 2.1.2).
 use Rattle.std.specs.Prelude.{◌≡◌, false, Some}
 use Rattle.std.specs.List.{AllByRecursion}
-use Rattle.qpack_spec.specs.Session.{stream_at, oldest_undecoded}
+use Rattle.qpack_rules.specs.Session.{stream_at, oldest_undecoded}
 use Rattle.qpack_ends.specs.declared.blocked.BlockedStream.{BlockedStream}
 pub use Rattle.qpack_ends.specs.Blocked.{AreOfOneEach}
 use Rattle.qpack_connection.specs.Connections.{SentSection, Connection}

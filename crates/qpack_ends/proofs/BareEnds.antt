@@ -9,14 +9,14 @@ use Rattle.qpack_spec.specs.Instruction.{EncoderInstruction, DecoderInstruction,
 use Rattle.qpack_spec.specs.Instruction.{written_encoder_instructions}
 use Rattle.qpack_spec.specs.Reading.{greatest_of}
 use Rattle.qpack_spec.specs.Rule.{Draft, empty_draft, committed_table}
-use Rattle.qpack_spec.specs.StrictInstructions.{strict_hear, hear_in_turn}
+use Rattle.qpack_rules.specs.StrictInstructions.{strict_hear, hear_in_turn}
 use Rattle.qpack_spec.specs.Table.{Table, empty_table, insert_count, commit, without_references, with_capacity}
 use Rattle.qpack_spec.specs.Table.{without_oldest, without_stream, apply_decoder_instruction}
 use Rattle.qpack_spec.specs.Window.{greatest_capacity}
-use Rattle.qpack_spec.proofs.ChosenSteps.{IsKept, every_kept, kept_chosen_fields}
+use Rattle.qpack_rules.proofs.ChosenSteps.{IsKept, every_kept, kept_chosen_fields}
 use Rattle.qpack_spec.proofs.Positions.{FoundEntry}
 use Rattle.qpack_spec.proofs.Results.{bind_ok, ok_is}
-use Rattle.qpack_spec.proofs.StrictSections.{no_room}
+use Rattle.qpack_rules.proofs.StrictSections.{no_room}
 use Rattle.qpack_codec.specs.ChosenSections.{EncodesChosen, GivesUpChosen}
 use Rattle.qpack_ends.specs.Encoders.{EncodingEnd, IsSound}
 use Rattle.qpack_ends.specs.Hearing.{StreamView}

@@ -13,9 +13,9 @@ use Rattle.qpack_spec.specs.Instruction.{DecoderInstruction, decoder_instruction
 use Rattle.qpack_spec.specs.Table.{Table}
 use Rattle.qpack_spec.proofs.FormLaws.{reads_form_truncation}
 use Rattle.qpack_spec.proofs.Results.{bind_ok, ok_is}
-use Rattle.qpack_spec.proofs.Taking.{joined_last}
-use Rattle.qpack_spec.proofs.Waiting.{IsCut}
-use Rattle.qpack_spec.proofs.WaitingBytes.{lone_index_few}
+use Rattle.qpack_rules.proofs.Taking.{joined_last}
+use Rattle.qpack_rules.proofs.Waiting.{IsCut}
+use Rattle.qpack_rules.proofs.WaitingBytes.{lone_index_few}
 use Rattle.qpack_ends.specs.Hearing.{HearingRefusal, strict_hear, hear_in_turn, HearsOne, Refuses}
 use Rattle.qpack_ends.specs.Hearing.{bad_bytes, bad_instruction, StreamView, StandsBehind, Receives, HasRefused}
 use Rattle.qpack_ends.specs.Hearing.{HearsMore}

@@ -19,7 +19,7 @@ use Rattle.qpack_spec.specs.Table.{without_oldest, apply_decoder_instruction}
 use Rattle.qpack_spec.specs.Bytes.{◌>>=◌}
 use Rattle.qpack_spec.specs.Instruction.{DecoderInstruction, Acknowledgment, Cancellation, Increment}
 use Rattle.qpack_spec.specs.Rule.{committed_table}
-use Rattle.qpack_spec.specs.StrictInstructions.{strict_hear, hear_in_turn, or_unknown, known_at_least, oldest_required}
+use Rattle.qpack_rules.specs.StrictInstructions.{strict_hear, hear_in_turn, or_unknown, known_at_least, oldest_required}
 use Rattle.qpack_spec.specs.Window.{or_refusal, UnknownStream, greatest_capacity, eviction_count}
 use Rattle.qpack_spec.proofs.Results.{bind_ok, ok_is}
 use Rattle.qpack_spec.proofs.References.{greatest_track}

@@ -11,7 +11,7 @@ use Rattle.std.specs.Prelude.{nat_eq, nat_lt, ◌||◌}
 use Rattle.std.proofs.Common.{Result, Ok, Err, Option, None, Some, IfSome}
 use Rattle.std.specs.Prelude.{OnOk, is_err}
 use Rattle.qpack_spec.specs.Instruction.{DecoderInstruction}
-use Rattle.qpack_spec.specs.StrictInstructions.{hear_in_turn}
+use Rattle.qpack_rules.specs.StrictInstructions.{hear_in_turn}
 use Rattle.qpack_spec.specs.Table.{has_number, with_capacity}
 use Rattle.qpack_codec.specs.ChosenSections.{EncodesChosen, GivesUpChosen}
 use Rattle.qpack_ends.specs.declared.blocked.BlockedStream.{BlockedStream}

@@ -4,7 +4,7 @@ use Rattle.std.proofs.Common.{length, sym, ap, subst, ◌∙◌, append_assoc, l
 use Rattle.std.specs.Prelude.{⊤}
 use Rattle.qpack_spec.specs.Instruction.{encoder_instruction_form}
 use Rattle.qpack_spec.specs.Table.{Table}
-use Rattle.qpack_spec.proofs.Taking.{joined_last, applied_last}
+use Rattle.qpack_rules.proofs.Taking.{joined_last, applied_last}
 use Rattle.qpack_codec.specs.Taking.{TakesOneOf, EndsTakingOf}
 use Rattle.qpack_codec.specs.declared.error.DecoderError.{DecoderError}
 use Rattle.qpack_ends.specs.Places.{first_place, passed}

@@ -8,11 +8,11 @@ use Rattle.qpack_spec.specs.Bytes.{◌>>=◌}
 use Rattle.qpack_spec.specs.Form.{Spells, Truncates}
 use Rattle.qpack_spec.specs.Instruction.{EncoderInstruction, encoder_instruction_form}
 use Rattle.qpack_spec.specs.Table.{Table}
-use Rattle.qpack_spec.specs.Taking.{apply_in_turn}
+use Rattle.qpack_rules.specs.Taking.{apply_in_turn}
 use Rattle.qpack_spec.specs.Window.{TableRefusal}
 use Rattle.qpack_spec.proofs.Cuttings.{joined_append}
 use Rattle.qpack_spec.proofs.Results.{bind_ok, ok_is}
-use Rattle.qpack_spec.proofs.Waiting.{nothing_before_wanted}
+use Rattle.qpack_rules.proofs.Waiting.{nothing_before_wanted}
 use Rattle.qpack_codec.specs.Receiving.{AsksToTake}
 use Rattle.qpack_codec.specs.declared.error.DecoderError.{DecoderError}
 use Rattle.qpack_codec.specs.declared.error.DecoderError.TheVariants.{Memory}

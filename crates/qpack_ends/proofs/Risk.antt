@@ -9,7 +9,8 @@ use Rattle.std.proofs.lemmas.List.{length-map}
 use Rattle.qpack_spec.specs.Bytes.{◌>>=◌}
 use Rattle.qpack_spec.specs.Instruction.{DecoderInstruction, Acknowledgment, Cancellation, Increment}
 use Rattle.qpack_spec.specs.Reading.{greatest_of}
-use Rattle.qpack_spec.specs.StrictInstructions.{strict_hear, hear_in_turn, or_unknown, known_at_least, oldest_required, required_by}
+use Rattle.qpack_rules.specs.StrictInstructions.{strict_hear, hear_in_turn, or_unknown, known_at_least, oldest_required}
+use Rattle.qpack_rules.specs.StrictInstructions.{required_by}
 use Rattle.qpack_spec.specs.Table.{Table, UnacknowledgedBlock, has_number, with_number, with_numbers, with_unacknowledged}
 use Rattle.qpack_spec.specs.Table.{without_oldest, without_stream, apply_decoder_instruction, with_increment, insert_count}
 use Rattle.qpack_spec.specs.Window.{or_refusal, UnknownStream}

@@ -3,7 +3,7 @@ use Rattle.std.proofs.Common.{◌≡◌, ◌≤◌, List, [], ◌∷◌, Ok, Err
 use Rattle.std.specs.Prelude.{◌&&◌, nat_eq}
 use Rattle.qpack_spec.specs.Bytes.{◌>>=◌}
 use Rattle.qpack_spec.specs.Instruction.{EncoderInstruction}
-use Rattle.qpack_spec.specs.Taking.{apply_in_turn}
+use Rattle.qpack_rules.specs.Taking.{apply_in_turn}
 use Rattle.qpack_spec.specs.Table.{Table, insert_count, apply_encoder_instruction}
 use Rattle.qpack_spec.specs.Window.{TableRefusal, DoesNotFit}
 use Rattle.qpack_spec.proofs.Results.{bind_ok, chosen, ok_is}

@@ -5,7 +5,7 @@ use Rattle.std.specs.Prelude.{⊤}
 use Rattle.std.proofs.Math.Seq.{drop-append_seam}
 use Rattle.qpack_spec.specs.Instruction.{EncoderInstruction, encoder_instruction_form}
 use Rattle.qpack_spec.specs.Table.{Table, apply_encoder_instruction}
-use Rattle.qpack_spec.proofs.LawfulStreams.{inserts_by}
+use Rattle.qpack_rules.proofs.LawfulStreams.{inserts_by}
 use Rattle.qpack_codec.specs.Receiving.{Stops, no_memory, TakesNext}
 use Rattle.qpack_codec.specs.Receiving as decoder
 use Rattle.qpack_codec.specs.Taking.{EndsTakingOf}

@@ -12,8 +12,8 @@ use Rattle.qpack_spec.specs.Form.{value_at, made_at, in_form, form_at}
 use Rattle.qpack_spec.specs.Instruction.{encoder_instruction_form}
 use Rattle.qpack_spec.specs.Wanted.{string_end, value_wanted, value_behind_index_wanted, value_behind_name_wanted}
 use Rattle.qpack_spec.specs.Wanted.{wanted_in, wanted}
-use Rattle.qpack_spec.proofs.Waiting.{IsCut, meaning_of, string_whole, reads_integer, whole_name, ends_early}
-use Rattle.qpack_spec.proofs.WaitingBytes.{waiting_bytes_few}
+use Rattle.qpack_rules.proofs.Waiting.{IsCut, meaning_of, string_whole, reads_integer, whole_name, ends_early}
+use Rattle.qpack_rules.proofs.WaitingBytes.{waiting_bytes_few}
 use Rattle.qpack_spec.specs.Table.{Table}
 use Rattle.qpack_ends.specs.Receiving.{MayGrow}
 

@@ -17,9 +17,9 @@ use Rattle.qpack_ends.specs.declared.encoder_stream.Place.{Place}
 -- ---- one instruction
 
 -- what a strict encoder makes of an instruction, why it refuses one, and what it makes of some in turn
-pub use Rattle.qpack_spec.specs.StrictInstructions.{HearingRefusal, ZeroIncrement, PastInsertions, UnknownStream}
-pub use Rattle.qpack_spec.specs.StrictInstructions.{or_unknown, known_at_least, hear_in_turn}
-unfoldable pub use Rattle.qpack_spec.specs.StrictInstructions.{strict_hear}
+pub use Rattle.qpack_rules.specs.StrictInstructions.{HearingRefusal, ZeroIncrement, PastInsertions, UnknownStream}
+pub use Rattle.qpack_rules.specs.StrictInstructions.{or_unknown, known_at_least, hear_in_turn}
+unfoldable pub use Rattle.qpack_rules.specs.StrictInstructions.{strict_hear}
 
 -- the refusal that an error reports
 abbrev pub refusal_of : HearingError → Option HearingRefusal

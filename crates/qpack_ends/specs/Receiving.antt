@@ -7,7 +7,7 @@ use Rattle.qpack_spec.specs.Form.{FormFault, Truncates}
 use Rattle.qpack_spec.specs.Instruction.{EncoderInstruction}
 use Rattle.qpack_spec.specs.Instruction.{encoder_instruction_form, SpellsEncoderInstruction, RefusesEncoderInstruction}
 use Rattle.qpack_spec.specs.Table.{Table}
-use Rattle.qpack_spec.specs.Taking.{TakesAllOf}
+use Rattle.qpack_rules.specs.Taking.{TakesAllOf}
 use Rattle.qpack_spec.specs.Wanted.{wanted, least_field_size}
 use Rattle.qpack_spec.specs.Window.{TableRefusal, DoesNotFit}
 use Rattle.qpack_codec.specs.Receiving.{refusal_of, AsksToTake}
@@ -23,9 +23,9 @@ use Rattle.qpack_ends.specs.declared.encoder_stream.EncoderStreamError.TheVarian
 
 -- what a strict decoder makes of an instruction, which of them insert, whether bytes begin one that does, and what
 -- waits of the stream
-pub use Rattle.qpack_spec.specs.LawfulStreams.{begins_insertion, MayGrow}
-pub use Rattle.qpack_spec.specs.StrictInstructions.{inserts}
-unfoldable pub use Rattle.qpack_spec.specs.StrictInstructions.{strict_apply}
+pub use Rattle.qpack_rules.specs.LawfulStreams.{begins_insertion, MayGrow}
+pub use Rattle.qpack_rules.specs.StrictInstructions.{inserts}
+unfoldable pub use Rattle.qpack_rules.specs.StrictInstructions.{strict_apply}
 
 -- the bytes begin an insertion, and none is lawful
 abbrev pub begins_unlawfully : Table → List ℕ → Bool

@@ -4,7 +4,7 @@ use Rattle.std.specs.Prelude.{map, filter}
 use Rattle.std.specs.List.{list_any, AllByRecursion}
 use Rattle.std.specs.Option.{is_some}
 use Rattle.qpack_spec.specs.Reading.{greatest_of}
-use Rattle.qpack_spec.specs.StrictInstructions.{oldest_required}
+use Rattle.qpack_rules.specs.StrictInstructions.{oldest_required}
 use Rattle.qpack_spec.specs.Table.{Table, UnacknowledgedBlock, has_number, with_numbers}
 use Rattle.qpack_ends.specs.declared.blocked.BlockedStream.{BlockedStream}
 use Rattle.qpack_ends.specs.Blocked.{without}

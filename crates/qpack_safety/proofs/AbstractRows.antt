@@ -5,7 +5,7 @@ use Rattle.qpack_spec.specs.StaticTable.{field}
 use Rattle.qpack_spec.specs.Instruction.{written_encoder_instructions, written_decoder_instructions}
 use Rattle.qpack_spec.specs.Reading.{Fields, Missing}
 use Rattle.qpack_spec.specs.BlockReading.{written_block}
-use Rattle.qpack_spec.specs.Session.{stream_at}
+use Rattle.qpack_rules.specs.Session.{stream_at}
 use Rattle.qpack_safety.specs.AbstractSession.{AbstractBlock, AbstractSession, SmallStep, Encode, Abandon, Resize, Take}
 use Rattle.qpack_safety.specs.AbstractSession.{Report, Hear, Decode, Acknowledge, Cancel, abstract_start, next_reading}
 use Rattle.qpack_safety.specs.AbstractSession.{after_steps}

@@ -12,8 +12,8 @@ use Rattle.qpack_spec.specs.Bytes.{◌>>=◌}
 use Rattle.qpack_spec.specs.Instruction.{DecoderInstruction, Acknowledgment, Cancellation, Increment}
 use Rattle.qpack_spec.specs.Window.{TableRefusal, UnknownStream, or_refusal}
 use Rattle.qpack_spec.proofs.Results.{ok_is}
-use Rattle.qpack_spec.specs.Session.{KeptBlock, KeptStream, stream_at, blocked_on, blocked_among}
-use Rattle.qpack_spec.specs.Session.{apply_decoder_instructions}
+use Rattle.qpack_rules.specs.Session.{KeptBlock, KeptStream, stream_at, blocked_on, blocked_among}
+use Rattle.qpack_rules.specs.Session.{apply_decoder_instructions}
 
 -- ---- the count of the streams
 

@@ -7,12 +7,13 @@ use Rattle.qpack_spec.specs.Instruction.{written_encoder_instructions}
 use Rattle.qpack_spec.specs.BlockReading.{reading_of_bytes, written_block}
 use Rattle.qpack_spec.specs.Table.{Table, window, without_references, with_capacity}
 use Rattle.qpack_spec.specs.Rule.{rule, required_insert_count, block_of}
-use Rattle.qpack_spec.specs.Session.{KeptBlock, stream_at, Session, Event, Encode, Decode, ToDecoder, ToEncoder}
-use Rattle.qpack_spec.specs.Session.{Acknowledge, Cancel, ChangeCapacity, Outcome, with_block, after_refused_encode}
-use Rattle.qpack_spec.specs.Session.{with_decoded}
-use Rattle.qpack_spec.specs.Session.{is_read, EndsAtDecoder, takes_all, no_memory, bad_bytes, bad_instruction}
-use Rattle.qpack_spec.specs.Session.{EndsAtEncoder, takes_all_at_encoder, bad_bytes_at_encoder, bad_decoder_instruction}
-use Rattle.qpack_spec.specs.Session.{LawfulStep}
+use Rattle.qpack_rules.specs.Session.{KeptBlock, stream_at, Session, Event, Encode, Decode, ToDecoder, ToEncoder}
+use Rattle.qpack_rules.specs.Session.{Acknowledge, Cancel, ChangeCapacity, Outcome, with_block, after_refused_encode}
+use Rattle.qpack_rules.specs.Session.{with_decoded}
+use Rattle.qpack_rules.specs.Session.{is_read, EndsAtDecoder, takes_all, no_memory, bad_bytes, bad_instruction}
+use Rattle.qpack_rules.specs.Session.{EndsAtEncoder, takes_all_at_encoder, bad_bytes_at_encoder}
+use Rattle.qpack_rules.specs.Session.{bad_decoder_instruction}
+use Rattle.qpack_rules.specs.Session.{LawfulStep}
 use Rattle.qpack_spec.proofs.Results.{ok_is}
 use Rattle.qpack_spec.proofs.References.{rule_references}
 use Rattle.qpack_safety.proofs.Resizing.{CanResize, resized_table, resized_cases, same_resized}

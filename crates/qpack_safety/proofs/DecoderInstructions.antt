@@ -4,7 +4,7 @@ use Rattle.std.proofs.Common.{arith}
 use Rattle.std.specs.Prelude.{nat_eq, MatchBool}
 use Rattle.std.proofs.lemmas.Bool.{eq-eqb, ne_eqb}
 use Rattle.qpack_spec.specs.Instruction.{DecoderInstruction, Acknowledgment, Cancellation, Increment}
-use Rattle.qpack_spec.specs.Session.{sum_of, increments, increment_sum}
+use Rattle.qpack_rules.specs.Session.{sum_of, increments, increment_sum}
 
 -- how many acknowledgements and cancellations of a stream are under way
 unfoldable pub acks_in : ℕ → List DecoderInstruction → ℕ

@@ -8,7 +8,7 @@ use Rattle.std.proofs.lemmas.List.{length-map, drop-drop, drop-map}
 use Rattle.qpack_spec.specs.Instruction.{EncoderInstruction, DecoderInstruction, Acknowledgment, Cancellation}
 use Rattle.qpack_spec.specs.History.{History}
 use Rattle.qpack_spec.specs.Table.{UnacknowledgedBlock}
-use Rattle.qpack_spec.specs.Session.{with_stream, increment_sum, stream_at}
+use Rattle.qpack_rules.specs.Session.{with_stream, increment_sum, stream_at}
 use Rattle.qpack_safety.specs.AbstractSession.{AbstractBlock, is_dynamic, AbstractStream, AbstractSession}
 use Rattle.qpack_safety.specs.AbstractSession.{waits_for_acknowledgment}
 use Rattle.qpack_safety.proofs.OpenBlocks.{open_of}

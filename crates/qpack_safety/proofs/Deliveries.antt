@@ -10,8 +10,8 @@ use Rattle.qpack_spec.specs.History.{window_of, history_after, Leads}
 use Rattle.qpack_spec.specs.Table.{Table, table_of, apply_decoder_instruction}
 use Rattle.qpack_safety.specs.AbstractSession.{AbstractSession, SmallStep, Take, Hear, take_next, after_take, hear_next}
 use Rattle.qpack_safety.specs.AbstractSession.{after_hear, after_steps}
-use Rattle.qpack_spec.specs.Session.{apply_encoder_instructions, apply_decoder_instructions}
-use Rattle.qpack_spec.proofs.PutTables.{applied_put}
+use Rattle.qpack_rules.specs.Session.{apply_encoder_instructions, apply_decoder_instructions}
+use Rattle.qpack_rules.proofs.PutTables.{applied_put}
 use Rattle.qpack_spec.proofs.Windows.{Sound, sound_grown, allowed, grows_one}
 use Rattle.qpack_safety.proofs.Invariant.{Invariant, sound_received, total_window}
 use Rattle.qpack_safety.proofs.Taking.{inv_takes, taking, Taking}

@@ -13,16 +13,16 @@ use Rattle.qpack_spec.specs.Stream.{SpellsAll}
 use Rattle.qpack_spec.specs.Window.{Window, TableRefusal, window_insert_count, apply}
 use Rattle.qpack_spec.specs.Table.{Table, table_of, insert_count, apply_encoder_instruction, apply_decoder_instruction}
 use Rattle.qpack_safety.specs.AbstractSession.{AbstractSession, after_steps}
-use Rattle.qpack_spec.specs.Session.{Session, Outcome, Refused, StreamFault, apply_encoder_instructions}
-use Rattle.qpack_spec.specs.Session.{apply_decoder_instructions, with_decoder_moved}
-use Rattle.qpack_spec.specs.Session.{with_encoder_moved, unreported_after, EndsAtDecoder, takes_all, no_memory}
-use Rattle.qpack_spec.specs.Session.{bad_bytes}
-use Rattle.qpack_spec.specs.Session.{bad_instruction, DeliversToDecoder, EndsAtEncoder, takes_all_at_encoder}
-use Rattle.qpack_spec.specs.Session.{bad_bytes_at_encoder, bad_decoder_instruction}
-use Rattle.qpack_spec.specs.Session.{DeliversToEncoder, increments, pieces_of}
+use Rattle.qpack_rules.specs.Session.{Session, Outcome, Refused, StreamFault, apply_encoder_instructions}
+use Rattle.qpack_rules.specs.Session.{apply_decoder_instructions, with_decoder_moved}
+use Rattle.qpack_rules.specs.Session.{with_encoder_moved, unreported_after, EndsAtDecoder, takes_all, no_memory}
+use Rattle.qpack_rules.specs.Session.{bad_bytes}
+use Rattle.qpack_rules.specs.Session.{bad_instruction, DeliversToDecoder, EndsAtEncoder, takes_all_at_encoder}
+use Rattle.qpack_rules.specs.Session.{bad_bytes_at_encoder, bad_decoder_instruction}
+use Rattle.qpack_rules.specs.Session.{DeliversToEncoder, increments, pieces_of}
 use Rattle.qpack_spec.proofs.Results.{ok_is}
-use Rattle.qpack_spec.proofs.Pieces.{pieces_add_up, pieces_small}
-use Rattle.qpack_spec.proofs.PutTables.{applied_put, count_put}
+use Rattle.qpack_rules.proofs.Pieces.{pieces_add_up, pieces_small}
+use Rattle.qpack_rules.proofs.PutTables.{applied_put, count_put}
 use Rattle.qpack_safety.specs.Refines.{Refines}
 use Rattle.qpack_safety.proofs.Invariant.{Invariant}
 use Rattle.qpack_safety.proofs.Taking.{inv_reported}

@@ -17,15 +17,15 @@ use Rattle.qpack_spec.specs.Table.{with_numbers, without_references}
 use Rattle.qpack_spec.specs.Chosen.{Chosen, chosen_rule}
 use Rattle.qpack_spec.specs.Marked.{stateless_block_marked}
 use Rattle.qpack_spec.specs.Rule.{Draft, rule, block_of}
-use Rattle.qpack_spec.specs.Session.{stream_at, with_stream}
+use Rattle.qpack_rules.specs.Session.{stream_at, with_stream}
 use Rattle.qpack_safety.specs.AbstractSession.{AbstractBlock, is_dynamic, AbstractStream, AbstractSession, after_encode}
 use Rattle.qpack_safety.specs.AbstractSession.{after_alone, after_abandon}
 use Rattle.qpack_spec.proofs.Lists.{every_append, every_weaker}
 use Rattle.qpack_spec.proofs.Windows.{Sound, Agreed, leads_append, leads_sound, leads_grows, Grows}
 use Rattle.qpack_spec.proofs.Readings.{greatest_bound, greatest_has}
 use Rattle.qpack_spec.proofs.Drafts.{IsLive, MayStand, KeepsTable, Drafting, count_inserted, keeps_unnamed, rule_drafts}
-use Rattle.qpack_spec.proofs.AloneSections.{lines_alone, none_referenced, prefix_alone}
-use Rattle.qpack_spec.proofs.ChosenDrafts.{chosen_drafts}
+use Rattle.qpack_rules.proofs.AloneSections.{lines_alone, none_referenced, prefix_alone}
+use Rattle.qpack_rules.proofs.ChosenDrafts.{chosen_drafts}
 use Rattle.qpack_safety.proofs.OpenBlocks.{open_of, open_push}
 use Rattle.qpack_safety.proofs.DecoderInstructions.{acks_in, fits_more, fits_count}
 use Rattle.qpack_safety.proofs.Fronts.{filter_take, filter_take_append}

@@ -10,12 +10,12 @@ use Rattle.qpack_spec.specs.Reading.{Reading, Fields, Missing, Faulty}
 use Rattle.qpack_spec.specs.BlockReading.{reading_of_bytes, written_block}
 use Rattle.qpack_spec.specs.Table.{Table, window}
 use Rattle.qpack_spec.specs.Rule.{rule, required_insert_count, block_of}
-use Rattle.qpack_spec.specs.Session.{KeptBlock, KeptStream, stream_at, Session, Event, Encode, Decode, ToDecoder}
-use Rattle.qpack_spec.specs.Session.{ToEncoder, Acknowledge, Cancel, ChangeCapacity, Outcome, Encoded}
-use Rattle.qpack_spec.specs.Session.{Skipped, decode_outcome, with_block, with_decoded, is_read, EndsAtDecoder}
-use Rattle.qpack_spec.specs.Session.{takes_all, no_memory, bad_bytes, bad_instruction, EndsAtEncoder}
-use Rattle.qpack_spec.specs.Session.{takes_all_at_encoder, bad_bytes_at_encoder, bad_decoder_instruction, LawfulStep}
-use Rattle.qpack_spec.specs.Session.{Step, Run}
+use Rattle.qpack_rules.specs.Session.{KeptBlock, KeptStream, stream_at, Session, Event, Encode, Decode, ToDecoder}
+use Rattle.qpack_rules.specs.Session.{ToEncoder, Acknowledge, Cancel, ChangeCapacity, Outcome, Encoded}
+use Rattle.qpack_rules.specs.Session.{Skipped, decode_outcome, with_block, with_decoded, is_read, EndsAtDecoder}
+use Rattle.qpack_rules.specs.Session.{takes_all, no_memory, bad_bytes, bad_instruction, EndsAtEncoder}
+use Rattle.qpack_rules.specs.Session.{takes_all_at_encoder, bad_bytes_at_encoder, bad_decoder_instruction, LawfulStep}
+use Rattle.qpack_rules.specs.Session.{Step, Run}
 use Rattle.qpack_safety.specs.Headline.{AnsweredEncode, encode_of, decode_of, encodes_on, decodes_on}
 use Rattle.qpack_safety.specs.SessionSafety.{encode_behind}
 

@@ -4,13 +4,14 @@ use Rattle.std.proofs.Common.{refl, sym, ap, ◌∙◌, subst, inl, inr, arith, 
 use Rattle.std.proofs.lemmas.List.{append-nil, append_assoc}
 use Rattle.qpack_spec.specs.BlockReading.{reading_of_bytes}
 use Rattle.qpack_spec.specs.Table.{Table, window}
-use Rattle.qpack_spec.specs.Session.{Session, Event, Encode, Decode, ToDecoder, ToEncoder, Acknowledge, Cancel}
-use Rattle.qpack_spec.specs.Session.{ChangeCapacity, Outcome, with_decoded, is_read, is_consumed, with_decoder_moved}
-use Rattle.qpack_spec.specs.Session.{with_encoder_moved, EndsAtDecoder, takes_all, no_memory, bad_bytes}
-use Rattle.qpack_spec.specs.Session.{bad_instruction}
-use Rattle.qpack_spec.specs.Session.{EndsAtEncoder, takes_all_at_encoder, bad_bytes_at_encoder, bad_decoder_instruction}
-use Rattle.qpack_spec.specs.Session.{LawfulStep}
-use Rattle.qpack_spec.specs.Session.{Step, Run}
+use Rattle.qpack_rules.specs.Session.{Session, Event, Encode, Decode, ToDecoder, ToEncoder, Acknowledge, Cancel}
+use Rattle.qpack_rules.specs.Session.{ChangeCapacity, Outcome, with_decoded, is_read, is_consumed, with_decoder_moved}
+use Rattle.qpack_rules.specs.Session.{with_encoder_moved, EndsAtDecoder, takes_all, no_memory, bad_bytes}
+use Rattle.qpack_rules.specs.Session.{bad_instruction}
+use Rattle.qpack_rules.specs.Session.{EndsAtEncoder, takes_all_at_encoder, bad_bytes_at_encoder}
+use Rattle.qpack_rules.specs.Session.{bad_decoder_instruction}
+use Rattle.qpack_rules.specs.Session.{LawfulStep}
+use Rattle.qpack_rules.specs.Session.{Step, Run}
 use Rattle.qpack_safety.specs.SessionSafety.{IsOrdered, Extends, Advances}
 use Rattle.qpack_safety.proofs.DeliveryEvents.{piece_ends}
 use Rattle.qpack_safety.proofs.EventHistory.{goes_adds}

@@ -13,16 +13,18 @@ use Rattle.qpack_spec.specs.BlockReading.{reading_of_bytes, written_block}
 use Rattle.qpack_spec.specs.Table.{Table, table_of, fields_in, window, insert_count}
 use Rattle.qpack_spec.specs.Rule.{rule, required_insert_count, block_of}
 use Rattle.qpack_spec.specs.Stateless.{saturated_size}
-use Rattle.qpack_spec.specs.Session.{blocked_blocks, KeptBlock, stream_at, Session, Event, Encode, Decode, ToDecoder}
-use Rattle.qpack_spec.specs.Session.{ToEncoder, Outcome, Encoded, Decoded, MissingReferences, Delivered}
-use Rattle.qpack_spec.specs.Session.{Heard, Refused, NoMemory, StreamFault, decode_outcome, initial_session, next_block}
-use Rattle.qpack_spec.specs.Session.{skip_reason, with_block, EndsAtDecoder, takes_all, no_memory}
-use Rattle.qpack_spec.specs.Session.{bad_bytes, bad_instruction, DeliversToDecoder, EndsAtEncoder, takes_all_at_encoder}
-use Rattle.qpack_spec.specs.Session.{bad_bytes_at_encoder}
-use Rattle.qpack_spec.specs.Session.{bad_decoder_instruction, DeliversToEncoder, LawfulStep, Step, IsByteEvent}
-use Rattle.qpack_spec.specs.Session.{FitsMemory, Run}
+use Rattle.qpack_rules.specs.Session.{blocked_blocks, KeptBlock, stream_at, Session, Event, Encode, Decode, ToDecoder}
+use Rattle.qpack_rules.specs.Session.{ToEncoder, Outcome, Encoded, Decoded, MissingReferences, Delivered}
+use Rattle.qpack_rules.specs.Session.{Heard, Refused, NoMemory, StreamFault, decode_outcome, initial_session}
+use Rattle.qpack_rules.specs.Session.{next_block}
+use Rattle.qpack_rules.specs.Session.{skip_reason, with_block, EndsAtDecoder, takes_all, no_memory}
+use Rattle.qpack_rules.specs.Session.{bad_bytes, bad_instruction, DeliversToDecoder, EndsAtEncoder}
+use Rattle.qpack_rules.specs.Session.{takes_all_at_encoder}
+use Rattle.qpack_rules.specs.Session.{bad_bytes_at_encoder}
+use Rattle.qpack_rules.specs.Session.{bad_decoder_instruction, DeliversToEncoder, LawfulStep, Step, IsByteEvent}
+use Rattle.qpack_rules.specs.Session.{FitsMemory, Run}
 use Rattle.qpack_spec.specs.History.{History, window_of}
-use Rattle.qpack_spec.proofs.PutTables.{window_put, count_put}
+use Rattle.qpack_rules.proofs.PutTables.{window_put, count_put}
 use Rattle.qpack_spec.proofs.Windows.{Agreed}
 use Rattle.qpack_spec.proofs.References.{blocks_require}
 use Rattle.qpack_safety.specs.AbstractSafety.{Safe}

@@ -16,20 +16,20 @@ use Rattle.qpack_spec.specs.Marked.{stateless_block_marked, written_marked_lines
 use Rattle.qpack_spec.specs.MarkedLaws.{AreLiteralsWhereMarked}
 use Rattle.qpack_spec.specs.Prefix.{Prefix, prefix_for, read_prefix, written_prefix}
 use Rattle.qpack_spec.specs.Reading.{fields_of, references_of_line, references_of, greatest_of}
-use Rattle.qpack_spec.specs.Session.{stream_at, with_stream, oldest_undecoded, is_read, sum_of, pieces_of}
+use Rattle.qpack_rules.specs.Session.{stream_at, with_stream, oldest_undecoded, is_read, sum_of, pieces_of}
 use Rattle.qpack_spec.specs.StrictLaws.{IsStrict}
 use Rattle.qpack_spec.specs.Table.{Table, with_capacity}
 use Rattle.qpack_spec.specs.Window.{Window, TableRefusal, window_insert_count, apply}
 use Rattle.qpack_spec.specs.WrittenLaws.{IsByteField, IsByteLine, IsWritableBlock}
-use Rattle.qpack_spec.proofs.AloneSections.{literals_alone, written_alone}
+use Rattle.qpack_rules.proofs.AloneSections.{literals_alone, written_alone}
 use Rattle.qpack_spec.proofs.Drafts.{IsLive}
 use Rattle.qpack_spec.proofs.Lists.{every_both, every_get}
-use Rattle.qpack_spec.proofs.ChosenLines.{chosen_have_lines}
-use Rattle.qpack_spec.proofs.ChosenWritten.{chosen_written}
+use Rattle.qpack_rules.proofs.ChosenLines.{chosen_have_lines}
+use Rattle.qpack_rules.proofs.ChosenWritten.{chosen_written}
 use Rattle.qpack_spec.proofs.Positions.{every_number, numbers_none}
 use Rattle.qpack_spec.proofs.Prefixes.{InReach, ReadsAs, maximum_of, prefix_dynamic, prefix_plain}
 use Rattle.qpack_spec.proofs.Readings.{fields_kept, fields_plain, below_greatest, greatest_has, nil_parts}
-use Rattle.qpack_spec.proofs.StrictWritten.{marked_sections_read, marked_sections_blocked, lines_length}
+use Rattle.qpack_rules.proofs.StrictWritten.{marked_sections_read, marked_sections_blocked, lines_length}
 use Rattle.qpack_spec.proofs.Windows.{sound_start, leads_sound, leads_grows, Grows, Kept, kept_received}
 use Rattle.qpack_spec.proofs.WrittenDrafts.{lines_fit}
 use Rattle.qpack_safety.specs.AbstractSession.{AbstractBlock, required_count, is_dynamic, AbstractStream}

@@ -10,12 +10,12 @@ use Rattle.std.proofs.lemmas.Option.{slice_get-map}
 use Rattle.qpack_spec.specs.Field.{Field, total_size}
 use Rattle.qpack_spec.specs.Stateless.{saturated_size}
 use Rattle.qpack_spec.specs.Table.{insert_count}
-use Rattle.qpack_spec.specs.Session.{KeptBlock, stream_at, requires_entry, Session, Event, Encode, Decode, ToDecoder}
-use Rattle.qpack_spec.specs.Session.{ToEncoder, Acknowledge, Cancel, ChangeCapacity, Outcome, Encoded, Decoded}
-use Rattle.qpack_spec.specs.Session.{Delivered, NoMemory, Skipped, Step, Skips, LawfulStep, Run}
-use Rattle.qpack_spec.specs.Session.{initial_session}
-use Rattle.qpack_spec.specs.SessionLaws.{IsOutsideOn, number_too_great, was_cancelled, is_not_there, IsOutside}
-use Rattle.qpack_spec.proofs.SkippedEvents.{skipped_exactly}
+use Rattle.qpack_rules.specs.Session.{KeptBlock, stream_at, requires_entry, Session, Event, Encode, Decode, ToDecoder}
+use Rattle.qpack_rules.specs.Session.{ToEncoder, Acknowledge, Cancel, ChangeCapacity, Outcome, Encoded, Decoded}
+use Rattle.qpack_rules.specs.Session.{Delivered, NoMemory, Skipped, Step, Skips, LawfulStep, Run}
+use Rattle.qpack_rules.specs.Session.{initial_session}
+use Rattle.qpack_rules.specs.SessionLaws.{IsOutsideOn, number_too_great, was_cancelled, is_not_there, IsOutside}
+use Rattle.qpack_rules.proofs.SkippedEvents.{skipped_exactly}
 use Rattle.qpack_safety.specs.Headline.{AnsweredEncode, encode_of, encodes_on, fields_decoded_of, fields_decoded_on}
 use Rattle.qpack_safety.specs.Headline.{decode_of, decodes_on, next_encode, acknowledgments_on, to_acknowledge_on}
 use Rattle.qpack_safety.specs.Headline.{is_cancelled, IsSkippedRightly, great_number, stream_cancelled, IsRightDecode}

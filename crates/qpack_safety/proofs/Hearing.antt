@@ -12,7 +12,7 @@ use Rattle.qpack_spec.specs.Window.{UnknownStream, or_refusal}
 use Rattle.qpack_spec.specs.History.{History}
 use Rattle.qpack_spec.specs.Table.{UnacknowledgedBlock, Table, window, without_oldest, without_stream, with_increment}
 use Rattle.qpack_spec.specs.Table.{apply_decoder_instruction}
-use Rattle.qpack_spec.specs.Session.{increment_sum, stream_at}
+use Rattle.qpack_rules.specs.Session.{increment_sum, stream_at}
 use Rattle.qpack_safety.specs.AbstractSession.{AbstractStream, AbstractSession, after_hear, hear_next}
 use Rattle.qpack_spec.proofs.Drafts.{IsLive, KeepsTable}
 use Rattle.qpack_safety.proofs.OpenBlocks.{open_of, Released, release_some, ReleasedAll, releases_stream}

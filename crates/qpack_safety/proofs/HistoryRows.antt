@@ -3,7 +3,7 @@ use Rattle.std.proofs.Common.{ℕ, ◌≡◌, true, List, [], ◌∷◌, None, S
 use Rattle.std.specs.Prelude.{codes}
 use Rattle.qpack_spec.specs.Field.{Field}
 use Rattle.qpack_spec.specs.StaticTable.{field}
-use Rattle.qpack_spec.specs.Session.{Event, Encode, Decode, Outcome, Encoded, Decoded, MissingReferences, NoMemory}
+use Rattle.qpack_rules.specs.Session.{Event, Encode, Decode, Outcome, Encoded, Decoded, MissingReferences, NoMemory}
 use Rattle.qpack_safety.specs.Headline.{encodes_on, decodes_on, next_encode}
 
 fields_of : List ℕ → List Field

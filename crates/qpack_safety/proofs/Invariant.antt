@@ -11,7 +11,7 @@ use Rattle.qpack_spec.specs.History.{History, window_of, whole_window, initial_h
 use Rattle.qpack_spec.specs.Prefix.{prefix_for}
 use Rattle.qpack_spec.specs.Reading.{fields_of, references_of, greatest_of}
 use Rattle.qpack_spec.specs.Table.{UnacknowledgedBlock, window, with_numbers}
-use Rattle.qpack_spec.specs.Session.{with_stream, increment_sum, stream_at}
+use Rattle.qpack_rules.specs.Session.{with_stream, increment_sum, stream_at}
 use Rattle.qpack_safety.specs.AbstractSession.{AbstractBlock, is_dynamic, AbstractStream, AbstractSession}
 use Rattle.qpack_safety.specs.AbstractSession.{abstract_start}
 use Rattle.qpack_spec.proofs.Lists.{every_all, every_weaker}

@@ -6,14 +6,14 @@ use Rattle.std.proofs.lemmas.Bool.{cond_both}
 use Rattle.qpack_spec.specs.Bytes.{◌>>=◌}
 use Rattle.qpack_spec.specs.History.{Leads, initial_history, window_of}
 use Rattle.qpack_spec.specs.Instruction.{EncoderInstruction, DecoderInstruction}
-use Rattle.qpack_spec.specs.Session.{stream_at, oldest_undecoded, is_read, sum_of, pieces_of}
-use Rattle.qpack_spec.specs.StrictInstructions.{HearingRefusal, strict_apply, hear_in_turn}
+use Rattle.qpack_rules.specs.Session.{stream_at, oldest_undecoded, is_read, sum_of, pieces_of}
+use Rattle.qpack_rules.specs.StrictInstructions.{HearingRefusal, strict_apply, hear_in_turn}
 use Rattle.qpack_spec.specs.Table.{Table, empty_table, table_of, with_capacity}
-use Rattle.qpack_spec.specs.Taking.{apply_in_turn}
+use Rattle.qpack_rules.specs.Taking.{apply_in_turn}
 use Rattle.qpack_spec.specs.Window.{Window, TableRefusal, apply}
-use Rattle.qpack_spec.proofs.PutTables.{applied_put}
+use Rattle.qpack_rules.proofs.PutTables.{applied_put}
 use Rattle.qpack_spec.proofs.Results.{bind_ok, ok_is}
-use Rattle.qpack_spec.proofs.Taking.{applied_last}
+use Rattle.qpack_rules.proofs.Taking.{applied_last}
 use Rattle.qpack_safety.specs.AbstractSession.{AbstractBlock, is_dynamic, AbstractSession, abstract_start, next_reading}
 use Rattle.qpack_safety.specs.AbstractSession.{waits_for_acknowledgment, after_resize, after_take, take_next}
 use Rattle.qpack_safety.specs.AbstractSession.{after_hear}

@@ -7,11 +7,11 @@ use Rattle.qpack_spec.specs.Field.{Field, field_size}
 use Rattle.qpack_spec.specs.Instruction.{EncoderInstruction, InsertStaticName, InsertDynamicName, InsertLiteralName}
 use Rattle.qpack_spec.specs.Instruction.{Duplicate, SetCapacity}
 use Rattle.qpack_spec.specs.StaticTable.{static_table}
-use Rattle.qpack_spec.specs.StrictInstructions.{inserts}
+use Rattle.qpack_rules.specs.StrictInstructions.{inserts}
 use Rattle.qpack_spec.specs.Window.{Window, TableRefusal, DoesNotFit, AboveMaximum, NoEntry, NoStaticField, Effect, Inserts}
 use Rattle.qpack_spec.specs.Window.{Ignored, Resizes, or_refusal, with_value, insertion, effect, window_after, apply}
 use Rattle.qpack_spec.specs.Window.{relative_entry, greatest_capacity, window_insert_count}
-use Rattle.qpack_spec.proofs.Insertions.{InsertsAt}
+use Rattle.qpack_rules.proofs.Insertions.{InsertsAt}
 use Rattle.qpack_spec.proofs.Results.{bind_ok, chosen, ok_is}
 
 -- the capacity behind an instruction

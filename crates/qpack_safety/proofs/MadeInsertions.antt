@@ -4,7 +4,7 @@ use Rattle.std.proofs.lemmas.Bool.{cases_lt}
 use Rattle.qpack_spec.specs.History.{History, Leads}
 use Rattle.qpack_spec.specs.Instruction.{EncoderInstruction}
 use Rattle.qpack_spec.specs.Reading.{greatest_of}
-use Rattle.qpack_spec.specs.Session.{stream_at, oldest_undecoded}
+use Rattle.qpack_rules.specs.Session.{stream_at, oldest_undecoded}
 use Rattle.qpack_spec.specs.Table.{insert_count}
 use Rattle.qpack_spec.specs.Window.{window_insert_count}
 use Rattle.qpack_spec.proofs.Drafts.{IsLive, count_inserted}

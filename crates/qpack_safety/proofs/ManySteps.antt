@@ -3,10 +3,10 @@ use Rattle.std.proofs.Common.{ℕ, ◌+◌, ◌≡◌, List, [], ◌∷◌, ◌+
 use Rattle.std.proofs.lemmas.List.{append-nil, append_assoc}
 use Rattle.qpack_spec.specs.Bytes.{◌>>=◌}
 use Rattle.qpack_spec.specs.Instruction.{EncoderInstruction, DecoderInstruction}
-use Rattle.qpack_spec.specs.Session.{increment_sum}
-use Rattle.qpack_spec.specs.StrictInstructions.{HearingRefusal, strict_apply, hear_in_turn}
+use Rattle.qpack_rules.specs.Session.{increment_sum}
+use Rattle.qpack_rules.specs.StrictInstructions.{HearingRefusal, strict_apply, hear_in_turn}
 use Rattle.qpack_spec.specs.Table.{Table, table_of}
-use Rattle.qpack_spec.specs.Taking.{apply_in_turn}
+use Rattle.qpack_rules.specs.Taking.{apply_in_turn}
 use Rattle.qpack_spec.specs.Window.{Window, TableRefusal, window_insert_count}
 use Rattle.qpack_spec.proofs.Results.{ok_is}
 use Rattle.qpack_safety.specs.AbstractSession.{AbstractSession, after_take, take_next, after_hear, hear_next}

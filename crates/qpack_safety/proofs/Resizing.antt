@@ -13,7 +13,7 @@ use Rattle.qpack_spec.specs.Window.{effect, window_after}
 use Rattle.qpack_spec.specs.History.{History, window_of, history_after}
 use Rattle.qpack_spec.specs.Table.{Entry, UnacknowledgedBlock, Table, fields_in, window, insert_count, can_evict}
 use Rattle.qpack_spec.specs.Table.{with_capacity}
-use Rattle.qpack_spec.specs.Session.{stream_at}
+use Rattle.qpack_rules.specs.Session.{stream_at}
 use Rattle.qpack_safety.specs.AbstractSession.{AbstractSession, after_resize}
 use Rattle.qpack_spec.proofs.Lists.{every_drop, every_weaker}
 use Rattle.qpack_spec.proofs.Windows.{Sound, leads_append, window_grown, grows_one}

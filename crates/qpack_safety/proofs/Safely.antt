@@ -12,7 +12,7 @@ use Rattle.qpack_spec.specs.History.{History, window_of, whole_window, initial_h
 use Rattle.qpack_spec.specs.Prefix.{Prefix, prefix_for}
 use Rattle.qpack_spec.specs.Reading.{fields_of, references_of, greatest_of, Fields}
 use Rattle.qpack_spec.specs.Table.{Table, fields_in, window, insert_count, apply_decoder_instruction}
-use Rattle.qpack_spec.specs.Session.{stream_at}
+use Rattle.qpack_rules.specs.Session.{stream_at}
 use Rattle.qpack_safety.specs.AbstractSession.{AbstractBlock, is_dynamic, AbstractSession}
 use Rattle.qpack_spec.proofs.Lists.{every_drop, every_both, every_get}
 use Rattle.qpack_spec.proofs.Windows.{Sound, Agreed, sound_few, leads_grows, leads_split, leads_unique, Grows, Kept}

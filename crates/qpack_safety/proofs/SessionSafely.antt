@@ -16,17 +16,18 @@ use Rattle.qpack_spec.specs.History.{History, whole_window, initial_history, Lea
 use Rattle.qpack_spec.specs.BlockReading.{reading_of_bytes, meaning_over_all, written_block}
 use Rattle.qpack_spec.specs.Table.{Table, window, insert_count}
 use Rattle.qpack_safety.specs.AbstractSession.{AbstractBlock, required_count, AbstractSession, abstract_start}
-use Rattle.qpack_spec.specs.Session.{KeptBlock, stream_at, Session, Event, Encode, Decode, ToDecoder, ToEncoder}
-use Rattle.qpack_spec.specs.Session.{Acknowledge, Cancel, ChangeCapacity, Outcome, decode_outcome, Delivered, Refused}
-use Rattle.qpack_spec.specs.Session.{StreamFault, initial_session, next_block, requires_entry, awaits_acknowledgment}
-use Rattle.qpack_spec.specs.Session.{skip_reason, with_block}
-use Rattle.qpack_spec.specs.Session.{after_refused_encode, with_decoded, EndsAtDecoder, takes_all, no_memory, bad_bytes}
-use Rattle.qpack_spec.specs.Session.{bad_instruction, DeliversToDecoder, LawfulStep, Step, IsByteEvent, FitsMemory}
-use Rattle.qpack_spec.specs.Session.{is_read}
+use Rattle.qpack_rules.specs.Session.{KeptBlock, stream_at, Session, Event, Encode, Decode, ToDecoder, ToEncoder}
+use Rattle.qpack_rules.specs.Session.{Acknowledge, Cancel, ChangeCapacity, Outcome, decode_outcome, Delivered, Refused}
+use Rattle.qpack_rules.specs.Session.{StreamFault, initial_session, next_block, requires_entry, awaits_acknowledgment}
+use Rattle.qpack_rules.specs.Session.{skip_reason, with_block}
+use Rattle.qpack_rules.specs.Session.{after_refused_encode, with_decoded, EndsAtDecoder, takes_all, no_memory}
+use Rattle.qpack_rules.specs.Session.{bad_bytes}
+use Rattle.qpack_rules.specs.Session.{bad_instruction, DeliversToDecoder, LawfulStep, Step, IsByteEvent, FitsMemory}
+use Rattle.qpack_rules.specs.Session.{is_read}
 use Rattle.qpack_spec.specs.WrittenLaws.{IsByteField}
 use Rattle.qpack_spec.proofs.Positions.{every_take}
 use Rattle.qpack_spec.proofs.BlockReadings.{written_read, written_means}
-use Rattle.qpack_spec.proofs.PutTables.{window_put, count_put}
+use Rattle.qpack_rules.proofs.PutTables.{window_put, count_put}
 use Rattle.qpack_spec.specs.Prefix.{Prefix, base_behind, read_base}
 use Rattle.qpack_spec.proofs.Lists.{every_get}
 use Rattle.qpack_spec.proofs.Windows.{Agreed, agreed_start, leads_agreed, leads_append, leads_unique}

@@ -14,7 +14,7 @@ use Rattle.qpack_spec.specs.Stream.{SpellsAll}
 use Rattle.qpack_spec.specs.Prefix.{prefix_for}
 use Rattle.qpack_spec.specs.WrittenLaws.{IsWritableEncoderInstruction, IsWritableDecoderInstruction, IsWritablePrefix}
 use Rattle.qpack_safety.specs.AbstractSession.{AbstractBlock, is_dynamic, AbstractStream}
-use Rattle.qpack_spec.specs.Session.{KeptBlock, KeptStream, requires_entry, increments}
+use Rattle.qpack_rules.specs.Session.{KeptBlock, KeptStream, requires_entry, increments}
 use Rattle.qpack_spec.proofs.WrittenForms.{instructions_spelled, decoder_instructions_spelled}
 use Rattle.qpack_safety.specs.Refines.{Agrees, EndsAt, RefinesBlock, RefinesStream}
 

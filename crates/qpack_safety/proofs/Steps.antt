@@ -2,7 +2,7 @@
 use Rattle.std.proofs.Common.{ℕ, List, [], ◌∷◌, ◌++◌, refl}
 use Rattle.std.specs.Prelude.{nat_eq}
 use Rattle.std.proofs.lemmas.Bool.{cond_both, eqb-true}
-use Rattle.qpack_spec.specs.Session.{stream_at, sum_of, increments, is_read}
+use Rattle.qpack_rules.specs.Session.{stream_at, sum_of, increments, is_read}
 use Rattle.qpack_safety.specs.AbstractSession.{AbstractSession, SmallStep, Encode, Abandon, Resize, Take, Report, Hear}
 use Rattle.qpack_safety.specs.AbstractSession.{Decode, Acknowledge, Cancel, EncodeChosen, AbandonChosen, EncodeAlone}
 use Rattle.qpack_safety.specs.AbstractSession.{Forget}

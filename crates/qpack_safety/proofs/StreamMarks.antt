@@ -8,12 +8,12 @@ use Rattle.std.proofs.lemmas.Bool.{cases_eq, eq-eqb, ne_eqb}
 use Rattle.qpack_spec.specs.Table.{Table, window}
 use Rattle.qpack_spec.specs.Reading.{Reading, Fields, Missing, Faulty}
 use Rattle.qpack_spec.specs.BlockReading.{reading_of_bytes}
-use Rattle.qpack_spec.specs.Session.{KeptStream, stream_at, Session, Event, Encode, Decode, ToDecoder}
-use Rattle.qpack_spec.specs.Session.{ToEncoder, Acknowledge, Cancel, ChangeCapacity, Outcome}
-use Rattle.qpack_spec.specs.Session.{NoMemory, Skipped, with_decoded, is_read, EndsAtDecoder}
-use Rattle.qpack_spec.specs.Session.{takes_all, no_memory, bad_bytes, bad_instruction, EndsAtEncoder}
-use Rattle.qpack_spec.specs.Session.{takes_all_at_encoder, bad_bytes_at_encoder, bad_decoder_instruction, LawfulStep}
-use Rattle.qpack_spec.specs.Session.{Step, Run}
+use Rattle.qpack_rules.specs.Session.{KeptStream, stream_at, Session, Event, Encode, Decode, ToDecoder}
+use Rattle.qpack_rules.specs.Session.{ToEncoder, Acknowledge, Cancel, ChangeCapacity, Outcome}
+use Rattle.qpack_rules.specs.Session.{NoMemory, Skipped, with_decoded, is_read, EndsAtDecoder}
+use Rattle.qpack_rules.specs.Session.{takes_all, no_memory, bad_bytes, bad_instruction, EndsAtEncoder}
+use Rattle.qpack_rules.specs.Session.{takes_all_at_encoder, bad_bytes_at_encoder, bad_decoder_instruction, LawfulStep}
+use Rattle.qpack_rules.specs.Session.{Step, Run}
 use Rattle.qpack_safety.specs.Headline.{acknowledgment_of, acknowledgments_on, cancels, is_cancelled}
 
 -- a stream behind so many acknowledgments more, and cancelled or not

@@ -9,9 +9,9 @@ use Rattle.std.proofs.lemmas.Bool.{cond_both, cases_eq, ne_eqb, ltb-true, lt-ltb
 use Rattle.std.proofs.lemmas.Option.{slice_get_within}
 use Rattle.qpack_spec.specs.Instruction.{EncoderInstruction, SetCapacity, DecoderInstruction, Acknowledgment}
 use Rattle.qpack_spec.specs.Instruction.{Cancellation, Increment}
-use Rattle.qpack_spec.specs.Session.{stream_at, with_stream, increment_sum}
-use Rattle.qpack_spec.specs.StrictInstructions.{HearingRefusal, required_by, oldest_required}
-use Rattle.qpack_spec.specs.StrictInstructions.{strict_hear}
+use Rattle.qpack_rules.specs.Session.{stream_at, with_stream, increment_sum}
+use Rattle.qpack_rules.specs.StrictInstructions.{HearingRefusal, required_by, oldest_required}
+use Rattle.qpack_rules.specs.StrictInstructions.{strict_hear}
 use Rattle.qpack_spec.specs.Table.{Table, UnacknowledgedBlock, insert_count, with_increment, apply_decoder_instruction}
 use Rattle.qpack_spec.specs.Table.{without_stream}
 use Rattle.qpack_spec.specs.Window.{Window, window_insert_count, TableRefusal, apply}

@@ -11,11 +11,11 @@ use Rattle.qpack_spec.specs.Instruction.{DecoderInstruction, Acknowledgment}
 use Rattle.qpack_spec.specs.Instruction.{Cancellation, Increment}
 use Rattle.qpack_spec.specs.Reading.{greatest_of}
 use Rattle.qpack_spec.specs.Rule.{Draft}
-use Rattle.qpack_spec.specs.Session.{stream_at, with_stream, increments}
+use Rattle.qpack_rules.specs.Session.{stream_at, with_stream, increments}
 use Rattle.qpack_spec.specs.Table.{Table, UnacknowledgedBlock, commit, with_unacknowledged, without_references}
 use Rattle.qpack_spec.proofs.Drafts.{Drafting}
 use Rattle.qpack_spec.proofs.Lists.{every_append}
-use Rattle.qpack_spec.proofs.Insertions.{OnlyInserts}
+use Rattle.qpack_rules.proofs.Insertions.{OnlyInserts}
 use Rattle.qpack_safety.specs.AbstractSession.{AbstractBlock, is_dynamic, AbstractStream, AbstractSession, after_encode}
 use Rattle.qpack_safety.specs.AbstractSession.{after_abandon, after_alone}
 use Rattle.qpack_safety.proofs.Encoding.{same_committed, same_unnamed}

@@ -5,7 +5,7 @@ use Rattle.std.proofs.lemmas.List.{append-nil, append_assoc}
 use Rattle.qpack_spec.specs.Instruction.{EncoderInstruction, DecoderInstruction, Increment}
 use Rattle.qpack_spec.specs.Window.{Window, window_insert_count, TableRefusal, Effect, effect, apply}
 use Rattle.qpack_spec.specs.History.{History, window_of, history_after, initial_history, Leads}
-use Rattle.qpack_spec.specs.Session.{increment_sum, sum_of, increments}
+use Rattle.qpack_rules.specs.Session.{increment_sum, sum_of, increments}
 use Rattle.qpack_safety.specs.AbstractSession.{AbstractSession, after_take, take_next}
 use Rattle.qpack_spec.proofs.Windows.{Sound, sound_grown, leads_append, window_grown, allowed, Grows, grows_one}
 use Rattle.qpack_safety.proofs.OpenBlocks.{open_of}

@@ -6,7 +6,7 @@ use Rattle.std.proofs.lemmas.Bool.{eq-eqb, ne_eqb}
 use Rattle.std.proofs.lemmas.List.{append-nil, append_assoc, drop-drop}
 use Rattle.qpack_spec.specs.Instruction.{DecoderInstruction, Acknowledgment, Cancellation, Increment}
 use Rattle.qpack_spec.specs.Reading.{greatest_of}
-use Rattle.qpack_spec.specs.Session.{increments, increment_sum}
+use Rattle.qpack_rules.specs.Session.{increments, increment_sum}
 use Rattle.qpack_safety.proofs.DecoderInstructions.{acks_in, cancels_in, AcksFit, IsNoAck}
 
 -- what the first of some blocks requires, by the entries that each references

@@ -8,16 +8,16 @@ use Rattle.qpack_spec.specs.Field.{fields_of_lines}
 use Rattle.qpack_spec.specs.Instruction.{EncoderInstruction, DecoderInstruction, Acknowledgment}
 use Rattle.qpack_spec.specs.Chosen.{chosen_rule}
 use Rattle.qpack_spec.specs.Reading.{Reading, reading}
-use Rattle.qpack_spec.specs.Session.{IsPiece, stream_at, with_stream, oldest_undecoded, is_read, sum_of}
-use Rattle.qpack_spec.specs.Session.{pieces_of, increments}
-use Rattle.qpack_spec.specs.StrictInstructions.{inserts, strict_apply}
+use Rattle.qpack_rules.specs.Session.{IsPiece, stream_at, with_stream, oldest_undecoded, is_read, sum_of}
+use Rattle.qpack_rules.specs.Session.{pieces_of, increments}
+use Rattle.qpack_rules.specs.StrictInstructions.{inserts, strict_apply}
 use Rattle.qpack_spec.specs.Table.{Table, table_of, apply_encoder_instruction, with_capacity}
 use Rattle.qpack_spec.specs.Window.{Window, window_insert_count, TableRefusal, DoesNotFit}
 use Rattle.qpack_spec.specs.History.{Leads, window_of, initial_history}
 use Rattle.qpack_spec.proofs.Lists.{every_weaker}
-use Rattle.qpack_spec.proofs.ChosenDrafts.{chosen_drafts}
-use Rattle.qpack_spec.proofs.ChosenWritten.{chosen_inserts}
-use Rattle.qpack_spec.proofs.Pieces.{pieces_add_up, pieces_small}
+use Rattle.qpack_rules.proofs.ChosenDrafts.{chosen_drafts}
+use Rattle.qpack_rules.proofs.ChosenWritten.{chosen_inserts}
+use Rattle.qpack_rules.proofs.Pieces.{pieces_add_up, pieces_small}
 use Rattle.qpack_safety.specs.AbstractSafety.{DecodesExactly}
 use Rattle.qpack_safety.specs.AbstractSession.{AbstractBlock, required_count, is_dynamic, AbstractStream, AbstractSession}
 use Rattle.qpack_safety.specs.AbstractSession.{abstract_start, next_reading, read_block, waits_for_acknowledgment}

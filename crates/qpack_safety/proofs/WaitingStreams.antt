@@ -5,7 +5,7 @@ use Rattle.std.specs.List.{filter, slice_get, list_any}
 use Rattle.std.specs.Prelude.{nat_eq, nat_lt, ◌&&◌, ◌||◌}
 use Rattle.std.proofs.lemmas.Bool.{lt-ltb, ne_eqb}
 use Rattle.qpack_spec.specs.Reading.{greatest_of}
-use Rattle.qpack_spec.specs.Session.{stream_at, oldest_undecoded}
+use Rattle.qpack_rules.specs.Session.{stream_at, oldest_undecoded}
 use Rattle.qpack_spec.specs.Table.{UnacknowledgedBlock}
 use Rattle.qpack_safety.specs.AbstractSession.{AbstractBlock, required_count, is_dynamic}
 use Rattle.qpack_safety.specs.AbstractSession.{abstract_start}

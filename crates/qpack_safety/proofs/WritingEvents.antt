@@ -21,9 +21,9 @@ use Rattle.qpack_spec.specs.Table.{Table, insert_count, with_capacity}
 use Rattle.qpack_spec.specs.Rule.{rule, required_insert_count, block_of}
 use Rattle.qpack_safety.specs.AbstractSession.{AbstractBlock, is_dynamic, AbstractSession, after_encode, after_abandon}
 use Rattle.qpack_safety.specs.AbstractSession.{after_resize, waits_for_acknowledgment}
-use Rattle.qpack_spec.specs.Session.{KeptBlock, KeptStream, stream_at, with_kept_stream, Session, FitsMemory}
-use Rattle.qpack_spec.specs.Session.{awaits_acknowledgment}
-use Rattle.qpack_spec.specs.Session.{requires_entry, unless_cancelled, with_block, after_refused_encode, with_decoded}
+use Rattle.qpack_rules.specs.Session.{KeptBlock, KeptStream, stream_at, with_kept_stream, Session, FitsMemory}
+use Rattle.qpack_rules.specs.Session.{awaits_acknowledgment}
+use Rattle.qpack_rules.specs.Session.{requires_entry, unless_cancelled, with_block, after_refused_encode, with_decoded}
 use Rattle.qpack_spec.specs.WrittenLaws.{IsByteField, IsWritableBlock}
 use Rattle.qpack_spec.proofs.Lists.{every_right, every_weaker}
 use Rattle.qpack_spec.proofs.Readings.{greatest_bound}

@@ -6,7 +6,7 @@ use Rattle.qpack_spec.specs.Window.{window_insert_count, apply}
 use Rattle.qpack_spec.specs.History.{History, initial_history, window_of, Leads}
 use Rattle.qpack_spec.specs.Reading.{Fields, Missing, reading}
 use Rattle.qpack_spec.specs.Table.{fields_in, window, apply_decoder_instruction}
-use Rattle.qpack_spec.specs.Session.{stream_at}
+use Rattle.qpack_rules.specs.Session.{stream_at}
 use Rattle.qpack_safety.specs.AbstractSession.{AbstractBlock, required_count, AbstractSession}
 
 -- what the decoder returns for a block

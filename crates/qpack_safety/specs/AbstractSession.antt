@@ -12,9 +12,9 @@ use Rattle.qpack_spec.specs.Marked.{stateless_block_marked}
 use Rattle.qpack_spec.specs.Reading.{Block, Reading, reading, greatest_of}
 use Rattle.qpack_spec.specs.Table.{Table, empty_table, without_references, apply_decoder_instruction, with_capacity}
 use Rattle.qpack_spec.specs.Rule.{Draft, rule, block_of, committed_table}
-use Rattle.qpack_spec.specs.Session.{RequestStream, stream_at, with_stream, oldest_undecoded, awaits_acknowledgment}
-use Rattle.qpack_spec.specs.Session.{is_read, sum_of}
-use Rattle.qpack_spec.specs.Session.{increments}
+use Rattle.qpack_rules.specs.Session.{RequestStream, stream_at, with_stream, oldest_undecoded, awaits_acknowledgment}
+use Rattle.qpack_rules.specs.Session.{is_read, sum_of}
+use Rattle.qpack_rules.specs.Session.{increments}
 
 -- a block that was written: the entries that it references, how many instructions were written by its end, and the
 -- fields that were passed to the encoder

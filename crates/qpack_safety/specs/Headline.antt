@@ -16,10 +16,10 @@
 use Rattle.std.specs.Prelude.{◌≡◌, ◌≤◌, ◌^◌, ◌+◌, ◌⊎◌, ◌||◌, ℕ, Bool, true, false, not, if◌then◌else◌, nat_lt, nat_eq}
 use Rattle.std.specs.Prelude.{List, [], ◌∷◌, ◌++◌, length, map, take, filter, Option, Some, slice_get}
 use Rattle.qpack_spec.specs.Field.{Field, total_size}
-use Rattle.qpack_spec.specs.Session.{Event, Encode, Decode, ToDecoder, ToEncoder, Acknowledge, Cancel, ChangeCapacity}
-use Rattle.qpack_spec.specs.Session.{Outcome, Encoded, Decoded, MissingReferences, Delivered, Heard, Acknowledged}
-use Rattle.qpack_spec.specs.Session.{Cancelled, CapacitySet, CapacityRefused, NoMemory, Skipped, Session, Run}
-use Rattle.qpack_spec.specs.Session.{initial_session}
+use Rattle.qpack_rules.specs.Session.{Event, Encode, Decode, ToDecoder, ToEncoder, Acknowledge, Cancel, ChangeCapacity}
+use Rattle.qpack_rules.specs.Session.{Outcome, Encoded, Decoded, MissingReferences, Delivered, Heard, Acknowledged}
+use Rattle.qpack_rules.specs.Session.{Cancelled, CapacitySet, CapacityRefused, NoMemory, Skipped, Session, Run}
+use Rattle.qpack_rules.specs.Session.{initial_session}
 use Rattle.qpack_spec.specs.Stateless.{saturated_size}
 use Rattle.qpack_spec.specs.Window.{TableRefusal}
 

@@ -1,9 +1,9 @@
 -- All that two strict ends have under way is lawful to its end: what was written on the encoder stream is a stream that
 -- a strict decoder applies whole, and so is what is under way on the decoder stream (RFC 9204, sections 4.3 and 4.4).
 use Rattle.std.specs.Prelude.{◌≡◌, ◌≤◌, ℕ, List, ◌++◌, Some, Ok}
-use Rattle.qpack_spec.specs.StrictInstructions.{strict_apply, hear_in_turn}
+use Rattle.qpack_rules.specs.StrictInstructions.{strict_apply, hear_in_turn}
 use Rattle.qpack_spec.specs.Table.{Table, empty_table, table_of}
-use Rattle.qpack_spec.specs.Taking.{apply_in_turn}
+use Rattle.qpack_rules.specs.Taking.{apply_in_turn}
 use Rattle.qpack_safety.specs.AbstractSession.{AbstractSession, abstract_start}
 use Rattle.qpack_safety.specs.TwoEnds.{EndStep, after_end_steps}
 

@@ -6,7 +6,7 @@ use Rattle.qpack_spec.specs.Stream.{SpellsAll, Carries}
 use Rattle.qpack_spec.specs.BlockReading.{written_block}
 use Rattle.qpack_spec.specs.Table.{table_of}
 use Rattle.qpack_safety.specs.AbstractSession.{AbstractBlock, required_count, AbstractStream, AbstractSession}
-use Rattle.qpack_spec.specs.Session.{KeptBlock, KeptStream, stream_at, Session}
+use Rattle.qpack_rules.specs.Session.{KeptBlock, KeptStream, stream_at, Session}
 use Rattle.qpack_spec.specs.WrittenLaws.{IsWritableBlock}
 
 -- two lists agree, element by element

@@ -13,10 +13,10 @@ use Rattle.qpack_spec.specs.BlockReading.{reading_of_bytes, meaning_over_all, wr
 use Rattle.qpack_spec.specs.Table.{table_of, fields_in, window, insert_count, with_numbers, with_unacknowledged}
 use Rattle.qpack_spec.specs.Table.{below_limit}
 use Rattle.qpack_spec.specs.Rule.{rule, block_of}
-use Rattle.qpack_spec.specs.Session.{KeptBlock, stream_at, Session, Event, Encode, Decode, ToDecoder, ToEncoder}
-use Rattle.qpack_spec.specs.Session.{Outcome, Encoded, Decoded, MissingReferences, Delivered, Heard, Refused, NoMemory}
-use Rattle.qpack_spec.specs.Session.{Skipped, StreamFault, initial_session, next_block, increment_sum, blocked_blocks}
-use Rattle.qpack_spec.specs.Session.{unreadable_blocks, skip_reason, Step, Run}
+use Rattle.qpack_rules.specs.Session.{KeptBlock, stream_at, Session, Event, Encode, Decode, ToDecoder, ToEncoder}
+use Rattle.qpack_rules.specs.Session.{Outcome, Encoded, Decoded, MissingReferences, Delivered, Heard, Refused, NoMemory}
+use Rattle.qpack_rules.specs.Session.{Skipped, StreamFault, initial_session, next_block, increment_sum, blocked_blocks}
+use Rattle.qpack_rules.specs.Session.{unreadable_blocks, skip_reason, Step, Run}
 use Rattle.qpack_spec.specs.Stateless.{saturated_size}
 use Rattle.qpack_safety.specs.Headline.{AnsweredEncode, encodes_on, decodes_on, next_encode}
 

@@ -5,8 +5,8 @@ use Rattle.std.specs.Prelude.{◌≡◌, ℕ, ◌≤◌, not, if◌then◌else�
 use Rattle.qpack_spec.specs.Chosen.{Chosen}
 use Rattle.qpack_spec.specs.Field.{FieldLine}
 use Rattle.qpack_spec.specs.Instruction.{EncoderInstruction, DecoderInstruction}
-use Rattle.qpack_spec.specs.Session.{stream_at, oldest_undecoded, is_read, pieces_of}
-use Rattle.qpack_spec.specs.StrictInstructions.{strict_apply, strict_hear}
+use Rattle.qpack_rules.specs.Session.{stream_at, oldest_undecoded, is_read, pieces_of}
+use Rattle.qpack_rules.specs.StrictInstructions.{strict_apply, strict_hear}
 use Rattle.qpack_spec.specs.Table.{Table, table_of, apply_encoder_instruction, apply_decoder_instruction}
 use Rattle.qpack_safety.specs.AbstractSafety.{Safe}
 use Rattle.qpack_safety.specs.AbstractSession.{AbstractBlock, is_dynamic, AbstractSession, SmallStep, abstract_start}

@@ -1,6 +1,6 @@
-//! The session theorem, over the definitions of `qpack_spec`: whatever happens between two ends, no instruction is
-//! refused, and each decode returns what was passed to the encoder, or waits for what is still under way. Each function
-//! here is a law: it does nothing, and its contract is the statement.
+//! The session theorem, over the definitions of `qpack_spec` and `qpack_rules`: whatever happens between two ends, no
+//! instruction is refused, and each decode returns what was passed to the encoder, or waits for what is still under way.
+//! Each function here is a law: it does nothing, and its contract is the statement.
 #![tactic(auto)]
 
 ghost use Rattle.qpack_safety.specs.Headline.{SessionsAnswerWhatWasHanded};

@@ -13,9 +13,7 @@ pub mod StaticTableLaws
 -- the dynamic table: its window, its history, and what an encoder tracks (sections 2.1 and 3.2)
 pub mod Window
 pub mod History
-pub mod WindowLaws
 pub mod Table
-pub mod TableLaws
 -- the forms of instructions and lines (sections 4.3 to 4.5), and laws of all of them
 pub mod Form
 pub mod FormLaws
@@ -27,10 +25,7 @@ pub mod LengthLaws
 -- the instruction streams (sections 4.2 to 4.4)
 pub mod Stream
 pub mod StreamLaws
-pub mod Taking
-pub mod StrictInstructions
 pub mod Wanted
-pub mod WantedLaws
 -- what a section means (sections 2.2 and 4.5), and strictly
 pub mod Reading
 pub mod BlockReading
@@ -46,9 +41,3 @@ pub mod Stateless
 pub mod StatelessMeaning
 -- how fields are written under any choices of an encoder (section 2.1)
 pub mod Chosen
--- sessions of two ends, and the rules for any lawful peer
-pub mod Session
-pub mod SessionLaws
-pub mod LawfulStreams
-pub mod LawfulEncoders
-pub mod LawfulDecoders

@@ -5,10 +5,10 @@ use Rattle.std.proofs.Common.{length-append, arith}
 use Rattle.std.proofs.lemmas.List.{take_at, drop_at}
 use Rattle.qpack_base.specs.Cursor.{CursorView}
 use Rattle.qpack_spec.specs.Instruction.{EncoderInstruction, SpellsEncoderInstruction, encoder_instruction_form}
-use Rattle.qpack_spec.specs.Session.{apply_encoder_instructions}
+use Rattle.qpack_rules.specs.Session.{apply_encoder_instructions}
 use Rattle.qpack_spec.specs.Stream.{SpellsAll}
 use Rattle.qpack_spec.specs.Table.{Table, apply_encoder_instruction}
-use Rattle.qpack_spec.proofs.Taking.{joined_last, applied_last}
+use Rattle.qpack_rules.proofs.Taking.{joined_last, applied_last}
 use Rattle.qpack_wire.specs.StreamAnswers.{DecodesInstruction, StaysUnlessRead}
 use Rattle.qpack_wire.specs.StreamLines.{RefusesEncoderLine, encoder_instruction_of}
 use Rattle.qpack_wire.specs.declared.stream.encoder_stream.EncoderLine.{EncoderLine}

@@ -3,7 +3,7 @@ use Rattle.std.proofs.Common.{◌≡◌, ◌≢◌, ℕ, ◌+◌, List, [], ◌�
 use Rattle.std.proofs.Common.{sym, ap, subst, ◌∙◌, append_assoc, append-nil, length-append, arith}
 use Rattle.std.specs.Prelude.{⊤}
 use Rattle.qpack_spec.specs.Instruction.{EncoderInstruction, encoder_instruction_form, SpellsEncoderInstruction}
-use Rattle.qpack_spec.specs.Session.{apply_encoder_instructions}
+use Rattle.qpack_rules.specs.Session.{apply_encoder_instructions}
 use Rattle.qpack_spec.specs.Stream.{SpellsAll, Holds}
 use Rattle.qpack_spec.specs.Table.{Table, apply_encoder_instruction}
 use Rattle.qpack_spec.proofs.Cuttings.{wire, nil_append, streams_read}

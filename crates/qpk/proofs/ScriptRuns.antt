@@ -6,9 +6,9 @@ use Rattle.std.proofs.Common.{drop_of_length-le}
 use Rattle.std.proofs.lemmas.List.{take_rest}
 use Rattle.std.specs.Borrow.{Bor}
 use Rattle.std.specs.Prelude.{unwrap_or, ⊤, Result, codes}
-use Rattle.qpack_spec.specs.Session as spec
-use Rattle.qpack_spec.specs.Session.{Session, KeptBlock, stream_at, begin_session, initial_session, next_block}
-use Rattle.qpack_spec.specs.Session.{oldest_undecoded}
+use Rattle.qpack_rules.specs.Session as spec
+use Rattle.qpack_rules.specs.Session.{Session, KeptBlock, stream_at, begin_session, initial_session, next_block}
+use Rattle.qpack_rules.specs.Session.{oldest_undecoded}
 use Rattle.qpack_spec.specs.Prefix.{OutOfRange, BelowZero}
 use Rattle.qpack_spec.specs.Reading.{Fault, BadForm, BadPrefix, BelowWindow, AboveWindow, BehindBase, NotStatic}
 use Rattle.qpack_spec.specs.Window.{DoesNotFit, AboveMaximum, UnknownStream}

@@ -2,9 +2,9 @@
 use Rattle.std.specs.Prelude.{◌≡◌, ◌<◌, ◌⊎◌, ℕ, ◌-◌, ⊤, List, [], ◌∷◌, ◌++◌, length, take, drop, codes, Option}
 use Rattle.std.specs.Prelude.{None, Some, Result, Ok, Err, slice_get, String, string_bytes}
 use Rattle.std.specs.Option.{option_map}
-use Rattle.qpack_spec.specs.Session as spec
-use Rattle.qpack_spec.specs.Session.{Session, KeptBlock, stream_at, next_block, Passes, begin_session}
-use Rattle.qpack_spec.specs.Session.{CapacityTooLarge, LimitTooLarge}
+use Rattle.qpack_rules.specs.Session as spec
+use Rattle.qpack_rules.specs.Session.{Session, KeptBlock, stream_at, next_block, Passes, begin_session}
+use Rattle.qpack_rules.specs.Session.{CapacityTooLarge, LimitTooLarge}
 use Rattle.qpack_spec.specs.Window.{TableRefusal, DoesNotFit, AboveMaximum, UnknownStream}
 use Rattle.qpack_wire.specs.Memory.{AsksSectionForMemory}
 use Rattle.h3_qpack.below.qpack_table.specs.declared.dynamic.Error.{Error as TableError}

@@ -6,7 +6,7 @@ use Rattle.std.specs.Global.{Vec}
 use Rattle.std.specs.Str.{all_ascii_digits, bytes_eq}
 use Rattle.std.specs.Str.Parse.{digits_value, without_leading_plus}
 use Rattle.qpack_spec.specs.Field.{Field}
-use Rattle.qpack_spec.specs.Session.{Event, Encode, Decode, ToDecoder, ToEncoder, Acknowledge, Cancel, ChangeCapacity}
+use Rattle.qpack_rules.specs.Session.{Event, Encode, Decode, ToDecoder, ToEncoder, Acknowledge, Cancel, ChangeCapacity}
 use Rattle.qpack_base.specs.declared.field.HeaderField.{HeaderField}
 use Rattle.h3_qpack.specs.Sessions.{event_of}
 use Rattle.qpack_codec.specs.Stateless.{fields_in}

@@ -1,7 +1,7 @@
 //! A script run on a session, and what is printed of it.
 
 ghost use Rattle.std.specs.Prelude.{◌≡◌, ◌-◌, ◌++◌, List, ℕ, OnOk, length, drop, slice_get, string_bytes};
-ghost use Rattle.qpack_spec.specs.Session.{stream_at};
+ghost use Rattle.qpack_rules.specs.Session.{stream_at};
 ghost use Rattle.h3_qpack.specs.Sessions.{event_of};
 ghost use Rattle.qpk.specs.Scripts.{events_in};
 ghost use Rattle.qpk.specs.Runs.{RunsScript, RunsSession, BeginsRun, RunsEvents, PrintsOne};

@@ -1,6 +1,6 @@
 //! A script of a session: an event a line, its parts separated by TABs.
 
-ghost use Rattle.qpack_spec.specs.Session.{Event as SessionEvent};
+ghost use Rattle.qpack_rules.specs.Session.{Event as SessionEvent};
 ghost use Rattle.h3_qpack.specs.Sessions.{event_of};
 ghost use Rattle.qpk.specs.LineItems.{IsItem};
 ghost use Rattle.qpk.specs.Scripts.{script_events, event_of_line, event_of_number, ReadsScript};

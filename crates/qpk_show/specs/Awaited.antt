@@ -2,7 +2,7 @@
 use Rattle.std.specs.Prelude.{◌≡◌, ℕ, ◌+◌, ⊤, Bool, true, false, if◌then◌else◌, not, nat_eq, nat_lt, List, [], ◌∷◌, ◌++◌}
 use Rattle.std.specs.Prelude.{filter, position, remove, slice_get, Option, None, Some, Result, Ok, Err}
 use Rattle.qpack_spec.specs.Instruction.{DecoderInstruction, Acknowledgment, Cancellation, Increment}
-use Rattle.qpack_spec.specs.StrictInstructions.{HearingRefusal, ZeroIncrement, PastInsertions, UnknownStream}
+use Rattle.qpack_rules.specs.StrictInstructions.{HearingRefusal, ZeroIncrement, PastInsertions, UnknownStream}
 use Rattle.qpk_show.specs.declared.awaited.Sent.{Sent}
 use Rattle.qpk_show.specs.declared.awaited.HearingFault.{HearingFault}
 use Rattle.qpk_show.specs.declared.awaited.HearingFault.TheVariants as fault

@@ -6,7 +6,7 @@ use Rattle.std.specs.Prelude.{Result, Ok, Err}
 use Rattle.std.specs.List.{list_any}
 use Rattle.qpack_spec.specs.Field.{Field}
 use Rattle.qpack_spec.specs.Instruction.{EncoderInstruction, DecoderInstruction}
-use Rattle.qpack_spec.specs.StrictInstructions.{HearingRefusal, strict_apply}
+use Rattle.qpack_rules.specs.StrictInstructions.{HearingRefusal, strict_apply}
 use Rattle.qpack_spec.specs.Table.{Table, empty_table, insert_count}
 use Rattle.qpack_spec.specs.Window.{TableRefusal}
 use Rattle.qpack_wire.specs.Alone.{KindFault}

@@ -3,7 +3,7 @@
 ghost use Rattle.std.specs.Prelude.{◌≡◌};
 ghost use Rattle.qpack_base.specs.HeaderFields.{field_of};
 ghost use Rattle.qpack_spec.specs.Instruction.{Duplicate as DuplicateOf};
-ghost use Rattle.qpack_spec.specs.StrictInstructions.{inserts, strict_apply};
+ghost use Rattle.qpack_rules.specs.StrictInstructions.{inserts, strict_apply};
 ghost use Rattle.qpack_spec.specs.Table.{apply_encoder_instruction, put, with_capacity};
 ghost use Rattle.qpack_wire.specs.Instructions.{encoder_instruction_of_insert_with_name_ref};
 ghost use Rattle.qpack_wire.specs.StreamLines.{encoder_instruction_of};
@@ -20,7 +20,7 @@ use qpack_wire::stream::{
 
 /// Applies an instruction to the table, and returns the field that it inserts, if it inserts one. At capacity 0 no
 /// insertion is lawful (RFC 9204, section 3.2.2). On error the table is unchanged; for memory, it is unspecified.
-#[tactic(auto, unfolding(qpack_spec::specs::StrictInstructions::strict_apply))]
+#[tactic(auto, unfolding(qpack_rules::specs::StrictInstructions::strict_apply))]
 pub fn apply_instruction(
     table: &mut ReceivedTable,
     line: &EncoderLine,

@@ -8,7 +8,7 @@ ghost use Rattle.std.specs.List.{list_any};
 ghost use Rattle.qpack_spec.specs.Table.{insert_count};
 ghost use Rattle.qpk_show.specs.Showing.{is_due, waits_on, blocked_streams, may_wait, next_shown, next_told};
 ghost use Rattle.qpk_show.specs.Showing.{next_taken};
-ghost use Rattle.qpack_spec.specs.StrictInstructions.{strict_apply};
+ghost use Rattle.qpack_rules.specs.StrictInstructions.{strict_apply};
 ghost use Rattle.qpack_wire.specs.StreamLines.{decoder_instruction_of, encoder_instruction_of};
 ghost use Rattle.qpk_show.specs.Showing.{section_at, observed_at_first, with_section, without_stream, is_waiting};
 ghost use Rattle.qpk_show.specs.Showing.{applied, blocked_at, heard, noted, of_other_streams, required_of};

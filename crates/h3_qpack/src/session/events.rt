@@ -1,7 +1,7 @@
 //! The events of a session, one by one.
 
 ghost use Rattle.std.specs.Prelude.{◌+◌, ◌≤◌, length, vec_len, vec_capacity};
-ghost use Rattle.qpack_spec.specs.Session.{Encode, Decode, ToDecoder, ToEncoder, Acknowledge, Cancel, ChangeCapacity};
+ghost use Rattle.qpack_rules.specs.Session.{Encode, Decode, ToDecoder, ToEncoder, Acknowledge, Cancel, ChangeCapacity};
 ghost use Rattle.h3_qpack.specs.Sessions.{Follows, event_of};
 ghost use Rattle.h3_qpack.specs.SessionMemory.{IsAskedFor};
 ghost use Rattle.h3_qpack.specs.SessionRuns.{PerformsAll};

@@ -3,7 +3,7 @@
 ghost use Rattle.std.specs.Prelude.{◌≡◌, ◌+◌, ◌<◌, ◌∷◌, [], ◌++◌, true, false, length, IfSome, IfNone, IfOk, IfErr};
 ghost use Rattle.std.specs.Prelude.{OnErr, None, Some};
 ghost use Rattle.std.specs.Prelude.{slice_get};
-ghost use Rattle.qpack_spec.specs.Session.{awaits_acknowledgment, oldest_undecoded};
+ghost use Rattle.qpack_rules.specs.Session.{awaits_acknowledgment, oldest_undecoded};
 ghost use Rattle.h3_qpack.specs.Sessions.{stored_requires_entry, HasBytes, WritesBlock, GivesUp};
 ghost use Rattle.qpack_codec.specs.Stateless.{fields_in};
 ghost use Rattle.qpack_codec.specs.declared.error.EncoderError.TheVariants.{Memory};

@@ -2,7 +2,7 @@
 
 ghost use Rattle.std.specs.Prelude.{◌≡◌, ◌+◌, ◌<◌, ◌++◌, ℕ, [], None, Some, true, length, nat_eq, false, IfSome};
 ghost use Rattle.std.specs.Prelude.{IfNone, IfOk, IfErr, OnOk, OnErr, if◌then◌else◌, IsSome};
-ghost use Rattle.qpack_spec.specs.Session.{stream_at, awaits_acknowledgment, oldest_undecoded};
+ghost use Rattle.qpack_rules.specs.Session.{stream_at, awaits_acknowledgment, oldest_undecoded};
 ghost use Rattle.qpack_codec.specs.RequestStreams.{ChangesStream, KeepsStreams, IsOpen};
 ghost use Rattle.h3_qpack.specs.Sessions.{stored_requires_entry};
 ghost use Rattle.h3_qpack.specs.Sessions.{WritesStream, GivesUp, HasBytes, encode_skip, decode_skip};

@@ -1,7 +1,7 @@
 //! A request stream of a connection: its sections, and what became of them.
 
 ghost use Rattle.std.specs.Prelude.{◌≡◌, ◌<◌, [], length, true, false, IfOk, OnErr, IfSome, IfNone, None};
-ghost use Rattle.qpack_spec.specs.Session.{oldest_undecoded};
+ghost use Rattle.qpack_rules.specs.Session.{oldest_undecoded};
 ghost use Rattle.qpack_connection.specs.OwnedLines.{lines_of};
 ghost use Rattle.qpack_connection.specs.ConnectionEvents.{Sends, HasBytes, decoded_with};
 
@@ -51,7 +51,7 @@ pub(super) struct Stream {
 
 impl Model for Stream {
     ghost use Rattle.std.specs.Prelude.{◌≤◌, length};
-    ghost use Rattle.qpack_spec.specs.Session.{RequestStream};
+    ghost use Rattle.qpack_rules.specs.Session.{RequestStream};
     ghost use Rattle.qpack_connection.specs.Connections.{SentSection};
 
     ghost Value = { RequestStream SentSection };

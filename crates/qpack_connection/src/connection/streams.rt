@@ -2,7 +2,7 @@
 
 ghost use Rattle.std.specs.Prelude.{◌≡◌, ◌<◌, [], None, Some, true, false, length, IfSome, IfNone, IfOk};
 ghost use Rattle.std.specs.Prelude.{IfErr, OnOk, OnErr};
-ghost use Rattle.qpack_spec.specs.Session.{stream_at, oldest_undecoded};
+ghost use Rattle.qpack_rules.specs.Session.{stream_at, oldest_undecoded};
 ghost use Rattle.qpack_codec.specs.RequestStreams.{ChangesStream, KeepsStreams, IsOpen};
 ghost use Rattle.qpack_connection.specs.OwnedLines.{lines_of};
 ghost use Rattle.qpack_connection.specs.ConnectionEvents.{SendsAmong, HasBytes, decoded_with, decode_skip, cancel_skip};
@@ -24,7 +24,7 @@ pub(super) struct Streams {
 
 impl Model for Streams {
     ghost use Rattle.std.specs.Prelude.{ℕ, List};
-    ghost use Rattle.qpack_spec.specs.Session.{RequestStream};
+    ghost use Rattle.qpack_rules.specs.Session.{RequestStream};
     ghost use Rattle.qpack_connection.specs.Connections.{SentSection};
 
     ghost Value = { List (ℕ × RequestStream SentSection) };

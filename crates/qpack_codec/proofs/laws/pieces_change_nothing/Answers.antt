@@ -1,7 +1,7 @@
 use Rattle.std.proofs.Common.{◌≡◌, ℕ, List, refl}
 use Rattle.std.specs.Prelude.{true}
 use Rattle.qpack_spec.specs.Instruction.{encoder_instruction_form, decoder_instruction_form}
-use Rattle.qpack_spec.specs.Session.{is_consumed}
+use Rattle.qpack_rules.specs.Session.{is_consumed}
 use Rattle.qpack_spec.specs.Table.{Table, apply_encoder_instruction, apply_decoder_instruction}
 use Rattle.qpack_codec.specs.Hearing as hearing
 use Rattle.qpack_codec.specs.Hearing.{StopsHearing}

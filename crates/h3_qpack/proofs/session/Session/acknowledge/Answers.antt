@@ -1,5 +1,5 @@
 use Rattle.std.proofs.Common.{sym, ◌∙◌}
-use Rattle.qpack_spec.specs.Session.{Acknowledge}
+use Rattle.qpack_rules.specs.Session.{Acknowledge}
 use Rattle.h3_qpack.proofs.Sessions.{follows_from, stays_from, reached_behind, skipped, acknowledgment_skips}
 use Rattle.h3_qpack.proofs.SessionEvents.{acknowledges, acknowledges_nothing}
 use Rattle.h3_qpack.proofs.session.Session.acknowledge.Goals as goal

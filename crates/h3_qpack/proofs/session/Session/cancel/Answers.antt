@@ -1,5 +1,5 @@
 use Rattle.std.proofs.Common.{sym, ◌∙◌}
-use Rattle.qpack_spec.specs.Session.{Cancel}
+use Rattle.qpack_rules.specs.Session.{Cancel}
 use Rattle.h3_qpack.proofs.Sessions.{follows_from, stays_from, reached_behind, skipped, cancellation_skips}
 use Rattle.h3_qpack.proofs.SessionEvents.{cancels}
 use Rattle.h3_qpack.proofs.session.Session.cancel.Goals as goal

@@ -1,5 +1,5 @@
 use Rattle.std.proofs.Common.{ap, ◌∙◌}
-use Rattle.qpack_spec.specs.Session.{Decode}
+use Rattle.qpack_rules.specs.Session.{Decode}
 use Rattle.h3_qpack.proofs.Sessions.{follows_from, stays_from, reached_behind, skipped, decode_skips}
 use Rattle.h3_qpack.proofs.SessionEvents.{decodes, decodes_nothing}
 use Rattle.h3_qpack.proofs.SessionMemory.{decode_asks}

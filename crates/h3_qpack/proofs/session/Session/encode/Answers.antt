@@ -1,5 +1,5 @@
 use Rattle.std.proofs.Common.{sym, ◌∙◌}
-use Rattle.qpack_spec.specs.Session.{Encode}
+use Rattle.qpack_rules.specs.Session.{Encode}
 use Rattle.h3_qpack.proofs.Sessions.{follows_from, stays_from, reached_behind, skipped}
 use Rattle.h3_qpack.proofs.SessionBlocks.{encodes, encode_skips}
 use Rattle.qpack_codec.specs.Stateless.{fields_in}

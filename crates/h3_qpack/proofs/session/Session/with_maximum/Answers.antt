@@ -1,4 +1,4 @@
-use Rattle.qpack_spec.specs.Session.{initial_session}
+use Rattle.qpack_rules.specs.Session.{initial_session}
 use Rattle.h3_qpack.proofs.SessionStarts.{first_reached, first_is, first_view_is, begins_ok}
 use Rattle.h3_qpack.proofs.session.Session.with_maximum.Goals as goal
 

@@ -3,7 +3,7 @@ use Rattle.std.specs.List.{filter}
 use Rattle.std.specs.Option.{is_some}
 use Rattle.std.specs.Prelude.{nat_lt, ◌&&◌}
 use Rattle.std.proofs.lemmas.Fn.{filter_same}
-use Rattle.qpack_spec.specs.StrictInstructions.{oldest_required}
+use Rattle.qpack_rules.specs.StrictInstructions.{oldest_required}
 use Rattle.qpack_ends.specs.declared.blocked.BlockedStream.{BlockedStream}
 use Rattle.qpack_ends.proofs.at_risk.StreamsAtRisk.keep_open.Goals as goal
 

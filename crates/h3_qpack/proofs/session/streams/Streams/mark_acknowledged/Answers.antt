@@ -1,5 +1,5 @@
 use Rattle.std.proofs.Common.{◌≡◌, ◌+◌, true, subst, ap, sym}
-use Rattle.qpack_spec.specs.Session.{awaits_acknowledgment}
+use Rattle.qpack_rules.specs.Session.{awaits_acknowledgment}
 use Rattle.h3_qpack.specs.Sessions.{StoredStream, stored_requires_entry}
 use Rattle.qpack_codec.proofs.Streams.{is_not, unused, stream_found, stream_missing, stream_written}
 use Rattle.h3_qpack.proofs.session.streams.Streams.mark_acknowledged.Goals.{in-Some, in_default}

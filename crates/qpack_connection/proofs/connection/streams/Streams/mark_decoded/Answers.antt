@@ -1,5 +1,5 @@
 use Rattle.std.proofs.Common.{◌≡◌, ◌<◌, length, subst, ap, sym, arith}
-use Rattle.qpack_spec.specs.Session.{RequestStream}
+use Rattle.qpack_rules.specs.Session.{RequestStream}
 use Rattle.qpack_codec.proofs.Streams.{unused, stream_found, stream_missing, stream_written}
 use Rattle.qpack_connection.specs.Connections.{SentSection}
 use Rattle.qpack_connection.specs.ConnectionEvents.{decoded_with}

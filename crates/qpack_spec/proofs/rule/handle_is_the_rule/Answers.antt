@@ -1,5 +1,0 @@
-use Rattle.qpack_spec.proofs.Handles.{handle_is_rule}
-use Rattle.qpack_spec.proofs.rule.handle_is_the_rule.Goals as goal
-
-pub returns : goal.returns
-returns c = handle_is_rule

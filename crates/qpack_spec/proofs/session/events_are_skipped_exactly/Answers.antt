@@ -1,5 +1,0 @@
-use Rattle.qpack_spec.proofs.SkippedEvents.{skipped_exactly}
-use Rattle.qpack_spec.proofs.session.events_are_skipped_exactly.Goals as goal
-
-pub returns : goal.returns
-returns c = skipped_exactly

@@ -1,5 +1,0 @@
-use Rattle.qpack_spec.proofs.SessionAnswers.{events_answer}
-use Rattle.qpack_spec.proofs.session.every_event_has_an_answer.Goals as goal
-
-pub returns : goal.returns
-returns c = events_answer

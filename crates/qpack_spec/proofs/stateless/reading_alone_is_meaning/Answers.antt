@@ -1,5 +1,0 @@
-use Rattle.qpack_spec.proofs.StatelessMeanings.{reading_alone}
-use Rattle.qpack_spec.proofs.stateless.reading_alone_is_meaning.Goals as goal
-
-pub returns : goal.returns
-returns c = reading_alone

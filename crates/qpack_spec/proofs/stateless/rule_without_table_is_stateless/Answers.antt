@@ -1,5 +1,0 @@
-use Rattle.qpack_spec.proofs.StatelessPairs.{rule_without}
-use Rattle.qpack_spec.proofs.stateless.rule_without_table_is_stateless.Goals as goal
-
-pub returns : goal.returns
-returns c = rule_without

@@ -1,8 +1,0 @@
-use Rattle.qpack_spec.proofs.LawfulStreams.{never_refused, are_taken}
-use Rattle.qpack_spec.proofs.stream.lawful_streams_are_taken.Goals as goal
-
-pub returns-clause-never_refused : goal.returns-clause-never_refused
-returns-clause-never_refused c = never_refused
-
-pub returns-clause-taken : goal.returns-clause-taken
-returns-clause-taken c = are_taken

@@ -1,5 +1,0 @@
-use Rattle.qpack_spec.proofs.PutTables.{applied_put}
-use Rattle.qpack_spec.proofs.table.decoders_table_goes_as_its_window.Goals as goal
-
-pub returns : goal.returns
-returns c = applied_put

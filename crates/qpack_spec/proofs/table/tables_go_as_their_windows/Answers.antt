@@ -1,8 +1,0 @@
-use Rattle.qpack_spec.proofs.TableLaws.{entries_inserted, capacities_of_window}
-use Rattle.qpack_spec.proofs.table.tables_go_as_their_windows.Goals as goal
-
-pub returns-clause-entries : goal.returns-clause-entries
-returns-clause-entries c = entries_inserted
-
-pub returns-clause-capacities : goal.returns-clause-capacities
-returns-clause-capacities c = capacities_of_window

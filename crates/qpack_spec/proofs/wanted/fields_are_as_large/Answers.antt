@@ -1,5 +1,0 @@
-use Rattle.qpack_spec.proofs.WaitingFields.{fields_as_large}
-use Rattle.qpack_spec.proofs.wanted.fields_are_as_large.Goals as goal
-
-pub returns : goal.returns
-returns c = fields_as_large

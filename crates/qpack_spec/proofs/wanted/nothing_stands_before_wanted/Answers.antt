@@ -1,5 +1,0 @@
-use Rattle.qpack_spec.proofs.Waiting.{nothing_before_wanted}
-use Rattle.qpack_spec.proofs.wanted.nothing_stands_before_wanted.Goals as goal
-
-pub returns : goal.returns
-returns c = nothing_before_wanted

@@ -1,5 +1,0 @@
-use Rattle.qpack_spec.proofs.WaitingBytes.{waiting_bytes_few}
-use Rattle.qpack_spec.proofs.wanted.waiting_bytes_are_few.Goals as goal
-
-pub returns : goal.returns
-returns c = waiting_bytes_few
