@@ -86,6 +86,12 @@ try_example() {
     "$@" "${strict[@]}" examples/roundtrip.c -x none "$room/other.o" $flags -o "$room/roundtrip" && "$room/roundtrip"
 }
 
+# The made corpora are the same in every run.
+make_corpora() {
+    PYTHONHASHSEED=1 ../bench/corpora.py "$room/corpora" && PYTHONHASHSEED=2 ../bench/corpora.py "$room/again" &&
+        diff -r "$room/corpora" "$room/again"
+}
+
 # Calls the functions of the library without the header, as a binding does.
 try_bindings() {
     cc -shared -Wl,--whole-archive "$room/usr/lib/libh3_qpack.a" -Wl,--no-whole-archive -o "$room/bindings.so" || return
@@ -141,6 +147,7 @@ choose_more bounds
 compile bounds bounds.c -O2
 run "$room/bounds"
 cat "$room/told"
+run make_corpora
 run ../bench/counts.py "$room/usr/lib/libh3_qpack.a"
 cat "$room/told"
 if [ -z "$peer" ]; then
