@@ -3,33 +3,34 @@
  * sections late. Requests and responses of a corpus have an encoder each. Each field that is decoded is compared with the
  * corpus. Prints a line for each setting, and first one without a table; its columns are parted by TABs. */
 #include "libraries.h"
-
-#define MOST_LATE 32
+#include "play.h"
 
 typedef struct {
-  size_t capacity, blocked, late;
-} setting;
+  const library *library;
+  connection both;
+} ends;
 
-static int is_response(const list *l) {
-  return l->len && l->nv[0].namelen == 7 && !memcmp(l->nv[0].name, ":status", 7);
+static size_t exchange_by(void *e, uint64_t stream_id, const list *l, answer *answer) {
+  static wire wire;
+  ends *these = e;
+  exchange(these->library, &these->both, stream_id, l, &wire, answer);
+  return wire.section_len + wire.stream_len;
+}
+
+static void hear_by(void *e, const answer *answer) {
+  ends *these = e;
+  these->library->hear(&these->both, answer);
 }
 
 /* Returns the bytes of all requests, or of all responses, on one connection. */
 static size_t play_one_way(const library *library, setting s, int responses) {
-  static answer answers[MOST_LATE + 1];
-  static wire wire;
-  connection both;
-  library->open(&both, s.capacity, s.blocked);
-  size_t bytes = 0, count = 0;
-  CHECK(s.late <= MOST_LATE);
-  for (size_t i = 0; i < nlists; i++) {
-    if (is_response(&lists[i]) != responses) continue;
-    exchange(library, &both, 4 * count, &lists[i], &wire, &answers[count % (s.late + 1)]);
-    bytes += wire.section_len + wire.stream_len;
-    count++;
-    if (count > s.late) library->hear(&both, &answers[count % (s.late + 1)]);
-  }
-  close_both(library, &both);
+  static const player by_library = {exchange_by, hear_by};
+  ends e = {.library = library};
+  direction d = lists_of(responses);
+  library->open(&e.both, s.capacity, s.blocked);
+  size_t bytes = play_lists(&by_library, &e, d, s.late);
+  close_both(library, &e.both);
+  free(d.all);
   return bytes;
 }
 

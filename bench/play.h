@@ -1,0 +1,60 @@
+/* Plays lists of fields to an encoder, whose peer answers some lists late, and says in which settings. Include it after
+ * common.h or peer.h. */
+#ifndef PLAY_H
+#define PLAY_H
+
+#define MOST_LATE 32
+
+/* The capacity of the table in bytes, how many streams may be blocked, and how many lists late the peer answers. */
+typedef struct {
+  size_t capacity, blocked, late;
+} setting;
+
+/* The lists that one end of a connection sends. */
+typedef struct {
+  const list **all;
+  size_t count;
+} direction;
+
+/* What plays lists: an encoder, and a decoder that answers it. */
+typedef struct {
+  /* Encodes a list, decodes it, leaves what the decoder sends, and returns the bytes of the section and of the encoder
+   * stream. */
+  size_t (*exchange)(void *ends, uint64_t stream_id, const list *l, answer *answer);
+  void (*hear)(void *ends, const answer *answer);
+} player;
+
+static inline int begins_with(const list *l, const char *name) {
+  return l->len && l->nv[0].namelen == strlen(name) && !memcmp(l->nv[0].name, name, l->nv[0].namelen);
+}
+
+/* A list without the fields that requests and responses begin with is of trailers. */
+static inline int are_trailers(const list *l) {
+  return !l->len || !l->nv[0].namelen || l->nv[0].name[0] != ':';
+}
+
+/* Returns all requests of the lists, or all responses. Trailers go with the list before them. */
+static inline direction lists_of(int responses) {
+  direction d = {malloc((nlists + 1) * sizeof *d.all), 0};
+  int is_response = 0;
+  CHECK(d.all);
+  for (size_t i = 0; i < nlists; i++) {
+    if (!are_trailers(&lists[i])) is_response = begins_with(&lists[i], ":status");
+    if (is_response == responses) d.all[d.count++] = &lists[i];
+  }
+  return d;
+}
+
+/* Returns the bytes of all lists on one connection, each on a stream of its own. */
+static inline size_t play_lists(const player *p, void *ends, direction d, size_t late) {
+  static answer answers[MOST_LATE + 1];
+  size_t bytes = 0;
+  CHECK(late <= MOST_LATE);
+  for (size_t i = 0; i < d.count; i++) {
+    bytes += p->exchange(ends, 4 * i, d.all[i], &answers[i % (late + 1)]);
+    if (i >= late) p->hear(ends, &answers[(i + 1) % (late + 1)]);
+  }
+  return bytes;
+}
+
+#endif
