@@ -10,6 +10,21 @@ typedef struct {
   size_t capacity, blocked, late;
 } setting;
 
+/* The settings of small and large tables. A program that takes a step plays each |step|-th of them. */
+static const size_t all_capacities[] = {220, 512, 1024, 4096, 16384, 65536}, all_limits[] = {100, 0},
+                    all_delays[] = {0, 8, MOST_LATE};
+
+#define CAPACITIES (sizeof all_capacities / sizeof *all_capacities)
+#define LIMITS (sizeof all_limits / sizeof *all_limits)
+#define DELAYS (sizeof all_delays / sizeof *all_delays)
+#define SETTINGS (CAPACITIES * LIMITS * DELAYS)
+
+/* Returns the setting of a number. Those of a capacity and a limit follow each other. */
+static inline setting setting_at(size_t number) {
+  return (setting){all_capacities[number / (LIMITS * DELAYS)], all_limits[number / DELAYS % LIMITS],
+                   all_delays[number % DELAYS]};
+}
+
 /* The lists that one end of a connection sends. */
 typedef struct {
   const list **all;
