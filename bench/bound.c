@@ -1,8 +1,8 @@
-/* bound STEP CORPUS..: the bytes of sections and of the encoder stream that this library writes, beside the least that ten
+/* bound CORPUS..: the bytes of sections and of the encoder stream that this library writes, beside the least that ten
  * encoders write that know which fields come in the next lists, 10 to 2,500 of them. Such an encoder can't be had, and a
- * better rule than its own may write less. Of the settings of play.h each STEP-th is played, of two corpora that traffic.h
- * makes, and of the requests and the responses of each other corpus. This library's decoder decodes each section, of all
- * encoders, and answers them.
+ * better rule than its own may write less. All settings of play.h are played, of two corpora that traffic.h makes, and of the
+ * requests and the responses of each other corpus. This library's decoder decodes each section, of all encoders, and answers
+ * them.
  *
  * Prints a line for each setting; then, behind an empty line, the mean of the ratios for each corpus, capacity and limit of
  * blocked streams, and for all corpora. The columns are parted by TABs. */
@@ -73,11 +73,11 @@ static int comes_twice(const occurrences *o, size_t number, size_t from, size_t 
 /* An entry so far before the base takes two bytes to reference, or more. */
 #define FAR 63
 
-/* A far entry is inserted again if it was referenced in so many of the last lists, and so often. */
-#define RECENT 8
+/* A far entry is inserted again if that many lists referenced it, and the last of them is no further back than RECENT. */
 #define OFTEN 2
+#define RECENT 8
 
-/* After an insertion found no room, draining entries are not referenced for so many lists. */
+/* After an insertion found no room, draining entries are not referenced for that many lists. */
 #define LISTS_WITHOUT_ROOM 16
 
 /* What an encoder knows, and does. */
@@ -86,7 +86,7 @@ typedef struct {
   size_t ahead;
   /* Whether far entries are inserted again. */
   int brings_near;
-  /* Only if they come in two of so many lists, if this is not 0. */
+  /* If this is not 0, only those that come in two of as many lists. */
   size_t twice_in;
 } knowledge;
 
@@ -341,12 +341,12 @@ static void print_setting(const char *name, direction d, const future *f, size_t
 }
 
 /* Prints the settings of what goes in one direction, if anything does. */
-static void print_direction(const char *name, int responses, size_t step) {
+static void print_direction(const char *name, int responses) {
   direction d = lists_of(responses);
   corpus c = make_corpus(d);
   future f = {&c, find_occurrences(&c, field_number, c.numbers), find_occurrences(&c, name_number, c.name_numbers)};
   CHECK(ncorpora < MOST_CORPORA && strlen(name) < sizeof *names);
-  for (size_t n = 0; d.count && n < SETTINGS; n += step) print_setting(name, d, &f, n);
+  for (size_t n = 0; d.count && n < SETTINGS; n++) print_setting(name, d, &f, n);
   if (d.count) strcpy(names[ncorpora++], name);
   free_occurrences(&f.fields);
   free_occurrences(&f.names);
@@ -355,24 +355,24 @@ static void print_direction(const char *name, int responses, size_t step) {
 }
 
 /* Prints both directions of a corpus that is read, and forgets it. */
-static void print_corpus(const char *name, size_t step) {
+static void print_corpus(const char *name) {
   char responses[64];
   direction d = lists_of(0);
   int is_mixed = d.count && d.count < nlists;
   free(d.all);
   CHECK(snprintf(responses, sizeof responses, "%s%s", name, is_mixed ? " responses" : "") < (int)sizeof responses);
-  print_direction(name, 0, step);
-  print_direction(responses, 1, step);
+  print_direction(name, 0);
+  print_direction(responses, 1);
   free_lists();
 }
 
-static void print_file(const char *path, size_t step) {
+static void print_file(const char *path) {
   char name[64];
   const char *slash = strrchr(path, '/');
   CHECK(snprintf(name, sizeof name, "%s", slash ? slash + 1 : path) < (int)sizeof name);
   name[strcspn(name, ".")] = 0;
   read_corpus(path, 0);
-  print_corpus(name, step);
+  print_corpus(name);
 }
 
 static void print_mean(const char *name, size_t at, mean m) {
@@ -395,16 +395,14 @@ static void print_means(void) {
 }
 
 int main(int argc, char **argv) {
-  CHECK(argc >= 3);
-  size_t step = strtoull(argv[1], NULL, 10);
-  CHECK(step);
+  CHECK(argc >= 2);
   printf("corpus\tcapacity\tblocked\tlate\tbytes\tbound\tratio\n");
   for (size_t k = 0; k < TRAFFICS; k++) {
     if (!traffics[k].make) continue;
     add_traffic(&traffics[k], "");
-    print_corpus(traffics[k].name, step);
+    print_corpus(traffics[k].name);
   }
-  for (int i = 2; i < argc; i++) print_file(argv[i], step);
+  for (int i = 1; i < argc; i++) print_file(argv[i]);
   print_means();
   return 0;
 }

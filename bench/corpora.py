@@ -42,19 +42,19 @@ class Numbers:
         return choices[min(self.below(len(choices)), self.below(len(choices)))]
 
     def is_one_in(self, many):
-        """Returns whether a case is one that occurs once in so many."""
+        """Returns whether a case is one that occurs once in that many."""
         return self.below(many) == 0
 
     def text(self, letters, count):
-        """Returns so many letters."""
+        """Returns that many letters."""
         return "".join(self.of(letters) for _ in range(count))
 
     def hex(self, count):
-        """Returns so many hexadecimal digits."""
+        """Returns that many hexadecimal digits."""
         return self.text(HEX, count)
 
     def bytes(self, count):
-        """Returns so many bytes."""
+        """Returns that many bytes."""
         return bytes(self.below(256) for _ in range(count))
 
 

@@ -249,7 +249,7 @@ static inline int may_reference(const encoder *e, size_t absolute) {
   return e->may_block || absolute <= e->known;
 }
 
-/* Returns which entry is the last that has to be evicted for so many bytes, whether it can be or not. */
+/* Returns which entry is the last that has to be evicted for that many bytes, whether it can be or not. */
 static inline size_t last_evicted(const encoder *e, size_t size) {
   size_t used = e->used, last = e->dropped;
   while (used + size > e->capacity && last < e->inserted) used -= e->entries[++last].f->size;

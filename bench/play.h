@@ -10,7 +10,7 @@ typedef struct {
   size_t capacity, blocked, late;
 } setting;
 
-/* The settings of small and large tables. A program that takes a step plays each |step|-th of them. */
+/* The settings of small and large tables. */
 static const size_t all_capacities[] = {220, 512, 1024, 4096, 16384, 65536}, all_limits[] = {100, 0},
                     all_delays[] = {0, 8, MOST_LATE};
 

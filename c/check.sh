@@ -150,6 +150,11 @@ cat "$room/told"
 run make_corpora
 run ../bench/counts.py "$room/usr/lib/libh3_qpack.a"
 cat "$room/told"
+run ../bench/bound.py "$room/usr/lib/libh3_qpack.a"
+tail -n 1 "$room/told"
+choose_more bound
+compile bound.sanitized ../bench/bound.c -O1 -g -fsanitize=address,undefined -fno-sanitize-recover
+run "$room/bound.sanitized" "$corpus"
 if [ -z "$peer" ]; then
     echo "c/check.sh: $passed runs passed over $library, $with$left_out"
     exit

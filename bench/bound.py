@@ -1,0 +1,96 @@
+#!/usr/bin/env python3
+"""Holds the bytes that the library writes to a recorded table, beside those of encoders that know which fields come next.
+
+    bench/bound.py [ARCHIVE]     compares over an archive of the library, or over that of dist/
+    bench/bound.py --record      plays over dist/, and writes bench/bytes-against-bound.tsv
+
+bench/bound.c plays the recorded corpora, those of traffic.h and those of corpora.py, and prints a table, which is the same on
+every machine. A row that is not as it was recorded is a fault: after a change of the rule, record the table again. The last
+lines have the mean of bytes over the bound for each capacity. The exit status is 1 if there is a fault.
+"""
+import datetime
+import os
+import subprocess
+import sys
+import tempfile
+from pathlib import Path
+
+sys.dont_write_bytecode = True
+import corpora  # pylint: disable=wrong-import-position # bench/corpora.py
+
+BENCH = Path(__file__).resolve().parent
+TOP = BENCH.parent
+RECORDED = sorted((TOP / "crates" / "qpack_tests" / "data").glob("*.qif"))
+TABLE = BENCH / "bytes-against-bound.tsv"
+# The most rows that are printed of those that differ.
+MOST_ROWS = 20
+
+
+def run(*command):
+    """Runs a command and returns what it prints; if it fails, says what it said, and ends."""
+    ran = subprocess.run(command, stdin=subprocess.DEVNULL, capture_output=True, text=True, errors="replace")
+    if ran.returncode:
+        sys.exit(f"{ran.stdout}{ran.stderr}bound: failed: {command[0]}")
+    return ran.stdout
+
+
+def make_archive(room):
+    """Builds the library of dist/, and returns its archive."""
+    run("make", "-s", "-C", TOP / "dist", f"BUILD={room / 'made'}", room / "made" / "libh3_qpack.a")
+    return room / "made" / "libh3_qpack.a"
+
+
+def play(archive, room):
+    """Returns the table that bound.c prints over an archive."""
+    program = room / "bound"
+    words = ["-std=c11", "-D_GNU_SOURCE", "-Wall", "-Wextra", "-Werror", "-O2", f"-I{TOP / 'dist'}"]
+    run(os.environ.get("CC", "cc"), *words, BENCH / "bound.c", archive, "-o", program)
+    made = room / "corpora"
+    made.mkdir()
+    return run(program, *RECORDED, *corpora.write_corpora(made))
+
+
+def read_rows(text):
+    """Returns the figures of the rows of a table, by what they are of: a setting, or a corpus, a capacity and a limit."""
+    rows = {}
+    for line in text.splitlines():
+        columns = line.split("\t")
+        if line and not line.startswith("#") and columns[0] != "corpus":
+            many = 4 if len(columns) == 7 else 3
+            rows[" ".join(columns[:many])] = " ".join(columns[many:])
+    return rows
+
+
+def find_faults(found, recorded):
+    """Returns a line for each row that is not as it was recorded."""
+    names = [*found, *(it for it in recorded if it not in found)]
+    return [
+        f"{it}: {found.get(it, 'no row')}, and {recorded.get(it, 'no row')} was recorded"
+        for it in names
+        if found.get(it) != recorded.get(it)
+    ]
+
+
+def main(words):
+    if len(words) > 1 or words[:1] in (["-h"], ["--help"]):
+        sys.exit(__doc__)
+    is_recorded = words == ["--record"]
+    with tempfile.TemporaryDirectory(prefix="h3-qpack-bound-") as name:
+        room = Path(name)
+        text = play(make_archive(room) if is_recorded or not words else Path(words[0]).resolve(), room)
+    found = read_rows(text)
+    if is_recorded:
+        head = f"# Written by bench/bound.py --record on {datetime.date.today()}.\n"
+        TABLE.write_text(head + text, encoding="utf-8")
+    faults = find_faults(found, read_rows(TABLE.read_text(encoding="utf-8")))
+    for line in faults[:MOST_ROWS]:
+        print(f"bound: FAULT: {line}")
+    for of, figures in found.items():
+        if of.startswith("all "):
+            print("bound: at {1}, {2} blocked: {0} of the bound".format(figures, *of.split()[1:]))
+    print(f"bound: {len(found)} rows compared with those of {TABLE.name}, {len(faults)} faults")
+    return 1 if faults else 0
+
+
+if __name__ == "__main__":
+    sys.exit(main(sys.argv[1:]))
