@@ -9,7 +9,6 @@
 #include "../c/tests/common.h"
 #include "play.h"
 #include "encoder.h"
-#include "traffic.h"
 
 /* ---- What comes in later lists */
 
@@ -340,39 +339,17 @@ static void print_setting(const char *name, direction d, const future *f, size_t
   means[ncorpora][number / DELAYS].count++;
 }
 
-/* Prints the settings of what goes in one direction, if anything does. */
-static void print_direction(const char *name, int responses) {
-  direction d = lists_of(responses);
+/* Prints the settings of the lists of one direction. */
+static void print_settings(const char *name, direction d) {
   corpus c = make_corpus(d);
   future f = {&c, find_occurrences(&c, field_number, c.numbers), find_occurrences(&c, name_number, c.name_numbers)};
   CHECK(ncorpora < MOST_CORPORA && strlen(name) < sizeof *names);
-  for (size_t n = 0; d.count && n < SETTINGS; n++) print_setting(name, d, &f, n);
-  if (d.count) strcpy(names[ncorpora++], name);
+  strcpy(names[ncorpora], name);
+  for (size_t n = 0; n < SETTINGS; n++) print_setting(name, d, &f, n);
+  ncorpora++;
   free_occurrences(&f.fields);
   free_occurrences(&f.names);
   free_corpus(&c);
-  free(d.all);
-}
-
-/* Prints both directions of a corpus that is read, and forgets it. */
-static void print_corpus(const char *name) {
-  char responses[64];
-  direction d = lists_of(0);
-  int is_mixed = d.count && d.count < nlists;
-  free(d.all);
-  CHECK(snprintf(responses, sizeof responses, "%s%s", name, is_mixed ? " responses" : "") < (int)sizeof responses);
-  print_direction(name, 0);
-  print_direction(responses, 1);
-  free_lists();
-}
-
-static void print_file(const char *path) {
-  char name[64];
-  const char *slash = strrchr(path, '/');
-  CHECK(snprintf(name, sizeof name, "%s", slash ? slash + 1 : path) < (int)sizeof name);
-  name[strcspn(name, ".")] = 0;
-  read_corpus(path, 0);
-  print_corpus(name);
 }
 
 static void print_mean(const char *name, size_t at, mean m) {
@@ -397,12 +374,7 @@ static void print_means(void) {
 int main(int argc, char **argv) {
   CHECK(argc >= 2);
   printf("corpus\tcapacity\tblocked\tlate\tbytes\tbound\tratio\n");
-  for (size_t k = 0; k < TRAFFICS; k++) {
-    if (!traffics[k].make) continue;
-    add_traffic(&traffics[k], "");
-    print_corpus(traffics[k].name);
-  }
-  for (int i = 1; i < argc; i++) print_file(argv[i]);
+  visit_corpora(argv + 1, (size_t)argc - 1, print_settings);
   print_means();
   return 0;
 }

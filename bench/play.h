@@ -1,7 +1,9 @@
-/* Plays lists of fields to an encoder, whose peer answers some lists late, and says in which settings. Include it after
- * common.h or peer.h. */
+/* Plays lists of fields to an encoder, whose peer answers some lists late, and says in which settings, and which lists.
+ * Include it after common.h or peer.h. */
 #ifndef PLAY_H
 #define PLAY_H
+
+#include "traffic.h"
 
 #define MOST_LATE 32
 
@@ -70,6 +72,46 @@ static inline size_t play_lists(const player *p, void *ends, direction d, size_t
     if (i >= late) p->hear(ends, &answers[(i + 1) % (late + 1)]);
   }
   return bytes;
+}
+
+/* ---- The corpora */
+
+/* What is done with the lists of one direction, which have a name. */
+typedef void visit_lists(const char *name, direction d);
+
+static inline void visit_direction(const char *name, int responses, visit_lists *visit) {
+  direction d = lists_of(responses);
+  if (d.count) visit(name, d);
+  free(d.all);
+}
+
+/* Visits the requests and the responses among the lists, and forgets them. */
+static inline void visit_both(const char *name, visit_lists *visit) {
+  char second[64];
+  CHECK(snprintf(second, sizeof second, "%s responses", name) < (int)sizeof second);
+  direction d = lists_of(1);
+  size_t count = d.count;
+  free(d.all);
+  visit_direction(name, 0, visit);
+  visit_direction(count < nlists ? second : name, 1, visit);
+  free_lists();
+}
+
+/* Visits what traffic.h makes, and then these corpora, which are named after their files. */
+static inline void visit_corpora(char **paths, size_t count, visit_lists *visit) {
+  for (size_t i = 0; i < TRAFFICS; i++) {
+    if (!traffics[i].make) continue;
+    add_traffic(&traffics[i], "");
+    visit_both(traffics[i].name, visit);
+  }
+  for (size_t i = 0; i < count; i++) {
+    char name[64];
+    const char *slash = strrchr(paths[i], '/');
+    CHECK(snprintf(name, sizeof name, "%s", slash ? slash + 1 : paths[i]) < (int)sizeof name);
+    name[strcspn(name, ".")] = 0;
+    read_corpus(paths[i], 0);
+    visit_both(name, visit);
+  }
 }
 
 #endif
