@@ -72,11 +72,11 @@ static int comes_twice(const occurrences *o, size_t number, size_t from, size_t 
 /* An entry so far before the base takes two bytes to reference, or more. */
 #define FAR 63
 
-/* A far entry is inserted again if that many lists referenced it, and the last of them is no further back than RECENT. */
+/* A far entry is inserted again if at least this many lists referenced it, and the last of them is at most so far back. */
 #define OFTEN 2
 #define RECENT 8
 
-/* After an insertion found no room, draining entries are not referenced for that many lists. */
+/* After an insertion found no room, draining entries are not referenced for this many lists. */
 #define LISTS_WITHOUT_ROOM 16
 
 /* What an encoder knows, and does. */

@@ -152,9 +152,13 @@ run ../bench/counts.py "$room/usr/lib/libh3_qpack.a"
 cat "$room/told"
 run ../bench/bound.py "$room/usr/lib/libh3_qpack.a"
 tail -n 1 "$room/told"
-choose_more bound
-compile bound.sanitized ../bench/bound.c -O1 -g -fsanitize=address,undefined -fno-sanitize-recover
-run "$room/bound.sanitized" "$corpus"
+choose_more model
+compile model ../bench/model.c -O2
+run "$room/model" ../crates/qpack_tests/data/*.qif "$room"/corpora/*.qif
+for program in bound model; do
+    compile "$program.sanitized" "../bench/$program.c" -O1 -g -fsanitize=address,undefined -fno-sanitize-recover
+    run "$room/$program.sanitized" "$corpus"
+done
 if [ -z "$peer" ]; then
     echo "c/check.sh: $passed runs passed over $library, $with$left_out"
     exit
