@@ -1,14 +1,15 @@
-/* bound CORPUS..: the bytes of sections and of the encoder stream that this library writes, beside the least that ten
+/* bound [--rule] CORPUS..: the bytes of sections and of the encoder stream that this library writes, beside the least that ten
  * encoders write that know which fields come in the next lists, 10 to 2,500 of them. Such an encoder can't be had, and a
- * better rule than its own may write less. All settings of play.h are played, of two corpora that traffic.h makes, and of the
- * requests and the responses of each other corpus. This library's decoder decodes each section, of all encoders, and answers
- * them.
+ * better rule than its own may write less. With --rule a model by rule.h takes the place of the library. All settings of
+ * play.h are played, of two corpora that traffic.h makes, and of the requests and the responses of each other corpus. This
+ * library's decoder decodes each section, of all encoders, and answers them.
  *
  * Prints a line for each setting; then, behind an empty line, the mean of the ratios for each corpus, capacity and limit of
  * blocked streams, and for all corpora. The columns are parted by TABs. */
 #include "../c/tests/common.h"
 #include "play.h"
 #include "encoder.h"
+#include "rule.h"
 
 /* ---- What comes in later lists */
 
@@ -77,7 +78,7 @@ static int comes_twice(const occurrences *o, size_t number, size_t from, size_t 
 #define RECENT 8
 
 /* After an insertion found no room, draining entries are not referenced for this many lists. */
-#define LISTS_WITHOUT_ROOM 16
+#define TIGHT_LISTS 16
 
 /* What an encoder knows, and does. */
 typedef struct {
@@ -148,7 +149,7 @@ static void begin_foreseen(void *state, const encoder *e) {
 }
 
 /* Returns the newest equal entry that may be referenced, or the one that it is a copy of; or 0. */
-static size_t entry_to_reference(const seer *s, const encoder *e, const field *f) {
+static size_t foreseen_entry(const seer *s, const encoder *e, const field *f) {
   size_t newest = newest_equal(e, f), original = s->originals[f->number];
   if (!newest || may_reference(e, newest)) return newest;
   return is_equal(e, original, f) && may_reference(e, original) ? original : 0;
@@ -189,15 +190,15 @@ static choice copy_for_later(seer *s, const encoder *e, const field *f, size_t e
   return c;
 }
 
-static choice choose_at_limit(seer *s, const encoder *e, const field *f, size_t entry) {
+static choice choose_at_limit_foreseen(seer *s, const encoder *e, const field *f, size_t entry) {
   if (entry < newest_equal(e, f)) return refer_to(s, e, entry, 0);
   if (entry <= s->draining) return copy_for_later(s, e, f, entry);
   if (is_to_come_near(s, e, f, entry) && spares_others(s, e, f)) return copy_for_later(s, e, f, entry);
   return refer_to(s, e, entry, 0);
 }
 
-static choice choose_equal(seer *s, const encoder *e, const field *f, size_t entry) {
-  if (!e->may_block) return choose_at_limit(s, e, f, entry);
+static choice choose_equal_foreseen(seer *s, const encoder *e, const field *f, size_t entry) {
+  if (!e->may_block) return choose_at_limit_foreseen(s, e, f, entry);
   if (is_to_come_near(s, e, f, entry)) {
     return spares_others(s, e, f) && has_room(e, f) ? insert_now(s, e) : refer_to(s, e, entry, 0);
   }
@@ -206,7 +207,7 @@ static choice choose_equal(seer *s, const encoder *e, const field *f, size_t ent
   return s->is_tight ? (choice){.form = ALONE} : refer_to(s, e, entry, 0);
 }
 
-static choice choose_literal(seer *s, const encoder *e, const field *f, int inserts) {
+static choice choose_literal_foreseen(seer *s, const encoder *e, const field *f, int inserts) {
   size_t named = f->static_name < 0 ? newest_named(e, f) : 0;
   if (!named || !may_reference(e, named) || (s->is_tight && named <= s->draining)) return (choice){ALONE, 0, inserts};
   s->uses[named]++;
@@ -215,7 +216,7 @@ static choice choose_literal(seer *s, const encoder *e, const field *f, int inse
 }
 
 /* Whether a field that fits the table comes again, or its name, which no table has, or only a draining entry. */
-static int is_wanted(const seer *s, const encoder *e, const field *f) {
+static int is_wanted_foreseen(const seer *s, const encoder *e, const field *f) {
   if (f->size > e->capacity) return 0;
   if (is_worth(s, e, &s->sees->fields, f->number)) return 1;
   return f->static_name < 0 && newest_named(e, f) <= s->draining && is_worth(s, e, &s->sees->names, f->name_number);
@@ -223,17 +224,17 @@ static int is_wanted(const seer *s, const encoder *e, const field *f) {
 
 static choice choose_foreseen(void *state, const encoder *e, const field *f) {
   seer *s = state;
-  size_t entry = entry_to_reference(s, e, f);
-  if (entry) return choose_equal(s, e, f, entry);
-  int inserts = !newest_equal(e, f) && is_wanted(s, e, f);
+  size_t entry = foreseen_entry(s, e, f);
+  if (entry) return choose_equal_foreseen(s, e, f, entry);
+  int inserts = !newest_equal(e, f) && is_wanted_foreseen(s, e, f);
   if (!inserts || !e->may_block) {
     s->uses[e->inserted + 1] = 0;
     s->used_at[e->inserted + 1] = e->nsections;
-    return choose_literal(s, e, f, inserts);
+    return choose_literal_foreseen(s, e, f, inserts);
   }
   if (has_room(e, f)) return insert_now(s, e);
-  s->tight_until = e->nsections + LISTS_WITHOUT_ROOM + 1;
-  return choose_literal(s, e, f, 0);
+  s->tight_until = e->nsections + TIGHT_LISTS + 1;
+  return choose_literal_foreseen(s, e, f, 0);
 }
 
 /* ---- Both, and their decoders */
@@ -282,15 +283,21 @@ static void hear_by_ours(void *ends, const answer *answer) {
   hear(&((our_ends *)ends)->encoder, answer->bytes, answer->len);
 }
 
-/* Returns the bytes of an encoder that knows so much. */
-static size_t play_foreseen(direction d, const future *f, const knowledge *k, setting s) {
+/* Returns the bytes of a model. */
+static size_t play_model(direction d, const corpus *c, setting s, chooser by, int names_evicted) {
   static const player by_model = {exchange_model, hear_by_model};
-  seer seer = open_seer(k, f, s.late);
-  model_ends m = {.model = open_model(f->from, s, 1), .by = {&seer, begin_foreseen, choose_foreseen}};
+  model_ends m = {.model = open_model(c, s, names_evicted), .by = by};
   CHECK(!new_decoder(&m.decoder, s.capacity, s.blocked, 1 << 20));
   size_t bytes = play_lists(&by_model, &m, d, s.late);
   h3_qpack_decoder_del(&m.decoder);
   close_model(m.model);
+  return bytes;
+}
+
+/* Returns the bytes of an encoder that knows so much. */
+static size_t play_foreseen(direction d, const future *f, const knowledge *k, setting s) {
+  seer seer = open_seer(k, f, s.late);
+  size_t bytes = play_model(d, f->from, s, (chooser){&seer, begin_foreseen, choose_foreseen}, 1);
   close_seer(&seer);
   return bytes;
 }
@@ -316,6 +323,13 @@ static size_t play_ours(direction d, setting s) {
   return bytes;
 }
 
+/* Returns the bytes of a model by the rule. */
+static size_t play_rule(direction d, const corpus *c, setting s) {
+  static rule r;
+  begin_rule(&r, s.capacity);
+  return play_model(d, c, s, (chooser){&r, begin_list, choose_by_rule}, NAMES_EVICTED);
+}
+
 /* ---- The table */
 
 /* The sum of the ratios of a capacity and a limit, and how many there are. */
@@ -330,9 +344,12 @@ static mean means[MOST_CORPORA][CAPACITIES * LIMITS];
 static char names[MOST_CORPORA][64];
 static size_t ncorpora;
 
+/* Whether the model by the rule takes the place of the library. */
+static int is_by_rule;
+
 static void print_setting(const char *name, direction d, const future *f, size_t number) {
   setting s = setting_at(number);
-  size_t bytes = play_ours(d, s), least = least_foreseen(d, f, s);
+  size_t bytes = is_by_rule ? play_rule(d, f->from, s) : play_ours(d, s), least = least_foreseen(d, f, s);
   double ratio = (double)bytes / (double)least;
   printf("%s\t%zu\t%zu\t%zu\t%zu\t%zu\t%.3f\n", name, s.capacity, s.blocked, s.late, bytes, least, ratio);
   means[ncorpora][number / DELAYS].sum += ratio;
@@ -372,9 +389,9 @@ static void print_means(void) {
 }
 
 int main(int argc, char **argv) {
-  CHECK(argc >= 2);
+  is_by_rule = argc > 1 && !strcmp(argv[1], "--rule");
   printf("corpus\tcapacity\tblocked\tlate\tbytes\tbound\tratio\n");
-  visit_corpora(argv + 1, (size_t)argc - 1, print_settings);
+  visit_corpora(argv + 1 + is_by_rule, (size_t)(argc - 1 - is_by_rule), print_settings);
   print_means();
   return 0;
 }

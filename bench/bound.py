@@ -3,10 +3,14 @@
 
     bench/bound.py [ARCHIVE]     compares over an archive of the library, or over that of dist/
     bench/bound.py --record      plays over dist/, and writes bench/bytes-against-bound.tsv
+    bench/bound.py --rule        says what the rule of bench/rule.h would write, beside what is recorded
 
 bench/bound.c plays the recorded corpora, those of traffic.h and those of corpora.py, and prints a table, which is the same on
 every machine. A row that is not as it was recorded is a fault: after a change of the rule, record the table again. The last
 lines have the mean of bytes over the bound for each capacity. The exit status is 1 if there is a fault.
+
+To try another rule, write it in rule.h, where bench/model.c holds the one of the library. Lines say, for each capacity and
+limit of blocked streams, the mean of bytes over the bound, the mean over the recorded bytes, and the worst setting by these.
 """
 import datetime
 import os
@@ -40,14 +44,14 @@ def make_archive(room):
     return room / "made" / "libh3_qpack.a"
 
 
-def play(archive, room):
-    """Returns the table that bound.c prints over an archive."""
+def play(archive, room, *options):
+    """Returns the table that bound.c prints over an archive, with these options."""
     program = room / "bound"
     words = ["-std=c11", "-D_GNU_SOURCE", "-Wall", "-Wextra", "-Werror", "-O2", f"-I{TOP / 'dist'}"]
     run(os.environ.get("CC", "cc"), *words, BENCH / "bound.c", archive, "-o", program)
     made = room / "corpora"
     made.mkdir()
-    return run(program, *RECORDED, *corpora.write_corpora(made))
+    return run(program, *options, *RECORDED, *corpora.write_corpora(made))
 
 
 def read_rows(text):
@@ -55,7 +59,7 @@ def read_rows(text):
     rows = {}
     for line in text.splitlines():
         columns = line.split("\t")
-        if line and not line.startswith("#") and columns[0] != "corpus":
+        if len(columns) > 1 and columns[1] != "capacity":
             many = 4 if len(columns) == 7 else 3
             rows[" ".join(columns[:many])] = " ".join(columns[many:])
     return rows
@@ -71,14 +75,43 @@ def find_faults(found, recorded):
     ]
 
 
+def read_settings(rows):
+    """Yields the corpus, the capacity, the limit and the delay of each setting in these rows, its bytes, and the bound."""
+    for of, figures in rows.items():
+        if len(figures.split()) == 3:
+            yield of.rsplit(" ", 3), *map(int, figures.split()[:2])
+
+
+def compare_rules(found, recorded):
+    """Returns a line for each capacity and limit: what a rule writes beside the bound, and beside what is recorded."""
+    before = {tuple(of): count for of, count, _ in read_settings(recorded)}
+    groups = {}
+    for of, count, bound in read_settings(found):
+        ratio = count / before[tuple(of)]
+        groups.setdefault((of[1], of[2]), []).append((ratio, count / bound, f"{of[0]}, {of[3]} late"))
+    lines = []
+    for (capacity, limit), settings in groups.items():
+        over, of_bound = (sum(it[column] for it in settings) / len(settings) for column in (0, 1))
+        worst, _, where = max(settings)
+        means = f"{of_bound:.3f} of the bound, {over:.3f} of the recorded bytes"
+        lines.append(f"at {capacity}, {limit} blocked: {means}, at most {worst:.3f} ({where})")
+    return lines
+
+
 def main(words):
     if len(words) > 1 or words[:1] in (["-h"], ["--help"]):
         sys.exit(__doc__)
-    is_recorded = words == ["--record"]
+    is_recorded, is_tried = words == ["--record"], words == ["--rule"]
     with tempfile.TemporaryDirectory(prefix="h3-qpack-bound-") as name:
         room = Path(name)
-        text = play(make_archive(room) if is_recorded or not words else Path(words[0]).resolve(), room)
+        is_of_dist = is_recorded or is_tried or not words
+        archive = make_archive(room) if is_of_dist else Path(words[0]).resolve()
+        text = play(archive, room, *(["--rule"] if is_tried else []))
     found = read_rows(text)
+    if is_tried:
+        for line in compare_rules(found, read_rows(TABLE.read_text(encoding="utf-8"))):
+            print(f"bound: {line}")
+        return 0
     if is_recorded:
         head = f"# Written by bench/bound.py --record on {datetime.date.today()}.\n"
         TABLE.write_text(head + text, encoding="utf-8")
