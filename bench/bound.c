@@ -70,10 +70,10 @@ static int comes_twice(const occurrences *o, size_t number, size_t from, size_t 
 
 /* ---- The encoders that know it */
 
-/* An entry so far before the base takes two bytes to reference, or more. */
+/* A reference to an entry at least this far before the base takes two bytes or more. */
 #define FAR 63
 
-/* A far entry is inserted again if at least this many lists referenced it, and the last of them is at most so far back. */
+/* A far entry is inserted again if at least this many lists referenced it, and the last of them at most so far back. */
 #define OFTEN 2
 #define RECENT 8
 
