@@ -24,7 +24,8 @@ import corpora  # pylint: disable=wrong-import-position # bench/corpora.py
 
 BENCH = Path(__file__).resolve().parent
 TOP = BENCH.parent
-RECORDED = sorted((TOP / "crates" / "qpack_tests" / "data").glob("*.qif"))
+# The corpora; not the lists that browsers answered, heard_*.qif, which are like to_*.qif.
+RECORDED = sorted((TOP / "crates" / "qpack_tests" / "data").glob("[!h]*.qif"))
 TABLE = BENCH / "bytes-against-bound.tsv"
 # The most rows that are printed of those that differ.
 MOST_ROWS = 20

@@ -7,23 +7,64 @@
 /* Whether a duplicate may name the entry that its insertion evicts. */
 #define NAMES_EVICTED 0
 
-/* After an insertion found no room, draining entries are not referenced for this many lists. */
-#define LISTS_WITHOUT_ROOM 16
+/* After an insertion found no room, the table is tight for this many lists. */
+#define LISTS_WITHOUT_ROOM 32
 
 /* How many copies are remembered. */
 #define MOST_COPIES 16
 
-/* The history: the tags of a set, the bytes of capacity for each tag, and the least and the greatest number of sets. */
-#define WAYS 4
-#define BYTES_A_TAG 128
-#define LEAST_SETS 4
-#define MOST_SETS 64
+/* A reference with a relative index of this or more takes a second byte; and the part of the capacity that a field may take
+ * which is inserted again for that. */
+#define FAR 63
+#define PART_OF_A_FAR_COPY 64
 
-/* The most fields that may be inserted for their names, how many more the first reference to one allows, and how many are
- * watched for it. */
-#define MOST_FOR_NAMES 4
-#define GAIN 2
-#define WATCHED 8
+/* The part of the capacity that drains, and that of the oldest entries. In a table of less than LARGE bytes what was
+ * referenced lately stays, no entry is let go, and room alone is no reason to insert. */
+#define PART_THAT_DRAINS 4
+#define PART_OF_THE_OLDEST 16
+#define LARGE 2048
+
+/* The history: the tags of a set, the bytes of capacity for each of the first FEW_SETS sets and for each of more, and the
+ * greatest number of sets. */
+#define WAYS 4
+#define BYTES_A_FIRST_SET 128
+#define BYTES_A_SET 512
+#define FEW_SETS 4
+#define MOST_SETS 32
+
+/* The scores of names: how many there are, what each is at first, what a value that comes again adds, and the part that a new
+ * value takes. Values of LONG bytes and more have another score than shorter ones. From LIKELY on a field is inserted at first
+ * sight; below UNLIKELY it is not, even where there is room, and at the limit not even if it comes again, but for one of
+ * TURNS. */
+#define SCORES 256
+#define MIDDLE 128
+#define SCORE_GAIN 48
+#define SCORE_LOSS 8
+#define LONG 128
+#define LIKELY 144
+#define UNLIKELY 64
+#define TURNS 8
+
+/* The marks of entries: how many there are, that of the first list, how many lists they tell apart, and how many lists old
+ * one is at most that was referenced lately. */
+#define MARKS 256
+#define FIRST_LIST 3
+#define LISTS 253
+#define LATELY 2
+
+/* The most fields that may be inserted for their names, and how many more the first reference to one allows. */
+#define MOST_FOR_NAMES 2
+#define GAIN 1
+
+/* How many bytes may be inserted without a reference at first, and at most. */
+#define FIRST_BYTES 1024
+#define MOST_BYTES 16384
+
+/* When an entry was referenced last; if never, why it was inserted. */
+typedef enum { NONE, NONE_FOR_NAME, NONE_SINCE, RECENT, EARLIER } last_use;
+
+/* Why a field is inserted. */
+typedef enum { NOT, ASKED, AGAIN, AT_FIRST_SIGHT, FOR_NAME } reason;
 
 /* Absolute indexes; 0 is none. */
 typedef struct {
@@ -40,15 +81,26 @@ typedef struct {
   /* Tags of the fields that were seen lately, in sets, of each the latest first; 0 is none. */
   uint16_t tags[MOST_SETS][WAYS];
   size_t sets;
-  /* How many fields may be inserted for their names, and the latest that were, while nothing referenced them. */
-  size_t names_left;
-  size_t watched[WATCHED];
+  uint8_t scores[SCORES], marks[MARKS], list, turns;
+  /* How many fields may be inserted for their names, and how many bytes without a reference. */
+  size_t names_left, bytes_left;
 } rule;
 
+static inline size_t least_of(size_t a, size_t b) {
+  return a < b ? a : b;
+}
+
+/* Returns how many sets the history has. */
+static inline size_t count_sets(size_t capacity) {
+  size_t few = least_of(capacity / BYTES_A_FIRST_SET, FEW_SETS), sets = least_of(capacity / BYTES_A_SET, MOST_SETS);
+  if (sets < few) sets = few;
+  return sets ? sets : 1;
+}
+
 static inline void begin_rule(rule *r, size_t capacity) {
-  size_t sets = capacity / (BYTES_A_TAG * WAYS);
-  *r = (rule){.lists_since = SIZE_MAX / 2, .names_left = MOST_FOR_NAMES};
-  r->sets = sets < LEAST_SETS ? LEAST_SETS : sets > MOST_SETS ? MOST_SETS : sets;
+  *r = (rule){.lists_since = SIZE_MAX / 2, .names_left = MOST_FOR_NAMES, .bytes_left = FIRST_BYTES};
+  memset(r->scores, MIDDLE, sizeof r->scores);
+  r->sets = count_sets(capacity);
 }
 
 static inline int drains(const rule *r, size_t absolute) {
@@ -59,37 +111,64 @@ static inline int is_tight(const rule *r) {
   return r->lists_since <= LISTS_WITHOUT_ROOM;
 }
 
-/* Moves on what drains, until three quarters of the capacity hold the entries after it. */
+/* Returns the sizes of the entries after those that drain. */
+static inline size_t size_of_rest(const rule *r, const encoder *e) {
+  size_t rest = 0, first = r->draining > e->dropped ? r->draining : e->dropped;
+  for (size_t i = first + 1; i <= e->inserted; i++) rest += e->entries[i].f->size;
+  return rest;
+}
+
+/* Moves on what drains. */
 static inline void begin_list(void *state, const encoder *e) {
   rule *r = state;
   r->lists_since++;
+  r->list = (uint8_t)((r->list + 1) % LISTS);
   if (r->draining < e->dropped) r->draining = e->dropped;
-  size_t rest = 0;
-  for (size_t i = r->draining + 1; i <= e->inserted; i++) rest += e->entries[i].f->size;
-  while (rest > e->capacity - e->capacity / 4) rest -= e->entries[++r->draining].f->size;
+  size_t rest = size_of_rest(r, e);
+  while (rest > e->capacity - e->capacity / PART_THAT_DRAINS) rest -= e->entries[++r->draining].f->size;
 }
 
-/* Notes the first reference to an entry that was inserted for its name. */
-static inline void note_reference(rule *r, size_t absolute) {
-  for (int i = 0; i < WATCHED; i++) {
-    if (r->watched[i] != absolute) continue;
-    r->watched[i] = 0;
-    r->names_left = r->names_left + GAIN < MOST_FOR_NAMES ? r->names_left + GAIN : MOST_FOR_NAMES;
-  }
+/* Whether live entries before this one take less than a part of the capacity. */
+static inline int is_of_the_oldest(const encoder *e, size_t absolute) {
+  size_t before = 0;
+  for (size_t i = e->dropped + 1; i < absolute; i++) before += e->entries[i].f->size;
+  return before < e->capacity / PART_OF_THE_OLDEST || absolute == e->dropped + 1;
+}
+
+static inline int is_let_go(const rule *r, const encoder *e, size_t absolute) {
+  return e->capacity >= LARGE && is_tight(r) && drains(r, absolute) && is_of_the_oldest(e, absolute);
+}
+
+/* ---- Marks */
+
+static inline last_use used_last(const rule *r, size_t absolute) {
+  int mark = r->marks[absolute % MARKS];
+  if (mark < FIRST_LIST) return (last_use)mark;
+  return (r->list + LISTS - (mark - FIRST_LIST)) % LISTS <= LATELY ? RECENT : EARLIER;
+}
+
+static inline void mark_used(rule *r, size_t absolute) {
+  r->marks[absolute % MARKS] = (uint8_t)(r->list + FIRST_LIST);
+}
+
+static inline void mark_unused(rule *r, size_t absolute, last_use why) {
+  r->marks[absolute % MARKS] = (uint8_t)why;
 }
 
 /* Notes that the next entry is a copy of this one. */
 static inline void note_copy(rule *r, const encoder *e, size_t original) {
   memmove(r->copies + 1, r->copies, sizeof r->copies - sizeof *r->copies);
   r->copies[0] = (pair){e->inserted + 1, original};
+  mark_used(r, e->inserted + 1);
 }
 
-/* Notes that the next entry is inserted for its name. */
-static inline void spend_name(rule *r, const encoder *e) {
-  memmove(r->watched + 1, r->watched, sizeof r->watched - sizeof *r->watched);
-  r->watched[0] = e->inserted + 1;
-  r->names_left--;
+/* Whether one more copy would push out one that the decoder is not known to have received. */
+static inline int has_too_many_copies(const rule *r, const encoder *e) {
+  size_t oldest = r->copies[MOST_COPIES - 1].copy;
+  return oldest > e->dropped && !may_reference(e, oldest);
 }
+
+/* ---- Hashes */
 
 static inline uint64_t fold_product(uint64_t a, uint64_t b) {
   unsigned __int128 product = (unsigned __int128)a * b;
@@ -115,21 +194,70 @@ static inline uint64_t hash_bytes(uint64_t hash, const uint8_t *at, size_t len) 
   return fold_product(hash ^ few, factor);
 }
 
-/* Returns the hash of a field, as tables compute it under the seed 0 (crates/qpack_table/src/dynamic/index/hash.rt). */
-static inline uint32_t hash_field(const field *f) {
+/* The hashes of a field and of its name, as tables compute them under the seed 0
+ * (crates/qpack_table/src/dynamic/index/hash.rt). */
+typedef struct {
+  uint32_t name, field;
+} hashes;
+
+static inline hashes hash_field(const field *f) {
   uint64_t name = hash_bytes(0xA0761D6478BD642Fu, f->nv->name, f->nv->namelen);
-  return (uint32_t)(hash_bytes(name, f->nv->value, f->nv->valuelen) >> 32);
+  return (hashes){(uint32_t)(name >> 32), (uint32_t)(hash_bytes(name, f->nv->value, f->nv->valuelen) >> 32)};
 }
 
 /* Returns whether a field was seen lately, and keeps that it was. */
-static inline int see(rule *r, const field *f) {
-  size_t hash = hash_field(f);
+static inline int see(rule *r, uint32_t hash) {
   uint16_t *set = r->tags[hash % r->sets], tag = (uint16_t)((hash / r->sets & 0xffff) | 1);
   for (int i = 0; i < WAYS; i++)
     if (set[i] == tag) return 1;
   memmove(set + 1, set, (WAYS - 1) * sizeof *set);
   set[0] = tag;
   return 0;
+}
+
+/* ---- Scores */
+
+static inline uint8_t *score_of(rule *r, const field *f, hashes h) {
+  size_t of_long = f->nv->valuelen < LONG ? 0 : SCORES / 2;
+  return &r->scores[(h.name >> 24) ^ of_long];
+}
+
+static inline void raise_score(uint8_t *score) {
+  *score = *score > 255 - SCORE_GAIN ? 255 : (uint8_t)(*score + SCORE_GAIN);
+}
+
+static inline void lower_score(uint8_t *score) {
+  *score = (uint8_t)(*score - (*score + SCORE_LOSS - 1) / SCORE_LOSS);
+}
+
+static inline size_t length(const field *f) {
+  return f->size - ENTRY_OVERHEAD;
+}
+
+static inline void gain_name(rule *r) {
+  r->names_left = least_of(r->names_left + GAIN, MOST_FOR_NAMES);
+}
+
+/* Notes that an equal field references an entry, and returns when one did before. */
+static inline last_use note_equal(rule *r, const encoder *e, const field *f, size_t entry) {
+  last_use last = used_last(r, entry);
+  if (!e->may_block) r->bytes_left = least_of(r->bytes_left + length(f), MOST_BYTES);
+  mark_used(r, entry);
+  if (last == NONE_FOR_NAME) gain_name(r);
+  if (last == NONE || last == NONE_FOR_NAME || (last == NONE_SINCE && !e->may_block))
+    raise_score(score_of(r, f, hash_field(f)));
+  return last;
+}
+
+/* Notes that a literal references the name of an entry. */
+static inline void note_name(rule *r, size_t entry) {
+  last_use last = used_last(r, entry);
+  if (last == NONE_FOR_NAME) {
+    gain_name(r);
+    mark_unused(r, entry, NONE);
+  } else if (last >= RECENT) {
+    mark_used(r, entry);
+  }
 }
 
 /* Returns the newest equal entry that may be referenced, or the one that it is a copy of; or 0. */
@@ -143,52 +271,124 @@ static inline size_t entry_to_reference(const rule *r, const encoder *e, const f
   return 0;
 }
 
-/* Chooses for a field that an entry equals which may be referenced. One that drains is inserted again. */
-static inline choice choose_equal(rule *r, const encoder *e, const field *f, size_t entry) {
-  choice refer = {EQUAL, entry, 0};
-  note_reference(r, entry);
-  if (f->nv->flags & H3_QPACK_NV_FLAG_REUSE || entry < newest_equal(e, f) || !drains(r, entry)) return refer;
-  if (!e->may_block) {
-    note_copy(r, e, entry);
-    refer.inserts = 1;
-    return refer;
-  }
-  if (has_room(e, f)) return (choice){.form = INSERTED};
-  return is_tight(r) ? (choice){.form = ALONE} : refer;
+/* Whether an entry that does not drain is inserted again: it is far, small and was referenced lately, and only entries that
+ * drain are evicted for it. */
+static inline int is_worth_a_copy(const rule *r, const encoder *e, const field *f, size_t entry, last_use last) {
+  return e->base >= entry && e->base - entry >= FAR && last == RECENT && f->size <= e->capacity / PART_OF_A_FAR_COPY &&
+         size_of_rest(r, e) + f->size <= e->capacity;
 }
 
-/* Whether at most three quarters of the capacity are used with the field, and the list may be blocked. */
-static inline int leaves_room(const encoder *e, const field *f) {
-  return e->may_block && e->used + f->size <= e->capacity / 4 * 3;
-}
-
-/* Whether a field is inserted for its name alone, which no table has, or only an entry that drains. */
-static inline int takes_name(rule *r, const encoder *e, const field *f) {
-  if (f->static_name >= 0 || !r->names_left || !has_room(e, f) || !drains(r, newest_named(e, f))) return 0;
-  spend_name(r, e);
+/* Whether a field can be inserted. In a small table nothing is evicted for it that was referenced lately. */
+static inline int can_insert(const rule *r, const encoder *e, const field *f) {
+  if (!has_room(e, f)) return 0;
+  if (e->capacity >= LARGE) return 1;
+  size_t last = last_evicted(e, f->size);
+  for (size_t i = e->dropped + 1; i <= last; i++)
+    if (used_last(r, i) == RECENT) return 0;
   return 1;
 }
 
-/* Whether a field that no entry equals is to be inserted. */
-static inline int is_wanted(rule *r, const encoder *e, const field *f) {
-  int is_seen = see(r, f);
-  if (f->nv->flags & H3_QPACK_NV_FLAG_REUSE) return 0;
-  return f->nv->flags & H3_QPACK_NV_FLAG_INSERT || is_seen || leaves_room(e, f) || takes_name(r, e, f);
+/* Chooses for a field that an entry equals which may be referenced. One that drains or is far is inserted again. */
+static inline choice choose_equal(rule *r, const encoder *e, const field *f, size_t entry) {
+  choice refer = {EQUAL, entry, 0};
+  last_use last = note_equal(r, e, f, entry);
+  if (f->nv->flags & H3_QPACK_NV_FLAG_REUSE || entry < newest_equal(e, f)) return refer;
+  if (!drains(r, entry) && !is_worth_a_copy(r, e, f, entry, last)) return refer;
+  if (!e->may_block) {
+    if (can_insert(r, e, f) && !has_too_many_copies(r, e)) {
+      note_copy(r, e, entry);
+      refer.inserts = 1;
+    }
+    return refer;
+  }
+  if (can_insert(r, e, f)) {
+    mark_used(r, e->inserted + 1);
+    return (choice){.form = INSERTED};
+  }
+  return is_let_go(r, e, entry) ? (choice){.form = ALONE} : refer;
+}
+
+/* Whether at most a half of the capacity is used with the field, and the list may be blocked. */
+static inline int leaves_room(const encoder *e, const field *f) {
+  return e->may_block && e->capacity >= LARGE && e->used + f->size <= e->capacity / 2;
+}
+
+/* Whether a field is inserted for its name alone, which no table has, or only an entry that drains. */
+static inline int takes_name(const rule *r, const encoder *e, const field *f) {
+  return f->static_name < 0 && r->names_left && has_room(e, f) && drains(r, newest_named(e, f));
+}
+
+/* Whether a field that came again is inserted, by the score of its name. */
+static inline int is_worth_an_entry(rule *r, const encoder *e, int score) {
+  return e->may_block || score >= UNLIKELY || ++r->turns % TURNS == 0;
+}
+
+/* Whether a field is inserted when it comes for the first time, by the score of its name. */
+static inline int is_likely(const rule *r, const encoder *e, const field *f, int score) {
+  if (score >= LIKELY && !(e->may_block && is_tight(r))) return 1;
+  return score >= UNLIKELY && leaves_room(e, f);
+}
+
+/* Returns why a field that no entry equals is to be inserted, if it is. */
+static inline reason wants(rule *r, const encoder *e, const field *f) {
+  hashes h = hash_field(f);
+  uint8_t *of_name = score_of(r, f, h);
+  int is_again = see(r, h.field), score = *of_name;
+  if (!is_again) {
+    lower_score(of_name);
+  } else if (e->may_block) {
+    raise_score(of_name);
+  }
+  if (f->nv->flags & H3_QPACK_NV_FLAG_REUSE) return NOT;
+  if (f->nv->flags & H3_QPACK_NV_FLAG_INSERT) return ASKED;
+  if (is_again) return is_worth_an_entry(r, e, score) ? AGAIN : NOT;
+  if (is_likely(r, e, f, score)) return AT_FIRST_SIGHT;
+  return takes_name(r, e, f) ? FOR_NAME : NOT;
+}
+
+/* Whether a field is inserted that its line does not reference, which it pays for. */
+static inline int affords(rule *r, const encoder *e, const field *f) {
+  if (!can_insert(r, e, f) || length(f) > r->bytes_left) return 0;
+  r->bytes_left -= length(f);
+  return 1;
+}
+
+/* Notes that the next entry is inserted for a reason. */
+static inline void note_insertion(rule *r, const encoder *e, reason why) {
+  size_t next = e->inserted + 1;
+  if (why == FOR_NAME) {
+    r->names_left--;
+    mark_unused(r, next, NONE_FOR_NAME);
+  } else if (why == AT_FIRST_SIGHT) {
+    mark_unused(r, next, NONE);
+  } else if (why == AGAIN && !e->may_block) {
+    mark_unused(r, next, NONE_SINCE);
+  } else {
+    mark_used(r, next);
+  }
 }
 
 /* Chooses a literal, with the name of an entry if no static field has it. */
 static inline choice choose_literal(rule *r, const encoder *e, const field *f, int inserts) {
   size_t named = f->static_name < 0 ? newest_named(e, f) : 0;
-  if (!named || !may_reference(e, named) || (is_tight(r) && drains(r, named))) return (choice){ALONE, 0, inserts};
-  note_reference(r, named);
+  if (!named || !may_reference(e, named) || is_let_go(r, e, named)) return (choice){ALONE, 0, inserts};
+  note_name(r, named);
   return (choice){NAMED, 0, inserts};
 }
 
 static inline choice choose_new(rule *r, const encoder *e, const field *f) {
-  int wanted = is_wanted(r, e, f);
-  if (!e->may_block) return choose_literal(r, e, f, wanted);
-  if (wanted && has_room(e, f)) return (choice){.form = INSERTED};
-  if (wanted) r->lists_since = 0;
+  reason why = wants(r, e, f);
+  if (why == NOT) return choose_literal(r, e, f, 0);
+  if (!e->may_block) {
+    int inserts = why == ASKED || affords(r, e, f);
+    if (inserts) note_insertion(r, e, why);
+    return choose_literal(r, e, f, inserts);
+  }
+  if (why == ASKED ? has_room(e, f) : can_insert(r, e, f)) {
+    note_insertion(r, e, why);
+    return (choice){.form = INSERTED};
+  }
+  r->lists_since = 0;
   return choose_literal(r, e, f, 0);
 }
 

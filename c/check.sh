@@ -176,6 +176,8 @@ run "$room/bench" "$corpus" 3
 run "$room/bench" "$corpus" 3 4096 10
 compile bytes ../bench/bytes.c -O2
 run "$room/bytes" "$corpus"
+compile cells ../bench/cells.c -O2
+run "$room/cells" "$corpus"
 compile huffman ../bench/huffman.c -O2
 run "$room/huffman" "$corpus" 3
 echo "c/check.sh: $passed runs passed over $library, $with$left_out"

@@ -66,7 +66,7 @@ MOST = {"README.md": (130, 1000)}
 # The most words, with code and signs, of all documents that no script writes.
 MOST_OF_ALL = 24_000
 # Documents that a script writes.
-GENERATED = [f"docs/{it}.md" for it in ("API", "CALLS", "CAUSES", "DEFINITIONS", "QPK-REFERENCE")]
+GENERATED = [f"docs/{it}.md" for it in ("API", "CALLS", "CAUSES", "DEFINITIONS", "QPK-REFERENCE", "RULE")]
 # Fronts of the names of files whose comments still have forbidden words. They are not read until they are rewritten.
 UNREAD = ("crates/qpack_base/src/prefix_string/", "crates/qpack_base/specs/Payloads.antt")
 # Between two words of a phrase: blanks, or the end of a line.

@@ -1,5 +1,33 @@
 //! What the encoding end chooses for each field of a section: what it inserts, what it references, and what it lets go
 //! (RFC 9204, sections 2.1 and 2.1.1.1).
+//!
+//! Any choice is safe: one that the table does not permit becomes a line without it. No choice depends on the seed, or on
+//! memory that is refused. A field that a static field equals is written as that. *At the limit* no more streams may be
+//! blocked, so a line references only what is known to be received. A table of 2,048 bytes or more is *large*.
+//!
+//! **A field that an entry equals:**
+//!
+//! 1. The newest equal entry is referenced if it may be. Else the one that it is a copy of, if that is remembered. Else the
+//!    field is a literal.
+//! 2. An entry that drains is inserted again if there is room, and the line references the new entry. So is one that is
+//!    far, small and was referenced lately, if only entries that drain are evicted for it.
+//! 3. At the limit the line references the old entry, and the new one is a copy.
+//! 4. Without room, in a large table that is tight, a draining entry of the oldest is let go: the field is a literal.
+//!
+//! **A field that no entry equals** is inserted
+//!
+//! 1. if the history has it, and at the limit the score of its name is not low; one in eight where it is low;
+//! 2. or if the score is high, and below the limit the table is not tight;
+//! 3. or if the score is not low, the limit is not reached, and at most half of a large table is used with it;
+//! 4. or for its name, within the credit, if no static field has it and no entry that stays.
+//!
+//! In a small table no insertion evicts what was referenced lately. Where there is no room below the limit, the table is
+//! *tight* from then on, for this section and 32 more. At the limit the new entry is not referenced, and the insertion is
+//! paid from the allowance.
+//!
+//! **A literal** has the name of the newest entry with it, if no static field has it and the entry is not let go.
+//!
+//! **A wish goes first.** `Insert` inserts a field that no entry equals, `Reuse` and `Never` insert nothing.
 
 ghost use Rattle.std.specs.Prelude.{◌≡◌, false, true, None, Some};
 ghost use Rattle.qpack_base.specs.HeaderFields.{line_of};
@@ -9,14 +37,53 @@ ghost use Rattle.qpack_codec.specs.Choices.{inserts_after};
 ghost use Rattle.qpack_codec.specs.declared.encoder.choices.Choice.TheVariants.{Equal, Inserted};
 ghost use Rattle.qpack_codec.specs.declared.encoder.choices.Wish.TheVariants.{Insert as Asked, Reuse as Reused};
 ghost use Rattle.qpack_ends.specs.Wishes.{KeepsWish, by_wish};
+ghost use Rattle.qpack_ends.specs.declared.choosing.Reason.TheVariants.{Wish as Wished};
 
+use crate::choosing::copies::Copies;
+use crate::choosing::credit::{Allowance, NameCredit};
+use crate::choosing::draining::{Draining, is_of_the_oldest};
+use crate::choosing::history::History;
+use crate::choosing::marks::{LastUse, Marks};
+use crate::choosing::scores::{LIKELY, Scores, UNLIKELY, Values};
 use qpack_base::field::FieldLine;
 use qpack_base::stored_field::PackedField;
 use qpack_codec::encoder::{Choice, Chooses, Wish};
 use qpack_table::dynamic::{DynamicTableEncoder, Index, SoughtField};
 
-/// After an insertion found no room, draining entries are not referenced for this many sections.
-const SECTIONS_WITHOUT_ROOM: u8 = 16;
+mod copies;
+mod credit;
+mod draining;
+mod history;
+mod marks;
+mod scores;
+
+/// After an insertion found no room, the table is tight for this many sections.
+const SECTIONS_WITHOUT_ROOM: u8 = 32;
+
+/// A reference with a relative index of this or more takes a second byte.
+const FAR: usize = 63;
+
+/// The largest part of the capacity that a field may take which is inserted again because it is far.
+const PART_OF_A_FAR_COPY: usize = 64;
+
+/// From this capacity on a table is large: room alone is a reason to insert, and what was referenced lately may be evicted.
+const LARGE: usize = 2048;
+
+/// At the limit, one field in this many is inserted again although values of its name seldom come again.
+const TURNS: u8 = 8;
+
+/// Why a field that no entry equals is inserted.
+#[derive(Debug, Clone, Copy, PartialEq, Drop)]
+enum Reason {
+    /// The caller wishes it.
+    Wish,
+    /// It was seen lately.
+    Again,
+    /// Values of its name come again, or there is room.
+    Likely,
+    /// For its name, which no table has.
+    Name,
+}
 
 /// What the encoding end keeps of earlier sections to choose for the next fields.
 #[derive(Debug, Drop)]
@@ -24,9 +91,14 @@ pub(crate) struct Chooser {
     draining: Draining,
     copies: Copies,
     history: History,
+    scores: Scores,
+    marks: Marks,
     names: NameCredit,
+    allowance: Allowance,
     /// How many sections began since an insertion found no room, at most 255.
     sections_since: u8,
+    /// How many fields had an unlikely name at the limit, modulo 256.
+    turns: u8,
 }
 
 impl Chooser {
@@ -36,14 +108,56 @@ impl Chooser {
             draining: Draining::new(),
             copies: Copies::new(),
             history: History::new(),
+            scores: Scores::new(),
+            marks: Marks::new(),
             names: NameCredit::new(),
+            allowance: Allowance::new(),
             sections_since: u8::MAX,
+            turns: 0,
         }
     }
 
-    /// Returns whether draining entries are let go: an insertion found no room lately.
+    /// Returns whether an insertion found no room lately.
     fn is_tight(&self) -> bool {
         self.sections_since <= SECTIONS_WITHOUT_ROOM
+    }
+
+    /// Returns whether an entry is let go: no line references it, so that it can be evicted.
+    fn is_let_go(&self, block: &DynamicTableEncoder<'_, Index, PackedField>, entry: usize) -> bool {
+        block.max_size() >= LARGE
+            && self.is_tight()
+            && self.draining.contains(entry)
+            && is_of_the_oldest(block, entry)
+    }
+
+    /// Returns whether a field can be inserted. In a small table nothing is evicted for it that was referenced lately.
+    fn can_insert(
+        &self,
+        block: &DynamicTableEncoder<'_, Index, PackedField>,
+        field: &FieldLine<'_>,
+    ) -> bool {
+        block.has_room(field)
+            && (block.max_size() >= LARGE || self.spares_recent(block, field.mem_size()))
+    }
+
+    /// Returns whether an insertion of this size evicts no entry that was referenced lately.
+    fn spares_recent(
+        &self,
+        block: &DynamicTableEncoder<'_, Index, PackedField>,
+        size: usize,
+    ) -> bool {
+        let mut used = block.used().saturating_add(size);
+        for evicted in block.total_dropped()..block.total_inserted() {
+            if used <= block.max_size() {
+                return true;
+            }
+            let entry = evicted.saturating_add(1);
+            if self.marks.last_use(entry) == LastUse::Lately {
+                return false;
+            }
+            used = used.saturating_sub(block.entry_size(entry).unwrap_or(0));
+        }
+        true
     }
 
     /// Returns the newest equal entry that may be referenced: the newest of all, or the one that it is a copy of.
@@ -66,45 +180,75 @@ impl Chooser {
         }
     }
 
-    /// Chooses for a field that an entry equals which may be referenced. One that drains is inserted again, so that the
-    /// new entry is referenced and the old one can be evicted.
+    /// Chooses for a field that an entry equals which may be referenced. One that drains, or that is far and used much,
+    /// is inserted again: then the new entry is referenced, and the old one can be evicted.
     fn choose_equal(
         &mut self,
         block: &DynamicTableEncoder<'_, Index, PackedField>,
         field: &FieldLine<'_>,
         wish: Wish,
+        sought: &SoughtField,
         entry: usize,
         newest: usize,
     ) -> Choice
-        requires { may_reference block.now.table.now newest ≡ true → entry ≡ newest }
+        requires hashes { AreHashesIn (line_of field.now).field sought.now }
+        requires newest { may_reference block.now.table.now newest ≡ true → entry ≡ newest }
         ensures { KeepsWish block.now.table.now (line_of field.now).field wish (Some newest) result }
     {
-        self.names.note_reference(entry);
+        let last = self.note_equal(block, field, sought, entry);
         let reference = Choice::Equal {
             entry,
             inserts: false,
         };
-        if wish == Wish::Reuse || entry < newest || !self.draining.contains(entry) {
+        if wish == Wish::Reuse || entry < newest {
             return reference;
         }
-        if !block.is_below_limit() {
-            return self.copy(block, entry);
+        let drains = self.draining.contains(entry);
+        if !drains && !self.is_worth_a_copy(block, field, entry, last) {
+            return reference;
         }
-        if block.has_room(field) {
+        let can_insert = self.can_insert(block, field);
+        if !block.is_below_limit() {
+            return if can_insert && !self.copies.is_full(block) {
+                self.copy(block, entry)
+            } else {
+                reference
+            };
+        }
+        if can_insert {
+            self.marks
+                .note_use(block.total_inserted().saturating_add(1));
             return Choice::Inserted;
         }
-        if self.is_tight() {
+        if drains && self.is_let_go(block, entry) {
             return Choice::Alone { inserts: false };
         }
         reference
+    }
+
+    /// Returns whether an entry that does not drain is inserted again: it is far, small, was referenced in this section or
+    /// one of the two before it, and only entries that drain are evicted for it.
+    fn is_worth_a_copy(
+        &mut self,
+        block: &DynamicTableEncoder<'_, Index, PackedField>,
+        field: &FieldLine<'_>,
+        entry: usize,
+        last: LastUse,
+    ) -> bool {
+        let size = field.mem_size();
+        block.base().saturating_sub(entry) >= FAR
+            && last == LastUse::Lately
+            && size <= block.max_size() / PART_OF_A_FAR_COPY
+            && self.draining.has_room_for(block, size)
     }
 
     /// Chooses a reference to an entry, and after it a copy that nothing references yet.
     fn copy(&mut self, block: &DynamicTableEncoder<'_, Index, PackedField>, entry: usize) -> Choice
         ensures { result ≡ Equal entry true }
     {
-        self.copies
-            .note(block.total_inserted().saturating_add(1), entry);
+        let copy = block.total_inserted().saturating_add(1);
+        self.copies.note(copy, entry);
+        self.marks.note_use(copy);
         Choice::Equal {
             entry,
             inserts: true,
@@ -122,44 +266,91 @@ impl Chooser {
         requires { AreHashesIn (line_of field.now).field sought.now }
         ensures { KeepsWish block.now.table.now (line_of field.now).field wish None result }
     {
-        let wanted = self.wants(block, field, wish, sought);
+        let Some(reason) = self.wants(block, field, wish, sought) else {
+            return self.choose_literal(block, field, sought, false);
+        };
         if !block.is_below_limit() {
-            return self.choose_literal(block, field, sought, wanted);
+            let inserts = reason == Reason::Wish || self.affords(block, field);
+            if inserts {
+                self.note_insertion(block, reason);
+            }
+            return self.choose_literal(block, field, sought, inserts);
         }
-        if wanted && block.has_room(field) {
+        if self.can_insert(block, field) || reason == Reason::Wish && block.has_room(field) {
+            self.note_insertion(block, reason);
             return Choice::Inserted;
         }
-        if wanted {
-            self.sections_since = 0;
-        }
+        self.sections_since = 0;
         self.choose_literal(block, field, sought, false)
     }
 
-    /// Returns whether a new field is to be inserted.
+    /// Returns why a new field is to be inserted, if it is.
     fn wants(
         &mut self,
         block: &DynamicTableEncoder<'_, Index, PackedField>,
         field: &FieldLine<'_>,
         wish: Wish,
         sought: &SoughtField,
-    ) -> bool
+    ) -> Option<Reason>
         requires { AreHashesIn (line_of field.now).field sought.now }
-        ensures insert { wish ≡ Asked → result ≡ true }
-        ensures reuse { wish ≡ Reused → result ≡ false }
+        ensures insert { wish ≡ Asked → result ≡ Some Wished }
+        ensures reuse { wish ≡ Reused → result ≡ None }
     {
-        let seen = self.history.see(sought.hash(field));
+        let hashes = sought.unseeded(field);
+        let is_again = self.history.see(hashes.field());
+        let values = Values::like(field, hashes.name());
+        let score = self.scores.of(values);
+        if !is_again {
+            self.scores.lower(values);
+        } else if block.is_below_limit() {
+            self.scores.raise(values);
+        }
         match wish {
-            Wish::Insert => true,
-            Wish::Reuse | Wish::Never => false,
+            Wish::Insert => Some(Reason::Wish),
+            Wish::Reuse | Wish::Never => None,
             Wish::Unmarked => {
-                seen || leaves_room(block, field) || self.takes_name(block, field, sought)
+                if is_again {
+                    self.is_worth_an_entry(block, score)
+                        .then_some(Reason::Again)
+                } else if self.is_likely(block, field, score) {
+                    Some(Reason::Likely)
+                } else {
+                    self.takes_name(block, field, sought)
+                        .then_some(Reason::Name)
+                }
             }
         }
     }
 
+    /// Returns whether a field that came again is inserted, by the score of its name.
+    fn is_worth_an_entry(
+        &mut self,
+        block: &DynamicTableEncoder<'_, Index, PackedField>,
+        score: u8,
+    ) -> bool {
+        if block.is_below_limit() || score >= UNLIKELY {
+            return true;
+        }
+        self.turns = self.turns.wrapping_add(1);
+        self.turns % TURNS == 0
+    }
+
+    /// Returns whether a field is inserted when it comes for the first time, by the score of its name.
+    fn is_likely(
+        &self,
+        block: &DynamicTableEncoder<'_, Index, PackedField>,
+        field: &FieldLine<'_>,
+        score: u8,
+    ) -> bool {
+        if score >= LIKELY && !(block.is_below_limit() && self.is_tight()) {
+            return true;
+        }
+        score >= UNLIKELY && leaves_room(block, field)
+    }
+
     /// Returns whether a field is to be inserted for its name alone, which no table has.
     fn takes_name(
-        &mut self,
+        &self,
         block: &DynamicTableEncoder<'_, Index, PackedField>,
         field: &FieldLine<'_>,
         sought: &SoughtField,
@@ -170,11 +361,84 @@ impl Chooser {
             return false;
         }
         match block.newest_name(field, sought) {
-            Some(entry) if !self.draining.contains(entry) => return false,
-            _ => {}
+            Some(entry) => self.draining.contains(entry),
+            None => true,
         }
-        self.names.spend(block.total_inserted().saturating_add(1));
-        true
+    }
+
+    /// Returns whether a field is inserted that its line does not reference, and pays for it.
+    fn affords(
+        &mut self,
+        block: &DynamicTableEncoder<'_, Index, PackedField>,
+        field: &FieldLine<'_>,
+    ) -> bool {
+        self.can_insert(block, field) && self.allowance.pay(length(field))
+    }
+
+    /// Notes that the next entry is inserted for a reason.
+    fn note_insertion(
+        &mut self,
+        block: &DynamicTableEncoder<'_, Index, PackedField>,
+        reason: Reason,
+    ) {
+        let entry = block.total_inserted().saturating_add(1);
+        match reason {
+            Reason::Wish => self.marks.note_use(entry),
+            Reason::Again if block.is_below_limit() => self.marks.note_use(entry),
+            Reason::Again => self.marks.note_unused(entry, LastUse::NoneSince),
+            Reason::Likely => self.marks.note_unused(entry, LastUse::None),
+            Reason::Name => {
+                self.names.spend();
+                self.marks.note_unused(entry, LastUse::NoneForName);
+            }
+        }
+    }
+
+    /// Notes that an entry is referenced by an equal field. Returns when it was referenced before.
+    fn note_equal(
+        &mut self,
+        block: &DynamicTableEncoder<'_, Index, PackedField>,
+        field: &FieldLine<'_>,
+        sought: &SoughtField,
+        entry: usize,
+    ) -> LastUse
+        requires { AreHashesIn (line_of field.now).field sought.now }
+    {
+        let is_below = block.is_below_limit();
+        if !is_below {
+            self.allowance.earn(length(field));
+        }
+        let last = self.marks.last_use(entry);
+        self.marks.note_use(entry);
+        if last == LastUse::NoneForName {
+            self.names.gain();
+        }
+        match last {
+            LastUse::None | LastUse::NoneForName => self.raise(field, sought),
+            LastUse::NoneSince if !is_below => self.raise(field, sought),
+            LastUse::NoneSince | LastUse::Lately | LastUse::Earlier => {}
+        }
+        last
+    }
+
+    /// Notes that the value of a field came again.
+    fn raise(&mut self, field: &FieldLine<'_>, sought: &SoughtField)
+        requires { AreHashesIn (line_of field.now).field sought.now }
+    {
+        let name = sought.unseeded(field).name();
+        self.scores.raise(Values::like(field, name));
+    }
+
+    /// Notes that an entry is referenced for its name.
+    fn note_name(&mut self, entry: usize) {
+        match self.marks.last_use(entry) {
+            LastUse::NoneForName => {
+                self.names.gain();
+                self.marks.note_unused(entry, LastUse::None);
+            }
+            LastUse::None | LastUse::NoneSince => {}
+            LastUse::Lately | LastUse::Earlier => self.marks.note_use(entry),
+        }
     }
 
     /// Chooses a literal, with the name of an entry if no static field has it.
@@ -195,10 +459,10 @@ impl Chooser {
         let Some(entry) = block.newest_name(field, sought) else {
             return Choice::Alone { inserts };
         };
-        if !block.may_reference(entry) || self.is_tight() && self.draining.contains(entry) {
+        if !block.may_reference(entry) || self.is_let_go(block, entry) {
             return Choice::Alone { inserts };
         }
-        self.names.note_reference(entry);
+        self.note_name(entry);
         Choice::Named { inserts }
     }
 }
@@ -212,6 +476,7 @@ impl Chooses<Index, PackedField> for Chooser {
         self.sections_since = self.sections_since.saturating_add(1);
         self.history.fit(block.max_size());
         self.draining.advance(block);
+        self.marks.begin_section();
     }
 
     fn choose(
@@ -228,234 +493,20 @@ impl Chooses<Index, PackedField> for Chooser {
             return self.choose_new(block, field, wish, sought);
         };
         match self.entry_to_reference(block, field, newest) {
-            Some(entry) => self.choose_equal(block, field, wish, entry, newest),
+            Some(entry) => self.choose_equal(block, field, wish, sought, entry, newest),
             None => self.choose_literal(block, field, sought, false),
         }
     }
 }
 
-/// Returns whether, with the field, at most three quarters of the capacity are used and one more section may be blocked.
+/// Returns how many bytes a field's name and value have.
+fn length(field: &FieldLine<'_>) -> usize {
+    field.name.len().saturating_add(field.value.len())
+}
+
+/// Returns whether, with the field, at most half of a large table is used and one more section may be blocked.
 fn leaves_room(block: &DynamicTableEncoder<'_, Index, PackedField>, field: &FieldLine<'_>) -> bool {
     block.is_below_limit()
-        && block.used().saturating_add(field.mem_size()) <= block.max_size() / 4 * 3
-}
-
-/// Which entries drain: the oldest, which are to be evicted next (RFC 9204, section 2.1.1.1).
-///
-/// An entry drains if the free bytes and the entries older than it are less than a quarter of the capacity. The newest
-/// that drains moves forward only, until the capacity changes.
-#[derive(Debug, Drop)]
-struct Draining {
-    /// The absolute index of the newest entry that drains, or of one that was evicted.
-    newest: usize,
-    /// The sizes of the live entries after that one, in bytes, as of `inserted` insertions.
-    rest: usize,
-    inserted: usize,
-    /// The capacity, in bytes.
-    capacity: usize,
-}
-
-impl Draining {
-    /// Returns a state in which no entry drains.
-    fn new() -> Draining {
-        Draining {
-            newest: 0,
-            rest: 0,
-            inserted: 0,
-            capacity: 0,
-        }
-    }
-
-    /// Returns whether an entry drains.
-    fn contains(&self, entry: usize) -> bool {
-        entry <= self.newest
-    }
-
-    /// Notes which entries drain when a section begins.
-    fn advance(&mut self, block: &DynamicTableEncoder<'_, Index, PackedField>) {
-        self.count(block);
-        let most = self.capacity - self.capacity / 4;
-        for entry in self.newest..self.inserted {
-            if self.rest <= most {
-                return;
-            }
-            let entry = entry.saturating_add(1);
-            let size = block.entry_size(entry).unwrap_or(0);
-            self.rest = self.rest.saturating_sub(size);
-            self.newest = entry;
-        }
-    }
-
-    /// Counts the entries that were inserted since, and passes those that were evicted.
-    fn count(&mut self, block: &DynamicTableEncoder<'_, Index, PackedField>) {
-        let (inserted, dropped, capacity) = (
-            block.total_inserted(),
-            block.total_dropped(),
-            block.max_size(),
-        );
-        if self.newest <= dropped || self.capacity != capacity {
-            self.newest = dropped;
-            self.rest = block.used();
-        } else {
-            for entry in self.inserted..inserted {
-                let size = block.entry_size(entry.saturating_add(1)).unwrap_or(0);
-                self.rest = self.rest.saturating_add(size);
-            }
-        }
-        self.inserted = inserted;
-        self.capacity = capacity;
-    }
-}
-
-/// How many copies are remembered.
-const MOST_COPIES: usize = 16;
-
-/// Two equal entries, by their absolute indexes.
-#[derive(Debug, Clone, Copy, Drop)]
-struct Pair {
-    copy: usize,
-    original: usize,
-}
-
-/// The latest copies of draining entries, the latest first; 0 for none. Until the decoder is known to have received a
-/// copy, its original may be referenced.
-#[derive(Debug, Drop)]
-struct Copies {
-    latest: [Pair; MOST_COPIES],
-}
-
-impl Copies {
-    /// Returns a memory of no copies.
-    fn new() -> Copies {
-        let none = Pair {
-            copy: 0,
-            original: 0,
-        };
-        Copies {
-            latest: [none; MOST_COPIES],
-        }
-    }
-
-    /// Notes that an entry is inserted as a copy of another.
-    fn note(&mut self, copy: usize, original: usize) {
-        self.latest.rotate_right(1);
-        self.latest[0] = Pair { copy, original };
-    }
-
-    /// Returns the entry that one is a copy of, if that is remembered.
-    fn original_of(&self, copy: usize) -> Option<usize> {
-        let pair = self.latest.iter().find(|pair| pair.copy == copy)?;
-        Some(pair.original)
-    }
-}
-
-/// How many tags a set holds.
-const WAYS: usize = 4;
-
-/// The bytes of capacity for each tag.
-const BYTES_A_TAG: usize = 128;
-
-/// The least and the greatest number of sets.
-const LEAST_SETS: usize = 4;
-
-const MOST_SETS: usize = 64;
-
-/// The fields that were seen lately and not referenced: one that comes again is worth an entry.
-///
-/// Tags of 16 bits of the fields that were seen lately, in sets of four, each set from the latest to the oldest. A field
-/// that was not seen may have the tag of one that was.
-///
-/// Its room is there from the start, so no allocation that is refused changes what is chosen.
-#[derive(Debug, Drop)]
-struct History {
-    tags: [u16; MOST_SETS * WAYS],
-    /// How many sets are in use, none before the first section. The tags behind these are 0.
-    sets: usize,
-}
-
-impl History {
-    /// Returns a history that keeps nothing yet.
-    fn new() -> History {
-        History {
-            tags: [0; MOST_SETS * WAYS],
-            sets: 0,
-        }
-    }
-
-    /// Makes it as large as a capacity asks for.
-    fn fit(&mut self, capacity: usize) {
-        let sets = (capacity / (BYTES_A_TAG * WAYS)).clamp(LEAST_SETS, MOST_SETS);
-        if self.sets != sets {
-            self.tags[sets * WAYS..].fill(0);
-            self.sets = sets;
-        }
-    }
-
-    /// Returns whether a field of this hash was seen lately, and keeps that it was seen.
-    fn see(&mut self, hash: u32) -> bool {
-        let sets = self.sets.min(MOST_SETS);
-        if sets == 0 {
-            return false;
-        }
-        let hash = hash as usize;
-        let first = hash % sets * WAYS;
-        let tag = (hash / sets & 0xffff) as u16 | 1;
-        let set = &mut self.tags[first..first + WAYS];
-        if set.contains(&tag) {
-            return true;
-        }
-        set.rotate_right(1);
-        set[0] = tag;
-        false
-    }
-}
-
-/// The most fields that may be inserted for their names before one of them is referenced.
-const MOST_FOR_NAMES: u8 = 4;
-
-/// The first reference to such an entry allows this many more.
-const GAIN: u8 = 2;
-
-/// The number of such entries that are watched for their first reference.
-const WATCHED: usize = 8;
-
-/// How many more fields may be inserted for their names alone: a few at first, and more once their names are used.
-#[derive(Debug, Drop)]
-struct NameCredit {
-    left: u8,
-    /// The absolute indexes of the latest entries that were inserted so and not referenced since, the latest first; 0
-    /// for none.
-    watched: [usize; WATCHED],
-}
-
-impl NameCredit {
-    /// Returns the credit of a new connection.
-    fn new() -> NameCredit {
-        NameCredit {
-            left: MOST_FOR_NAMES,
-            watched: [0; WATCHED],
-        }
-    }
-
-    /// Returns whether one more field may be inserted.
-    fn is_left(&self) -> bool {
-        self.left > 0
-    }
-
-    /// Notes that an entry is inserted for its name.
-    fn spend(&mut self, entry: usize) {
-        self.left = self.left.saturating_sub(1);
-        self.watched.rotate_right(1);
-        self.watched[0] = entry;
-    }
-
-    /// Notes that an entry is referenced, by an equal field or for its name.
-    fn note_reference(&mut self, entry: usize) {
-        for watched in &mut self.watched {
-            if *watched == entry {
-                *watched = 0;
-                self.left = self.left.saturating_add(GAIN).min(MOST_FOR_NAMES);
-            }
-        }
-    }
+        && block.max_size() >= LARGE
+        && block.used().saturating_add(field.mem_size()) <= block.max_size() / 2
 }

@@ -29,7 +29,7 @@ pub use crate::dynamic::encoder::{
     DynamicInsertionResult, DynamicLookupResult, DynamicTableEncoder,
 };
 pub use crate::dynamic::entry_index::{EntryIndex, FindsEntries, NoIndex};
-pub use crate::dynamic::index::Index;
+pub use crate::dynamic::index::{Hashes, Index};
 pub use crate::dynamic::sorted::SortedIndex;
 pub use crate::dynamic::sought::SoughtField;
 pub use crate::dynamic::table::{

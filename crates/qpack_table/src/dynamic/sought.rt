@@ -7,13 +7,13 @@ ghost use Rattle.qpack_spec.specs.Field.{has_name, is_field};
 ghost use Rattle.qpack_spec.specs.StaticTable.{static_name_index};
 ghost use Rattle.qpack_spec.specs.Table.{newest_index};
 ghost use Rattle.qpack_table.specs.Handles.{AreHashesIn, IsSoughtIn};
-ghost use Rattle.qpack_table.specs.Hashes.{name_hash, field_hash};
-ghost use Rattle.qpack_table.specs.Indexes.{AreSeededHashesOf};
+ghost use Rattle.qpack_table.specs.Hashes.{name_hash};
+ghost use Rattle.qpack_table.specs.Indexes.{AreHashesOf, AreSeededHashesOf};
 ghost use Rattle.qpack_table.specs.Rows.{Counts};
 
 use crate::dynamic::comparing::Steps;
 use crate::dynamic::entry_index::FindsEntries;
-use crate::dynamic::index::SeededHashes;
+use crate::dynamic::index::{Hashes, SeededHashes};
 use crate::dynamic::table::DynamicTable;
 use crate::vas::AbsoluteIndex;
 use qpack_base::field::{FieldLine, HeaderField};
@@ -56,14 +56,14 @@ impl SoughtField {
         self.static_name
     }
 
-    /// Returns a hash of the field, its name and its value, which is the same for every table and every seed. Computes
-    /// it unless it is known.
+    /// Returns the hashes of the field under the seed 0, which are the same for every table. Computes them unless they
+    /// are known.
     #[inline(always)]
-    pub fn hash(&self, field: &FieldLine<'_>) -> u32
+    pub fn unseeded(&self, field: &FieldLine<'_>) -> Hashes
         requires { AreHashesIn (line_of field.now).field self.now }
-        ensures { result ≡ field_hash 0 (line_of field.now).field }
+        ensures { AreHashesOf 0 result (line_of field.now).field }
     {
-        self.hashes_under(0, field).hash()
+        self.hashes_under(0, field).hashes
     }
 
     /// Returns its hashes under a seed. Computes them unless they are known.

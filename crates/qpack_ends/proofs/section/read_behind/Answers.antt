@@ -1,6 +1,6 @@
-use Rattle.std.proofs.Common.{ℕ, List, Result, Ok, ◌∙◌, ap, arith}
+use Rattle.std.proofs.Common.{◌∙◌, ap, arith}
 use Rattle.std.proofs.lemmas.Result.{err_from_is_err_and}
-use Rattle.qpack_spec.specs.StrictReading.{SectionFault, lines_behind}
+use Rattle.qpack_spec.specs.StrictReading.{lines_behind}
 use Rattle.qpack_spec.specs.Table.{window}
 use Rattle.qpack_wire.specs.Prefixes.{prefix_of}
 use Rattle.qpack_ends.specs.SectionPrefixes.{strict_numbers}

@@ -45,6 +45,20 @@ impl Hashes {
             field: (field >> 32) as u32,
         }
     }
+
+    /// Returns the hash of the name.
+    pub fn name(self) -> u32
+        ensures { result ≡ self.name }
+    {
+        self.name
+    }
+
+    /// Returns the hash of the field, its name and its value.
+    pub fn field(self) -> u32
+        ensures { result ≡ self.field }
+    {
+        self.field
+    }
 }
 
 /// The hashes of a field, with the seed that they were computed under.
@@ -78,13 +92,6 @@ impl SeededHashes {
             return self;
         }
         SeededHashes::of(seed, field)
-    }
-
-    /// Returns the hash of the field, its name and its value.
-    pub(in crate::dynamic) fn hash(self) -> u32
-        ensures { result ≡ self.hashes.field }
-    {
-        self.hashes.field
     }
 
     /// Returns the hash of its name under a seed. It computes it only if this one has another.
