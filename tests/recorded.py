@@ -20,9 +20,10 @@ NGHTTP3 = (
 # Connections that Chromium 156 and Firefox 153 wrote to a server that allowed a table of 4,096 bytes.
 BROWSERS = ("chromium_4096_100", "firefox_4096_100")
 # What the example server wrote to these browsers, and their decoders to it: a file, and how many streams may be blocked.
-# It is made of the log of examples/http3-server, in a run of tests/browsers. Where the encoder chooses otherwise, make it
-# again.
-ANSWERS = (("to_chromium", 100), ("to_firefox", 20))
+# It is made of the log of examples/http3-server, with the encoder's capacity that follows. The page is that of
+# tests/browsers, with 92 requests and none aborted. Where the encoder chooses otherwise, make it again.
+ANSWERS = (("heard_chromium", 100), ("heard_firefox", 20))
+ANSWERS_CAPACITY = 16384
 # How often a recording is given with lines mutated, otherwise each time.
 ROUNDS = 200
 COUNT = re.compile(r"\d+")
@@ -328,9 +329,9 @@ def mutated_question(name, max_capacity, rounds):
 def heard_question(name, max_blocked):
     """An encoding end writes again what the server wrote, and hears what the browser's decoder wrote. Each section is
     answered at the end."""
-    question = Question("recordings heard by an encoding end", f"heard_{name}", "qpack_connection_tests")
+    question = Question("recordings heard by an encoding end", name, "qpack_connection_tests")
     lists = iter(read_lists(name))
-    question.begin(f"encoder 65536 {max_blocked} 4096 100 of-header-fields")
+    question.begin(f"encoder 65536 {max_blocked} {ANSWERS_CAPACITY} 100 of-header-fields")
     for line in read_lines(name):
         digits = shown_bytes(line.data)
         if line.kind == "b":
