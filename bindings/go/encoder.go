@@ -12,7 +12,7 @@ type EncoderSettings struct {
 	MaxCapacity uint64
 	// MaxBlocked is the peer's SETTINGS_QPACK_BLOCKED_STREAMS.
 	MaxBlocked uint64
-	// Capacity is the table capacity in bytes, 4,096 by default, or MaxCapacity if that is less. To begin without a
+	// Capacity is the table capacity in bytes, 16,384 by default, or MaxCapacity if that is less. To begin without a
 	// table, call SetCapacity(0) before the first Encode.
 	Capacity uint64
 	// MostUnacknowledged is 100 by default. While that many sections that reference the table are unacknowledged,

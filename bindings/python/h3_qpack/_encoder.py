@@ -31,7 +31,7 @@ class Encoder(End):
     `max_capacity` and `max_blocked` are the peer's SETTINGS_QPACK_MAX_TABLE_CAPACITY, in bytes, below 2^30, and
     SETTINGS_QPACK_BLOCKED_STREAMS. For a peer with a capacity of 2^30 or more pass 0.
 
-    `capacity` is the table capacity in bytes, by default 4,096, or `max_capacity` if that is less. While
+    `capacity` is the table capacity in bytes, by default 16,384, or `max_capacity` if that is less. While
     `most_unacknowledged` sections that reference the table are unacknowledged, by default 100, sections reference only
     the static table.
 

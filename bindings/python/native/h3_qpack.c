@@ -49,7 +49,7 @@ void h3_qpack_encoder_settings_default_versioned(uint32_t version, h3_qpack_enco
   if (!settings || !is_supported(version)) return;
   settings->max_capacity = 0;
   settings->max_blocked = 0;
-  settings->capacity = 4096;
+  settings->capacity = 16384;
   settings->most_unacknowledged = 100;
   settings->seed = random_number();
 }

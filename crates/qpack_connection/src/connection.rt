@@ -44,10 +44,10 @@ pub struct ConnectionSettings {
 }
 
 impl ConnectionSettings {
-    /// Returns settings with those of the decoding end, a capacity of 4,096 bytes, and at most 100 sections that wait
+    /// Returns settings with those of the decoding end, a capacity of 16,384 bytes, and at most 100 sections that wait
     /// for acknowledgments.
     pub fn new(decoder: DecoderSettings) -> ConnectionSettings
-        ensures { result ≡ record { decoder = decoder; capacity = 4096; most_unacknowledged = 100 } }
+        ensures { result ≡ record { decoder = decoder; capacity = 16384; most_unacknowledged = 100 } }
     {
         ConnectionSettings {
             decoder,

@@ -39,7 +39,7 @@ use std::marker::Model;
 use thiserror::Error;
 
 /// The capacity that `EncoderSettings::new` chooses, in bytes.
-pub const DEFAULT_CAPACITY: usize = 4_096;
+pub const DEFAULT_CAPACITY: usize = 16_384;
 
 /// How many sections may wait for acknowledgments by `EncoderSettings::new`.
 pub const DEFAULT_UNACKNOWLEDGED: usize = 100;
@@ -70,13 +70,13 @@ pub struct EncoderSettings {
 }
 
 impl EncoderSettings {
-    /// Returns settings with the peer's maximum capacity in bytes and its limit of blocked streams, a capacity of 4,096
+    /// Returns settings with the peer's maximum capacity in bytes and its limit of blocked streams, a capacity of 16,384
     /// bytes, at most 100 sections that wait for acknowledgments, and the seed 0.
     pub fn new(max_capacity: usize, max_blocked: usize) -> EncoderSettings
         ensures { result ≡ record {
           max_capacity = max_capacity;
           max_blocked = max_blocked;
-          capacity = 4096;
+          capacity = 16384;
           most_unacknowledged = 100;
           seed = 0;
         } }

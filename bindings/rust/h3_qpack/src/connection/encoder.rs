@@ -37,10 +37,10 @@ pub struct EncoderSettings {
 }
 
 impl EncoderSettings {
-    /// Returns the settings for a peer that sent these two, with a capacity of 4,096 bytes, 100 unacknowledged sections
+    /// Returns the settings for a peer that sent these two, with a capacity of 16,384 bytes, 100 unacknowledged sections
     /// and a random seed.
     pub const fn new(max_capacity: usize, max_blocked: usize) -> EncoderSettings {
-        EncoderSettings { max_capacity, max_blocked, capacity: 4096, most_unacknowledged: 100, seed: None }
+        EncoderSettings { max_capacity, max_blocked, capacity: 16_384, most_unacknowledged: 100, seed: None }
     }
 
     /// Returns the settings with another `capacity`, in bytes.
