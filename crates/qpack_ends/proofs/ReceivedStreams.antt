@@ -9,9 +9,11 @@ use Rattle.qpack_spec.specs.Form.{Spells, Truncates}
 use Rattle.qpack_spec.specs.Instruction.{EncoderInstruction, encoder_instruction_form}
 use Rattle.qpack_spec.specs.Table.{Table}
 use Rattle.qpack_rules.specs.Taking.{apply_in_turn}
+use Rattle.qpack_spec.specs.Wanted.{least_field_size}
 use Rattle.qpack_spec.specs.Window.{TableRefusal}
 use Rattle.qpack_spec.proofs.Cuttings.{joined_append}
 use Rattle.qpack_spec.proofs.Results.{bind_ok, ok_is}
+use Rattle.qpack_rules.proofs.SessionRows.{cut_none}
 use Rattle.qpack_rules.proofs.Waiting.{nothing_before_wanted}
 use Rattle.qpack_codec.specs.Receiving.{AsksToTake}
 use Rattle.qpack_codec.specs.declared.error.DecoderError.{DecoderError}
@@ -462,6 +464,26 @@ pub rest_waits : (start old now : Table) (before bytes : List ℕ) (s : StreamVi
 rest_waits start old now before bytes s place pending many left k none finds =
     let waiting = answers_waiting start now (before ++ bytes) place pending many k finds in
     (none, waiting.0, waiting.1, waiting.2)
+
+nothing_fits : (now : Table) → least_field_size [] ≤ now.capacity
+unfolding least_field_size
+nothing_fits now = omega arith
+
+-- no byte comes, and none waits
+pub nothing_more : (start now : Table) (before bytes left : List ℕ) (s : StreamView) → Receives start now before s
+    → s.pending ≡ [] → 0 ≡ length bytes → left ≡ bytes → ReceivesMore start now now before bytes left s s (Ok tt)
+nothing_more start now before [] left s k none no_more same =
+    let empty : k.0.rest ≡ [] = k.0.ends.0 ∙ none in (
+      same,
+      rw (append-nil before) (ends_up _ _ _ k (
+        k.0.ends.0,
+        subst (λ (x : List ℕ). MayGrow now x) (sym empty)
+            (record { cut = cut_none; fits = nothing_fits now }),
+      )),
+      rw (append-nil before) k,
+      omega (arith, ap length none),
+    )
+nothing_more start now before (b ∷ bytes) left s k none no_more same = absurd cc
 
 -- as many bytes were passed as there were
 pub all_passed : (many : ℕ) (bytes left : List ℕ) → many ≡ length bytes → left ≡ drop many bytes → left ≡ []

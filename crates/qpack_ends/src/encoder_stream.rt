@@ -198,6 +198,9 @@ impl EncoderStream {
         ensures grows { insert_count table.old ≤ insert_count table.new }
         ensures total { buf.new.total ≡ buf.old.total }
     {
+        if buf.remaining() == 0 {
+            return Ok(());
+        }
         self.wanted = 0;
         take_all_strictly(table, &mut self.place, buf)?;
         let wanted = find_wanted(table, buf.chunk())?;

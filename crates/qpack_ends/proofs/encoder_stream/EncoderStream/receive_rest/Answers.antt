@@ -1,13 +1,18 @@
-use Rattle.std.proofs.Common.{◌≡◌, ◌<◌, ◌∙◌, ◌++◌, ℕ, List, Ok, length, sym, ap, subst, arith, inl, inr}
+use Rattle.std.proofs.Common.{◌≡◌, ◌<◌, ◌∙◌, ◌++◌, ℕ, List, Ok, length, refl, sym, ap, subst, arith, inl, inr}
 use Rattle.std.proofs.lemmas.Result.{err_from_is_err_and}
 use Rattle.qpack_spec.specs.Form.{Truncates}
 use Rattle.qpack_spec.specs.Instruction.{encoder_instruction_form}
 use Rattle.qpack_ends.specs.Receiving.{StreamView, FindsWanted}
 use Rattle.qpack_ends.proofs.ReceivedStreams.{rest_not_taken, rest_too_large, rest_unkept, rest_reaches, rest_waits}
-use Rattle.qpack_ends.proofs.ReceivedStreams.{all_passed}
+use Rattle.qpack_ends.proofs.ReceivedStreams.{all_passed, nothing_more}
 use Rattle.qpack_ends.proofs.AskingToReceive.{all_asks}
 use Rattle.qpack_ends.proofs.StrictCounts.{all_count}
 use Rattle.qpack_ends.proofs.encoder_stream.EncoderStream.receive_rest.Goals as goal
+
+pub returns-then-remaining-eq0-clause-receives : goal.returns-then-remaining-eq0-clause-receives
+returns-then-remaining-eq0-clause-receives g c start before k nothing =
+    nothing_more start c.args.table.now before c.args.buf.now.rest c.args.buf.now.rest c.args.self.now k nothing
+    (omega (arith, c.remaining.ensures, c.if-remaining-eq0.true)) refl
 
 pub returns-in_err-take_all_strictly-clause-receives : goal.returns-in_err-take_all_strictly-clause-receives
 returns-in_err-take_all_strictly-clause-receives g c start before k nothing =
@@ -62,7 +67,7 @@ returns-clause-receives g c start before k nothing =
     c.args.buf.now.rest c.take_all_strictly.new.buf.rest c.extend_from_slice.new.self.items c.args.self.now
     c.in_ok-take_all_strictly.field-0 k nothing
     (rw (← ap (λ (v : StreamView). v.place) c.self.view_is) c.in_ok-take_all_strictly.ensures.takes) kept)
-    (all_passed c.remaining.result c.take_all_strictly.new.buf.rest c.advance.new.self.rest c.remaining.ensures
+    (all_passed c.remaining-2.result c.take_all_strictly.new.buf.rest c.advance.new.self.rest c.remaining-2.ensures
     c.advance.ensures.rest)
     (subst (λ (l : List ℕ). Truncates encoder_instruction_form l
     → FindsWanted c.take_all_strictly.new.table l (Ok c.in_ok-wanted.wanted)) (c.chunk.ensures ∙ sym kept)
