@@ -657,3 +657,62 @@ func TestMessages(t *testing.T) {
 		}
 	}
 }
+
+// readPieces reads a section in pieces of a size. Returns its fields, and how many bytes were read until an error.
+func readPieces(reader *SectionReader, decoder *Decoder, section []byte, size int) ([]Field, int, error) {
+	var fields []Field
+	at := 0
+	for {
+		end := smaller(at+size, len(section))
+		given, taken, err := reader.Read(decoder, section[at:end], end == len(section))
+		fields, at = append(fields, given...), at+taken
+		if err != nil || at == len(section) {
+			return fields, at, err
+		}
+	}
+}
+
+func TestSectionsInPieces(t *testing.T) {
+	long := Field{Name: "x-long", Value: strings.Repeat("v", 2*pieceText)}
+	list := append(append([]Field{}, request...), long)
+	for len(list) < 2*pieceFields {
+		list = append(list, Field{Name: "x", Value: "y"})
+	}
+	for _, size := range []int{1, 7, 65536} {
+		encoder, decoder := newPair(t, 4096, 1)
+		for streamID := uint64(0); streamID < 12; streamID += 4 {
+			reader, err := NewSectionReader(streamID)
+			must(t, err)
+			encoded := encode(t, encoder, streamID, list)
+			rest := encoded.Section
+			if encoded.Required > decoder.InsertCount() {
+				_, taken, err := readPieces(reader, decoder, rest, size)
+				if failure := expect(t, err, ErrBlocked); failure.Required != encoded.Required || decoder.Blocked() != 1 {
+					t.Fatal("it waits for others")
+				}
+				rest = rest[taken:]
+			}
+			must(t, decoder.Receive(encoder.TakeEncoderStream()))
+			fields, taken, err := readPieces(reader, decoder, rest, size)
+			expectFields(t, fields, err, list)
+			if taken != len(rest) || reader.Pending() != 0 {
+				t.Fatal("bytes are left")
+			}
+			must(t, encoder.Receive(decoder.TakeDecoderStream()))
+			must(t, reader.Close())
+			if _, _, err := reader.Read(decoder, nil, false); err != ErrClosed {
+				t.Fatalf("got %v", err)
+			}
+		}
+	}
+	_, err := NewSectionReader(1 << 62)
+	expect(t, err, ErrInvalid)
+	_, decoder := newPair(t, 0, 0)
+	reader, err := NewSectionReader(0)
+	must(t, err)
+	defer reader.Close()
+	fields, _, err := reader.Read(decoder, []byte{0, 0, 0xd1, 0xff}, true)
+	if failure := expect(t, err, ErrDecompressionFailed); failure.Number != 2 || failure.Offset != 3 || len(fields) != 1 {
+		t.Fatalf("got %v", failure)
+	}
+}

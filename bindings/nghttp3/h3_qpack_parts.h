@@ -16,9 +16,7 @@ typedef struct h3_qpack_own_decoder {
 } h3_qpack_own_decoder;
 
 typedef struct h3_qpack_own_section {
-  nghttp3_buf text;    /* the section's prefix, and after it the line that is being read */
-  size_t prefix;       /* the length of the prefix once it is whole, in bytes */
-  int is_read;         /* the insertions that it requires have arrived */
+  h3_qpack_section_reader reader; /* made when the first bytes arrive */
 } h3_qpack_own_section;
 
 #endif

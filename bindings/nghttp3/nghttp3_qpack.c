@@ -1,10 +1,6 @@
 /* The calls of QPACK that nghttp3 0.8.0 has, over h3_qpack.h. This file takes the place of lib/nghttp3_qpack.c in the
  * source of nghttp3; build says how.
  *
- * nghttp3 reads a section in pieces and takes a field at a time, and h3_qpack decodes whole sections. So each line is
- * passed with the prefix of its section, as a section of its own, and the prefix alone at the section's start and end. The
- * decoder acknowledges each. Of these acknowledgments the last is kept.
- *
  * With H3_QPACK_BOOKS nghttp3's own books of sections are kept besides, for the tests that look into them. After each call
  * they must be what h3_qpack says. from_nghttp3.inc is what build takes from nghttp3's own file. */
 #include "nghttp3_qpack.h"
@@ -14,7 +10,6 @@
 #include <stdlib.h>
 #include <string.h>
 
-#include "h3_qpack_lines.h"
 #include "nghttp3_macro.h"
 #include "nghttp3_str.h"
 
@@ -27,9 +22,18 @@
 #define SHORT_COOKIE 20
 /* So many fields are passed without a call of malloc. */
 #define USUAL_FIELDS 64
+/* The most bytes of a line that a stream keeps: two strings of nghttp3's lengths, and their integers. */
+#define MOST_KEPT (NGHTTP3_QPACK_MAX_NAMELEN + NGHTTP3_QPACK_MAX_VALUELEN + 20)
 
 #include "from_nghttp3.inc"
 #include "h3_qpack_books.h"
+
+/* Makes room for |more| bytes at the end of a buffer, which grows to twice its size at least. */
+static int make_room(nghttp3_buf *buf, size_t more, const nghttp3_mem *mem) {
+  size_t used = (size_t)(buf->last - buf->begin);
+  if (nghttp3_buf_left(buf) >= more) return 0;
+  return nghttp3_buf_reserve(buf, nghttp3_max(2 * used, used + more), mem);
+}
 
 /* ---- The encoder */
 
@@ -393,7 +397,7 @@ void nghttp3_qpack_stream_context_init(nghttp3_qpack_stream_context *sctx, int64
 }
 
 void nghttp3_qpack_stream_context_free(nghttp3_qpack_stream_context *sctx) {
-  nghttp3_buf_free(&sctx->own.text, sctx->mem);
+  h3_qpack_section_reader_del(&sctx->own.reader);
 }
 
 void nghttp3_qpack_stream_context_reset(nghttp3_qpack_stream_context *sctx) {
@@ -417,96 +421,77 @@ void nghttp3_qpack_stream_context_del(nghttp3_qpack_stream_context *sctx) {
   nghttp3_mem_free(sctx->mem, sctx);
 }
 
-/* Decodes |length| bytes of the section's text, with an acknowledgment at its end alone. */
-static h3_qpack_decoded decode(nghttp3_qpack_decoder *decoder, nghttp3_qpack_stream_context *sctx, size_t length,
-                               int is_end) {
-  h3_qpack_decoded decoded = {H3_QPACK_ERR_NO_MEMORY, 0, 0, 0, 0, 0};
-  h3_qpack_decoder *end = &decoder->own.end;
-  uint8_t dropped[MOST_INSTRUCTION];
-  if (keep_instructions(decoder)) return decoded;
-  decoded = h3_qpack_decoder_decode(end, (uint64_t)sctx->stream_id, sctx->own.text.pos, length);
-  if (!decoded.status && decoded.required && !is_end) h3_qpack_decoder_write_decoder(end, dropped, sizeof dropped);
-  if (sctx->own.is_read && decoded.required != sctx->ricnt && !decoded.status)
-    decoded.status = H3_QPACK_DECOMPRESSION_FAILED;
-  return decoded;
-}
-
-/* Reads the prefix, and says whether the section is blocked. A section that was blocked goes on here. */
-static int32_t begin_section(nghttp3_qpack_decoder *decoder, nghttp3_qpack_stream_context *sctx, const uint8_t **src,
-                             const uint8_t *end) {
-  nghttp3_buf *text = &sctx->own.text;
-  h3_qpack_decoded decoded;
-  if (!sctx->own.prefix) {
-    extent found = gather(sctx, pass_prefix, src, end);
-    if (found != WHOLE) return found == INCOMPLETE ? H3_QPACK_OK : status_of(found);
-    sctx->own.prefix = nghttp3_buf_len(text);
-  }
-  decoded = decode(decoder, sctx, sctx->own.prefix, 0);
-  sctx->ricnt = decoded.required;
-  sctx->own.is_read = !decoded.status;
-  return decoded.status;
-}
-
-/* Copies the field of the line that was decoded last. The line gives its room to the bytes of the field. */
-static int copy_field(nghttp3_qpack_decoder *decoder, nghttp3_qpack_stream_context *sctx, size_t length,
-                      nghttp3_qpack_nv *nv) {
-  nghttp3_buf *text = &sctx->own.text;
-  h3_qpack_field field;
-  text->last = text->pos + sctx->own.prefix;
-  if (make_room(text, length, sctx->mem)) return NGHTTP3_ERR_NOMEM;
-  field = h3_qpack_decoder_field(&decoder->own.end, 0, text->last, length);
-  if (field.status) return NGHTTP3_ERR_QPACK_FATAL;
-  if (nghttp3_rcbuf_new2(&nv->name, text->last, field.namelen, decoder->ctx.mem)) return NGHTTP3_ERR_NOMEM;
-  if (nghttp3_rcbuf_new2(&nv->value, text->last + field.namelen, field.valuelen, decoder->ctx.mem)) {
-    nghttp3_rcbuf_decref(nv->name);
+/* Copies the field that was read last. Its name and value are read to the value's buffer, from which the name is copied. */
+static int copy_field(nghttp3_qpack_decoder *decoder, nghttp3_qpack_stream_context *sctx, nghttp3_qpack_nv *nv) {
+  const nghttp3_mem *mem = decoder->ctx.mem;
+  h3_qpack_field field = h3_qpack_section_reader_field(&sctx->own.reader, NULL, 0); /* the lengths */
+  size_t length = field.namelen + field.valuelen;
+  uint8_t *text;
+  if (nghttp3_rcbuf_new(&nv->value, length + 1, mem)) return NGHTTP3_ERR_NOMEM;
+  text = nv->value->base;
+  field = h3_qpack_section_reader_field(&sctx->own.reader, text, length);
+  if (nghttp3_rcbuf_new2(&nv->name, text, field.namelen, mem)) {
+    nghttp3_rcbuf_decref(nv->value);
     return NGHTTP3_ERR_NOMEM;
   }
-  nv->token = qpack_lookup_token(text->last, field.namelen);
+  nv->token = qpack_lookup_token(text, field.namelen);
   nv->flags = field.flags & H3_QPACK_NV_FLAG_NEVER_INDEX ? NGHTTP3_NV_FLAG_NEVER_INDEX : NGHTTP3_NV_FLAG_NONE;
+  memmove(text, text + field.namelen, field.valuelen);
+  text[field.valuelen] = 0;
+  nv->value->len = field.valuelen;
   return 0;
 }
 
-/* Decodes the line that has arrived. */
-static int read_line(nghttp3_qpack_decoder *decoder, nghttp3_qpack_stream_context *sctx, nghttp3_qpack_nv *nv,
-                     uint8_t *pflags) {
-  h3_qpack_decoded decoded = decode(decoder, sctx, nghttp3_buf_len(&sctx->own.text), 0);
-  int rv = decoded.status ? fail(decoder, decoded.status) : copy_field(decoder, sctx, decoded.len, nv);
-  if (!rv) *pflags |= NGHTTP3_QPACK_DECODE_FLAG_EMIT;
-  decoder->ctx.bad |= rv != 0;
-  return rv;
+/* Gives the field that was read. */
+static int give_field(nghttp3_qpack_decoder *decoder, nghttp3_qpack_stream_context *sctx, nghttp3_qpack_nv *nv,
+                      uint8_t *pflags) {
+  int rv = copy_field(decoder, sctx, nv);
+  if (rv) return fail(decoder, H3_QPACK_ERR_NO_MEMORY);
+  *pflags |= NGHTTP3_QPACK_DECODE_FLAG_EMIT;
+  return 0;
 }
 
-/* Ends the section: the acknowledgment of the prefix is that of all. A part of a line is invalid then. */
-static int end_section(nghttp3_qpack_decoder *decoder, nghttp3_qpack_stream_context *sctx, uint8_t *pflags) {
-  h3_qpack_decoded decoded;
-  if (!sctx->own.is_read || nghttp3_buf_len(&sctx->own.text) > sctx->own.prefix)
-    return fail(decoder, H3_QPACK_DECOMPRESSION_FAILED);
+/* Ends the section, whose acknowledgment reports the insertions that it requires. */
+static int end_section(nghttp3_qpack_decoder *decoder, size_t required, uint8_t *pflags) {
   if (is_too_much(decoder)) return fail(decoder, H3_QPACK_ERR_NO_ROOM);
-  decoded = decode(decoder, sctx, sctx->own.prefix, 1);
-  if (decoded.status) return fail(decoder, decoded.status);
   if (keep_instructions(decoder)) return fail(decoder, H3_QPACK_ERR_NO_MEMORY);
-  decoder->written_icnt = nghttp3_max(decoder->written_icnt, decoded.required);
+  decoder->written_icnt = nghttp3_max(decoder->written_icnt, required);
   *pflags |= NGHTTP3_QPACK_DECODE_FLAG_FINAL;
   return 0;
+}
+
+/* Makes the stream's reader before its first bytes. */
+static int32_t make_reader(nghttp3_qpack_stream_context *sctx) {
+  if (sctx->own.reader.at) return H3_QPACK_OK;
+  return h3_qpack_section_reader_new(&sctx->own.reader, (uint64_t)sctx->stream_id);
+}
+
+/* Does what follows from a piece that was read. */
+static int follow_piece(nghttp3_qpack_decoder *decoder, nghttp3_qpack_stream_context *sctx, nghttp3_qpack_nv *nv,
+                        uint8_t *pflags, h3_qpack_piece piece) {
+  switch (piece.status) {
+  case H3_QPACK_OK:
+    if (h3_qpack_section_reader_get_pending(&sctx->own.reader) <= MOST_KEPT) return 0;
+    return fail(decoder, H3_QPACK_ERR_TOO_LARGE);
+  case H3_QPACK_FIELD: return give_field(decoder, sctx, nv, pflags);
+  case H3_QPACK_END: return end_section(decoder, piece.required, pflags);
+  case H3_QPACK_BLOCKED:
+    sctx->ricnt = piece.required;
+    *pflags |= NGHTTP3_QPACK_DECODE_FLAG_BLOCKED;
+    return 0;
+  default: return fail(decoder, piece.status);
+  }
 }
 
 nghttp3_ssize nghttp3_qpack_decoder_read_request(nghttp3_qpack_decoder *decoder, nghttp3_qpack_stream_context *sctx,
                                                  nghttp3_qpack_nv *nv, uint8_t *pflags, const uint8_t *src,
                                                  size_t srclen, int fin) {
-  const uint8_t *at = src, *end = srclen ? src + srclen : src;
-  extent found;
-  int rv = 0;
+  h3_qpack_piece piece;
+  int rv;
   *pflags = NGHTTP3_QPACK_DECODE_FLAG_NONE;
   if (decoder->ctx.bad) return NGHTTP3_ERR_QPACK_FATAL;
-  if (!sctx->own.is_read) {
-    int32_t status = begin_section(decoder, sctx, &at, end);
-    if (status == H3_QPACK_BLOCKED) *pflags |= NGHTTP3_QPACK_DECODE_FLAG_BLOCKED;
-    else if (status) return fail(decoder, status);
-    if (status || (!sctx->own.is_read && !fin)) return at - src;
-  }
-  found = sctx->own.is_read ? gather(sctx, pass_line, &at, end) : INCOMPLETE;
-  if (found == WHOLE) rv = read_line(decoder, sctx, nv, pflags);
-  else if (found != INCOMPLETE) rv = fail(decoder, status_of(found));
-  else if (fin) rv = end_section(decoder, sctx, pflags);
-  return rv ? rv : at - src;
+  if (make_reader(sctx)) return fail(decoder, H3_QPACK_ERR_NO_MEMORY);
+  piece = h3_qpack_section_reader_read(&sctx->own.reader, &decoder->own.end, src, srclen, fin);
+  rv = follow_piece(decoder, sctx, nv, pflags, piece);
+  return rv ? rv : (nghttp3_ssize)piece.taken;
 }

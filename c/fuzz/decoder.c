@@ -86,10 +86,47 @@ static void compare_prefix(connection *c, const strict_section *want, const uint
   }
 }
 
+/* Reads a section in pieces of this size, from its start, and holds each field against those of the whole. */
+static h3_qpack_decoded decode_pieces(connection *c, uint64_t stream, const uint8_t *p, size_t len, size_t size,
+                                      const strict_fields *fields) {
+  h3_qpack_section_reader reader;
+  h3_qpack_piece piece = {H3_QPACK_OK, 0, 0, 0, 0};
+  size_t given = 0;
+  CHECK(h3_qpack_section_reader_new(&reader, stream) == H3_QPACK_OK);
+  while (piece.status == H3_QPACK_OK || piece.status == H3_QPACK_FIELD) {
+    size_t part = len < size ? len : size;
+    piece = h3_qpack_section_reader_read(&reader, &c->library, p, part, part == len);
+    CHECK(piece.taken <= part && (piece.status != H3_QPACK_OK || piece.taken == part));
+    p += piece.taken;
+    len -= piece.taken;
+    if (piece.status != H3_QPACK_FIELD) continue;
+    CHECK(piece.taken);
+    if (given < fields->len) {
+      const strict_field *f = &fields->at[given];
+      uint8_t *text = malloc(f->namelen + f->valuelen + 1);
+      CHECK(text);
+      h3_qpack_field told = h3_qpack_section_reader_field(&reader, text, f->namelen + f->valuelen);
+      CHECK(told.status == H3_QPACK_OK && told.namelen == f->namelen && told.valuelen == f->valuelen);
+      CHECK(told.flags == (f->is_never_indexed ? H3_QPACK_NV_FLAG_NEVER_INDEX : 0u));
+      CHECK(!memcmp(text, f->text, f->namelen + f->valuelen));
+      free(text);
+    }
+    given++;
+  }
+  CHECK(piece.status != H3_QPACK_BLOCKED || !given);
+  CHECK(piece.status != H3_QPACK_END || given == fields->len);
+  h3_qpack_section_reader_del(&reader);
+  h3_qpack_decoded got = {piece.status, 0, 0, piece.required, piece.number, piece.offset};
+  return got;
+}
+
 static void decode(connection *c, uint64_t stream, const uint8_t *p, size_t len) {
   strict_section want = strict_decode(&c->strict, p, len, c->limit);
   compare_prefix(c, &want, p, len);
-  h3_qpack_decoded got = h3_qpack_decoder_decode(&c->library, stream, p, len);
+  /* every other section in pieces: their size, or 0 for the whole; one that is too long is read up to that alone */
+  size_t pieces = stream % 2 && len <= h3_qpack_longest_section(c->limit) ? len % 7 + 1 : 0;
+  h3_qpack_decoded got = pieces ? decode_pieces(c, stream, p, len, pieces, &want.fields)
+                                : h3_qpack_decoder_decode(&c->library, stream, p, len);
   if (len > h3_qpack_longest_section(c->limit)) { /* no section of so many bytes is within the limit */
     CHECK(got.status == H3_QPACK_ERR_TOO_LARGE && !got.number && !got.offset && !got.fields);
     c->waiting[stream] = 0;
@@ -107,8 +144,8 @@ static void decode(connection *c, uint64_t stream, const uint8_t *p, size_t len)
     c->waiting[stream] = 0;
     CHECK(got.number == want.number && got.offset == want.offset);
     if (want.status == STRICT_OK) {
-      CHECK(got.status == H3_QPACK_OK && got.required == want.required);
-      compare_fields(c, &want.fields, got.fields);
+      CHECK(got.status == (pieces ? H3_QPACK_END : H3_QPACK_OK) && got.required == want.required);
+      if (!pieces) compare_fields(c, &want.fields, got.fields);
     } else {
       CHECK(!got.fields);
       CHECK(got.status == (want.status == STRICT_REFUSED ? H3_QPACK_DECOMPRESSION_FAILED : H3_QPACK_ERR_TOO_LARGE));

@@ -41,7 +41,7 @@ static void use_settings(void) {
   h3_qpack_encoder_settings_default(&es);
   h3_qpack_encoder_settings_default(&others);
   h3_qpack_decoder_settings_default(&ds);
-  CHECK(!es.max_capacity && !es.max_blocked && es.capacity == 4096 && es.most_unacknowledged == 100);
+  CHECK(!es.max_capacity && !es.max_blocked && es.capacity == 16384 && es.most_unacknowledged == 100);
 #ifdef __wasm__
   CHECK(!es.seed && !others.seed);
 #else
@@ -620,6 +620,91 @@ static void compare_seeds(void) {
   }
 }
 
+/* Reads a section in pieces of random sizes, and holds its fields against the list. Returns what the last call did. */
+static h3_qpack_piece read_pieces(h3_qpack_section_reader *r, h3_qpack_decoder *d, const uint8_t *at, size_t len,
+                                  const list *l) {
+  static const size_t sizes[] = {1, 3, 40, 1000};
+  h3_qpack_piece piece = {H3_QPACK_OK, 0, 0, 0, 0};
+  size_t given = 0;
+  while (piece.status == H3_QPACK_OK) {
+    size_t part = random_below(sizes[random_below(4)] + 1);
+    if (part > len) part = len;
+    do {
+      piece = h3_qpack_section_reader_read(r, d, at, part, part == len);
+      at += piece.taken;
+      part -= piece.taken;
+      len -= piece.taken;
+      if (piece.status == H3_QPACK_FIELD) {
+        h3_qpack_field f = h3_qpack_section_reader_field(r, bytes, sizeof bytes);
+        const h3_qpack_nv *nv = &l->nv[given++];
+        CHECK(piece.taken && f.status == H3_QPACK_OK && f.namelen == nv->namelen && f.valuelen == nv->valuelen);
+        CHECK(!memcmp(bytes, nv->name, f.namelen) && !memcmp(bytes + f.namelen, nv->value, f.valuelen));
+        CHECK(f.flags == (nv->flags & H3_QPACK_NV_FLAG_NEVER_INDEX));
+        CHECK(f.namelen + f.valuelen == 0 ||
+              h3_qpack_section_reader_field(r, bytes, f.namelen + f.valuelen - 1).status == H3_QPACK_ERR_NO_ROOM);
+      }
+    } while (piece.status == H3_QPACK_FIELD);
+    CHECK(!part || piece.status == H3_QPACK_BLOCKED);
+  }
+  if (piece.status == H3_QPACK_END) CHECK(!len && given == l->len && !h3_qpack_section_reader_get_pending(r));
+  return piece;
+}
+
+/* Sections in pieces, beside the same sections whole: the fields, what waits, and the bytes of the decoder stream. */
+static void read_in_pieces(void) {
+  h3_qpack_encoder e;
+  h3_qpack_decoder d, whole;
+  h3_qpack_section_reader r, none = {NULL};
+  static uint8_t streams[2][1 << 12];
+  uint64_t ready;
+  CHECK(!new_encoder(&e, 4096, 100) && !new_decoder(&d, 4096, 100, 1 << 20) && !new_decoder(&whole, 4096, 100, 1 << 20));
+  for (size_t i = 0; i < nlists; i++) {
+    const list *l = &lists[i];
+    h3_qpack_encoded a = h3_qpack_encoder_encode(&e, i, l->nv, l->len, section, sizeof section);
+    CHECK(a.status == H3_QPACK_OK && !h3_qpack_section_reader_new(&r, i));
+    size_t len = h3_qpack_encoder_write_encoder(&e, stream, sizeof stream);
+    int is_late = a.required > h3_qpack_decoder_get_icnt(&d);
+    if (is_late) {
+      h3_qpack_piece piece = h3_qpack_section_reader_read(&r, &d, section, a.len, 1);
+      CHECK(piece.status == H3_QPACK_BLOCKED && piece.required == a.required && piece.taken <= 20);
+      CHECK(h3_qpack_decoder_get_num_blocked(&d) == 1 && !h3_qpack_decoder_next_ready(&d, &ready));
+      CHECK(h3_qpack_decoder_read_encoder(&d, stream, len).status == H3_QPACK_OK);
+      CHECK(h3_qpack_decoder_next_ready(&d, &ready) && ready == i);
+      piece = read_pieces(&r, &d, section + piece.taken, a.len - piece.taken, l);
+      CHECK(piece.status == H3_QPACK_END && piece.required == a.required);
+    } else {
+      CHECK(h3_qpack_decoder_read_encoder(&d, stream, len).status == H3_QPACK_OK);
+      CHECK(read_pieces(&r, &d, section, a.len, l).status == H3_QPACK_END);
+    }
+    CHECK(!h3_qpack_decoder_next_ready(&d, &ready));
+    CHECK(h3_qpack_decoder_read_encoder(&whole, stream, len).status == H3_QPACK_OK);
+    CHECK(h3_qpack_decoder_decode(&whole, i, section, a.len).status == H3_QPACK_OK);
+    h3_qpack_section_reader_del(&r);
+    len = h3_qpack_decoder_write_decoder(&d, streams[0], sizeof streams[0]);
+    CHECK(h3_qpack_decoder_write_decoder(&whole, streams[1], sizeof streams[1]) == len);
+    CHECK(!memcmp(streams[0], streams[1], len));
+    hear(&e, streams[0], len);
+  }
+  /* a stream that is given up, the first bytes of a section, and what is refused */
+  CHECK(!h3_qpack_section_reader_new(&r, 1));
+  CHECK(h3_qpack_section_reader_read(&r, &d, (const uint8_t *)"", 1, 0).taken == 1);
+  CHECK(h3_qpack_section_reader_get_pending(&r) == 1);
+  CHECK(h3_qpack_section_reader_field(&r, bytes, sizeof bytes).status == H3_QPACK_ERR_INVALID);
+  CHECK(h3_qpack_section_reader_read(&r, &d, NULL, 1, 0).status == H3_QPACK_ERR_INVALID);
+  CHECK(h3_qpack_section_reader_read(NULL, &d, NULL, 0, 0).status == H3_QPACK_ERR_INVALID);
+  CHECK(h3_qpack_section_reader_read(&r, NULL, NULL, 0, 0).status == H3_QPACK_ERR_INVALID);
+  CHECK(h3_qpack_section_reader_new(NULL, 0) == H3_QPACK_ERR_INVALID && !h3_qpack_section_reader_get_pending(&none));
+  CHECK(h3_qpack_section_reader_new(&none, (uint64_t)1 << 62) == H3_QPACK_ERR_INVALID && !none.at);
+  CHECK(h3_qpack_section_reader_read(&r, &d, NULL, 0, 1).status == H3_QPACK_DECOMPRESSION_FAILED);
+  CHECK(h3_qpack_section_reader_read(&r, &d, NULL, 0, 1).status == H3_QPACK_DECOMPRESSION_FAILED);
+  h3_qpack_section_reader_del(&r);
+  h3_qpack_section_reader_del(&r);
+  h3_qpack_section_reader_del(NULL);
+  h3_qpack_encoder_del(&e);
+  h3_qpack_decoder_del(&d);
+  h3_qpack_decoder_del(&whole);
+}
+
 int main(int argc, char **argv) {
   CHECK(argc == 2);
   read_corpus(argv[1], 0);
@@ -638,6 +723,7 @@ int main(int argc, char **argv) {
   wait_for_insertions();
   refuse_ready();
   tell_tables();
+  read_in_pieces();
   shrink_tables();
   pthread_t threads[2];
   int rounds = 20;

@@ -17,6 +17,8 @@ static void print_arguments(void) {
   FIELD(h3_qpack_encoder, at);
   SIZE(h3_qpack_decoder);
   FIELD(h3_qpack_decoder, at);
+  SIZE(h3_qpack_section_reader);
+  FIELD(h3_qpack_section_reader, at);
 }
 
 static void print_results(void) {
@@ -43,6 +45,20 @@ static void print_results(void) {
   FIELD(h3_qpack_prefix, required);
   FIELD(h3_qpack_prefix, base);
   FIELD(h3_qpack_prefix, len);
+  SIZE(h3_qpack_piece);
+  FIELD(h3_qpack_piece, status);
+  FIELD(h3_qpack_piece, taken);
+  FIELD(h3_qpack_piece, required);
+  FIELD(h3_qpack_piece, number);
+  FIELD(h3_qpack_piece, offset);
+  SIZE(h3_qpack_pieces);
+  FIELD(h3_qpack_pieces, status);
+  FIELD(h3_qpack_pieces, taken);
+  FIELD(h3_qpack_pieces, fields);
+  FIELD(h3_qpack_pieces, len);
+  FIELD(h3_qpack_pieces, required);
+  FIELD(h3_qpack_pieces, number);
+  FIELD(h3_qpack_pieces, offset);
   SIZE(h3_qpack_decoded_alone);
   FIELD(h3_qpack_decoded_alone, status);
   FIELD(h3_qpack_decoded_alone, fields);

@@ -21,6 +21,7 @@ NAMES = {
     "answers::Decoding": "h3_qpack_decoded",
     "answers::Encoded": "h3_qpack_encoded",
     "answers::Given": "h3_qpack_field",
+    "answers::Piece": "h3_qpack_piece",
     "answers::Prefixed": "h3_qpack_prefix",
     "answers::Received": "h3_qpack_received",
     "answers::Written": "h3_qpack_written",
@@ -29,6 +30,8 @@ NAMES = {
     "encoder::Handle": "h3_qpack_encoder",
     "encoder::slot::Slot": "h3_qpack_encoder",
     "fields::Field": "h3_qpack_nv",
+    "reader::Handle": "h3_qpack_section_reader",
+    "reader::slot::Slot": "h3_qpack_section_reader",
 }
 
 # Fields whose names in C are others.

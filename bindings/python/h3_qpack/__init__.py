@@ -41,6 +41,7 @@ from ._errors import (
 )
 from ._fields import Field, FieldLike, Wish
 from ._library import library_version
+from ._reader import Pieces, SectionReader
 from ._stateless import decode_stateless, encode_stateless
 
 __all__ = [
@@ -56,9 +57,11 @@ __all__ = [
     "FieldLike",
     "InvalidArgument",
     "OutOfMemory",
+    "Pieces",
     "Prefix",
     "QpackConnectionError",
     "QpackError",
+    "SectionReader",
     "SectionTooLarge",
     "SettingsError",
     "StreamBlocked",

@@ -1,8 +1,11 @@
 """Why a call failed."""
 
-from typing import Dict, Optional, Type
+from typing import TYPE_CHECKING, Dict, Optional, Sequence, Type
 
 from . import _library as lib
+
+if TYPE_CHECKING:
+    from ._fields import Field
 
 
 class QpackError(Exception):
@@ -63,12 +66,13 @@ class StreamBlocked(QpackError):
     """The section requires insertions that have not arrived.
 
     Keep the section, and decode it again when `Decoder.next_ready` returns its stream. `required` is its Required
-    Insert Count.
+    Insert Count. `taken` is, from `SectionReader.read`, how many bytes were read: keep those after them.
     """
 
-    def __init__(self, required: int) -> None:
+    def __init__(self, required: int, taken: int = 0) -> None:
         super().__init__(f"the section is blocked until insertion {required}: keep it until its stream is ready")
         self.required = required
+        self.taken = taken
 
 
 class SectionTooLarge(QpackError):
@@ -97,13 +101,15 @@ class InvalidArgument(QpackError, ValueError):
 class OutOfMemory(QpackError, MemoryError):
     """`malloc` or `realloc` failed. Repeat the call later.
 
-    `taken` is, from `receive`, how many bytes were read. Pass the rest later, even if it is empty. A MemoryError that is
-    not an OutOfMemory is Python's own: close the connection, since what the call returned is lost.
+    `taken` is, from `receive` and `SectionReader.read`, how many bytes were read. Pass the rest later, even if it is empty.
+    `fields` are, from the latter, those of the bytes that were read. A MemoryError that is not an OutOfMemory is Python's
+    own: close the connection, since what the call returned is lost.
     """
 
-    def __init__(self, taken: int = 0) -> None:
+    def __init__(self, taken: int = 0, fields: Sequence["Field"] = ()) -> None:
         super().__init__("out of memory: repeat the call later")
         self.taken = taken
+        self.fields = list(fields)
 
 
 class VersionMismatch(QpackError):
@@ -125,21 +131,26 @@ CODES: Dict[int, Type[QpackConnectionError]] = {
 }
 
 
-def check(status: int, range_text: str = "an argument is out of its range", result: Optional[object] = None) -> None:
-    """Raises the error of a status. `result` is the struct that has it, which may say more."""
+def check(
+    status: int,
+    range_text: str = "an argument is out of its range",
+    result: Optional[object] = None,
+    fields: Sequence["Field"] = (),
+) -> None:
+    """Raises the error of a status. `result` is the struct that has it, which may say more; `fields` came before it."""
     if status == lib.OK:
         return
     number, offset = getattr(result, "number", 0), getattr(result, "offset", 0)
     if status in CODES:
         raise CODES[status](number, offset)
     if status == lib.BLOCKED:
-        raise StreamBlocked(getattr(result, "required", 0))
+        raise StreamBlocked(getattr(result, "required", 0), getattr(result, "taken", 0))
     if status == lib.TOO_LARGE:
         raise SectionTooLarge(number)
     if status == lib.INVALID:
         raise InvalidArgument(range_text)
     if status == lib.NO_MEMORY:
-        raise OutOfMemory(getattr(result, "taken", 0))
+        raise OutOfMemory(getattr(result, "taken", 0), fields)
     if status == lib.HELD:
         raise EntriesHeld()
     if status == lib.VERSION_MISMATCH:

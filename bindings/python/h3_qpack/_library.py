@@ -19,6 +19,8 @@ INVALID = -4
 TOO_LARGE = -5
 HELD = -6
 VERSION_MISMATCH = -7
+FIELD = -8
+END_OF_SECTION = -9
 
 NEVER_INDEX = 0x01
 
@@ -74,8 +76,20 @@ class Decoded(ctypes.Structure):
     ]
 
 
+class Pieces(ctypes.Structure):
+    _fields_ = [
+        ("status", c_int32),
+        ("taken", c_size_t),
+        ("fields", c_size_t),
+        ("len", c_size_t),
+        ("required", c_size_t),
+        ("number", c_uint64),
+        ("offset", c_uint64),
+    ]
+
+
 class End(ctypes.Structure):
-    """An encoder or a decoder."""
+    """An encoder, a decoder, or a reader of sections in pieces."""
 
     _fields_ = [("at", c_void_p)]
 
@@ -140,6 +154,11 @@ FUNCTIONS: Dict[str, Tuple[Any, List[Any]]] = {
     "decoder_get_decoder_streamlen": (c_size_t, [END]),
     "decoder_write_decoder": (c_size_t, [END, *COPY]),
     "decoder_cancel_stream": (c_int, [END, c_uint64]),
+    "section_reader_new": (c_int, [END, c_uint64]),
+    "section_reader_del": (None, [END]),
+    "section_reader_read_all": (Pieces, [END, END, *BYTES, c_int, *PLACES, *COPY]),
+    "section_reader_field": (CopiedField, [END, *COPY]),
+    "section_reader_get_pending": (c_size_t, [END]),
     "encode_stateless": (Written, [*FIELDS, *COPY]),
     "decode_stateless": (DecodedAlone, [*BYTES, c_uint64, *PLACES, *COPY]),
 }

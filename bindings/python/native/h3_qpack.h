@@ -88,6 +88,8 @@ H3_QPACK_INLINE uint32_t h3_qpack_version(void);
 #define H3_QPACK_ERR_TOO_LARGE (-5) /* the section exceeds the limit on its size (RFC 9114, section 4.2.2) */
 #define H3_QPACK_ERR_HELD (-6)      /* the capacity would evict entries that may still be referenced (section 2.1.1) */
 #define H3_QPACK_ERR_VERSION (-7)   /* the program was compiled with a header that does not fit this library */
+#define H3_QPACK_FIELD (-8)         /* the next field of a section that comes in pieces */
+#define H3_QPACK_END (-9)           /* its end */
 
 /* ---- Fields */
 
@@ -160,10 +162,29 @@ typedef struct h3_qpack_decoded {
   uint64_t offset; /* the position of its first byte in the section, from 0; else 0 */
 } h3_qpack_decoded;
 
-/* ---- Encoder and decoder: only the calls read or write the pointer */
+typedef struct h3_qpack_piece {
+  int32_t status;
+  size_t taken;    /* the bytes that were read: pass those after them next */
+  size_t required; /* the section's Required Insert Count, with H3_QPACK_BLOCKED and with H3_QPACK_END */
+  uint64_t number; /* the number of the field line at which decoding failed, from 1; else 0 */
+  uint64_t offset; /* the position of its first byte in the section, from 0; else 0 */
+} h3_qpack_piece;
+
+typedef struct h3_qpack_pieces {
+  int32_t status;
+  size_t taken;    /* as in h3_qpack_piece */
+  size_t fields;   /* the number of fields that were copied */
+  size_t len;      /* the length of their names and values, in bytes */
+  size_t required; /* as in h3_qpack_piece, and so are those below */
+  uint64_t number;
+  uint64_t offset;
+} h3_qpack_pieces;
+
+/* ---- Encoder, decoder and reader: only the calls read or write the pointer */
 
 typedef struct h3_qpack_encoder { void *at; } h3_qpack_encoder;
 typedef struct h3_qpack_decoder { void *at; } h3_qpack_decoder;
+typedef struct h3_qpack_section_reader { void *at; } h3_qpack_section_reader;
 
 /* ---- Settings. A later minor version may add fields at the end, so fill them with _settings_default first. */
 
@@ -188,7 +209,7 @@ typedef struct h3_qpack_decoder_settings {
 /* ---- The encoder */
 
 /* Stores the defaults in |settings|: |max_capacity| 0 and |max_blocked| 0, which are those of a peer that sends no such
- * settings, |capacity| 4,096, |most_unacknowledged| 100, and as |seed| a random number of the system's. That is 0 where the
+ * settings, |capacity| 16,384, |most_unacknowledged| 100, and as |seed| a random number of the system's. That is 0 where the
  * system has none, as in WebAssembly. Does nothing if |settings| is NULL.
  *
  * Bindings call h3_qpack_encoder_settings_default_versioned, with the H3_QPACK_VERSION that their struct is of. It does
@@ -476,6 +497,65 @@ H3_QPACK_INLINE size_t h3_qpack_decoder_write_decoder(h3_qpack_decoder *decoder,
  *   H3_QPACK_DECOMPRESSION_FAILED, H3_QPACK_ENCODER_STREAM_ERROR  another call returned it before. */
 H3_QPACK_INLINE int h3_qpack_decoder_cancel_stream(h3_qpack_decoder *decoder, uint64_t stream_id);
 
+/* ---- Sections in pieces, each field as soon as it is whole */
+
+/* Makes a reader of the field sections of the stream |stream_id|, below 2^62, and stores it in |reader|. Make one for each
+ * stream that passes sections in pieces, and free it with h3_qpack_section_reader_del.
+ *
+ * Returns H3_QPACK_OK or an error, with which |reader| needs no _del:
+ *   H3_QPACK_ERR_NO_MEMORY  call it again later.
+ *   H3_QPACK_ERR_INVALID    |stream_id| is 2^62 or more. */
+H3_QPACK_INLINE int h3_qpack_section_reader_new(h3_qpack_section_reader *reader, uint64_t stream_id);
+
+/* Frees a reader. Does nothing if it is NULL or already freed. To give up a section, call h3_qpack_decoder_cancel_stream
+ * too. */
+H3_QPACK_INLINE void h3_qpack_section_reader_del(h3_qpack_section_reader *reader);
+
+/* Reads the next bytes of a field section, |srclen| of them at |src|, up to its next field. They continue those of earlier
+ * calls, and may be cut anywhere. If |fin| is not 0, the section ends with them. Pass the same |decoder| each time. A
+ * reader keeps at most h3_qpack_longest_section(max_section_size) bytes.
+ *
+ * Returns how many bytes it read, with a status:
+ *   H3_QPACK_OK                    all of them. Call it with the next bytes.
+ *   H3_QPACK_FIELD                 the bytes up to the end of a field. Get it from h3_qpack_section_reader_field, and
+ *                                  call this again with the bytes after them, even if none are left.
+ *   H3_QPACK_BLOCKED               the section waits. Keep the bytes that are left, and call it with them when
+ *                                  h3_qpack_decoder_next_ready returns the stream (section 2.2.1).
+ *   H3_QPACK_END                   all, and the section is over. The reader is at the start of the stream's next section.
+ *   H3_QPACK_ERR_TOO_LARGE         as for h3_qpack_decoder_decode.
+ *   H3_QPACK_ERR_NO_MEMORY         call it again later with the bytes that are left.
+ *   H3_QPACK_ERR_INVALID           a pointer is NULL, and its length is not 0.
+ *   H3_QPACK_DECOMPRESSION_FAILED  as for h3_qpack_decoder_decode.
+ *   H3_QPACK_ENCODER_STREAM_ERROR  h3_qpack_decoder_read_encoder returned it before. */
+H3_QPACK_INLINE h3_qpack_piece h3_qpack_section_reader_read(h3_qpack_section_reader *reader, h3_qpack_decoder *decoder,
+                                                            const uint8_t *src, size_t srclen, int fin);
+
+/* Copies the field of the last h3_qpack_section_reader_read to |out|, which has |outlen| bytes: its name, and directly
+ * after it its value.
+ *
+ * Returns both lengths and the flags, with a status:
+ *   H3_QPACK_OK
+ *   H3_QPACK_ERR_NO_ROOM  |outlen| is less than both lengths together: nothing was written.
+ *   H3_QPACK_ERR_INVALID  that call did not return H3_QPACK_FIELD. */
+H3_QPACK_INLINE h3_qpack_field h3_qpack_section_reader_field(h3_qpack_section_reader *reader, uint8_t *out,
+                                                             size_t outlen);
+
+/* Reads the next bytes of a field section as h3_qpack_section_reader_read does, and copies all fields that they give, as
+ * h3_qpack_decoder_fields does: for a language in which a call of C costs much.
+ *
+ * Returns how many bytes it read and fields it copied, with a status of h3_qpack_section_reader_read, or:
+ *   H3_QPACK_FIELD        |fields| is full. Call it again with the bytes that are left, even if none are.
+ *   H3_QPACK_ERR_NO_ROOM  |outlen| is too small for the next field, which was read. Get it from
+ *                         h3_qpack_section_reader_field, and call this again with the bytes that are left.
+ * With an error the fields before it were copied too. */
+H3_QPACK_INLINE h3_qpack_pieces h3_qpack_section_reader_read_all(h3_qpack_section_reader *reader,
+                                                                 h3_qpack_decoder *decoder, const uint8_t *src,
+                                                                 size_t srclen, int fin, h3_qpack_field *fields,
+                                                                 size_t fieldslen, uint8_t *out, size_t outlen);
+
+/* Returns how many bytes a reader keeps: of a prefix or of a field line that is not whole. */
+H3_QPACK_INLINE size_t h3_qpack_section_reader_get_pending(h3_qpack_section_reader *reader);
+
 /* ---- Sections that use the static table alone, without an encoder or a decoder */
 
 /* Encodes the fields of |nva|, |nvlen| of them, and writes the section to |section|, which has |sectionlen| bytes
@@ -557,6 +637,12 @@ H3_QPACK_CALL uint32_t h3q_decoder_next_ready(h3_qpack_decoder *decoder, uint64_
 H3_QPACK_CALL size_t h3q_decoder_stream(h3_qpack_decoder *decoder, uint8_t *out, size_t outlen);
 H3_QPACK_CALL size_t h3q_decoder_stream_len(h3_qpack_decoder *decoder);
 H3_QPACK_CALL int32_t h3q_decoder_cancel(h3_qpack_decoder *decoder, uint64_t stream_id);
+H3_QPACK_CALL h3_qpack_piece h3q_decoder_read_section(h3_qpack_decoder *decoder, h3_qpack_section_reader *reader,
+                                                      const uint8_t *src, size_t srclen, uint32_t fin);
+H3_QPACK_CALL int32_t h3q_reader_new(uint64_t stream_id, void **at);
+H3_QPACK_CALL void h3q_reader_free(h3_qpack_section_reader reader);
+H3_QPACK_CALL h3_qpack_field h3q_reader_field(h3_qpack_section_reader *reader, uint8_t *out, size_t outlen);
+H3_QPACK_CALL size_t h3q_reader_waiting(h3_qpack_section_reader *reader);
 H3_QPACK_CALL h3_qpack_written h3q_encode_stateless(const h3_qpack_nv *nva, size_t nvlen, uint8_t *section,
                                                     size_t sectionlen);
 H3_QPACK_CALL h3_qpack_decoded_alone h3q_decode_stateless(const uint8_t *src, size_t srclen, uint64_t max_section_size,
@@ -567,6 +653,7 @@ H3_QPACK_CALL h3_qpack_decoded_alone h3q_decode_stateless(const uint8_t *src, si
  * passed: the two calls pass a copy without NULL, from malloc. */
 
 enum { H3Q_NO_FIELDS, H3Q_FIELDS, H3Q_HAVE_NULL };
+enum { H3Q_PREFIX = -10 }; /* a status of h3q_decoder_read_section alone: call it again */
 H3_QPACK_INLINE int h3q_are_fields(const h3_qpack_nv *nva, size_t nvlen);
 h3_qpack_encoded h3q_encode_copy(h3_qpack_encoder *encoder, uint64_t stream_id, const h3_qpack_nv *nva, size_t nvlen,
                                  uint8_t *section, size_t sectionlen);
@@ -777,6 +864,70 @@ H3_QPACK_INLINE size_t h3_qpack_decoder_write_decoder(h3_qpack_decoder *decoder,
 
 H3_QPACK_INLINE int h3_qpack_decoder_cancel_stream(h3_qpack_decoder *decoder, uint64_t stream_id) {
   return H3Q_IS_END(decoder) ? h3q_decoder_cancel(decoder, stream_id) : H3_QPACK_ERR_INVALID;
+}
+
+H3_QPACK_INLINE int h3_qpack_section_reader_new(h3_qpack_section_reader *reader, uint64_t stream_id) {
+  if (!reader) return H3_QPACK_ERR_INVALID;
+  reader->at = NULL;
+  return h3q_reader_new(stream_id, &reader->at);
+}
+
+H3_QPACK_INLINE void h3_qpack_section_reader_del(h3_qpack_section_reader *reader) {
+  if (H3Q_IS_END(reader)) {
+    h3q_reader_free(*reader);
+    reader->at = NULL;
+  }
+}
+
+H3_QPACK_INLINE h3_qpack_piece h3_qpack_section_reader_read(h3_qpack_section_reader *reader, h3_qpack_decoder *decoder,
+                                                            const uint8_t *src, size_t srclen, int fin) {
+  h3_qpack_piece piece = {H3_QPACK_ERR_INVALID, 0, 0, 0, 0};
+  size_t taken = 0;
+  if (!H3Q_IS_END(reader) || !H3Q_IS_END(decoder) || !H3Q_IS_MEMORY(src, srclen)) return piece;
+  do { /* again after the prefix */
+    piece = h3q_decoder_read_section(decoder, reader, H3Q_LEND(const uint8_t, src) + taken, srclen - taken, fin != 0);
+    piece.taken = taken += piece.taken;
+  } while (piece.status == H3Q_PREFIX);
+  return piece;
+}
+
+H3_QPACK_INLINE h3_qpack_field h3_qpack_section_reader_field(h3_qpack_section_reader *reader, uint8_t *out,
+                                                             size_t outlen) {
+  h3_qpack_field invalid = {H3_QPACK_ERR_INVALID, 0, 0, 0};
+  if (!H3Q_IS_END(reader) || !H3Q_IS_MEMORY(out, outlen)) return invalid;
+  return h3q_reader_field(reader, H3Q_LEND(uint8_t, out), outlen);
+}
+
+H3_QPACK_INLINE h3_qpack_pieces h3_qpack_section_reader_read_all(h3_qpack_section_reader *reader,
+                                                                 h3_qpack_decoder *decoder, const uint8_t *src,
+                                                                 size_t srclen, int fin, h3_qpack_field *fields,
+                                                                 size_t fieldslen, uint8_t *out, size_t outlen) {
+  h3_qpack_pieces all = {H3_QPACK_ERR_INVALID, 0, 0, 0, 0, 0, 0};
+  h3_qpack_piece piece;
+  h3_qpack_field field;
+  if (!H3Q_IS_MEMORY(src, srclen) || !H3Q_ARE_PLACES(fields, fieldslen) || !H3Q_IS_MEMORY(out, outlen)) return all;
+  src = H3Q_LEND(const uint8_t, src);
+  out = H3Q_LEND(uint8_t, out);
+  for (;;) {
+    all.status = H3_QPACK_FIELD;
+    if (all.fields == fieldslen) return all;
+    piece = h3_qpack_section_reader_read(reader, decoder, src + all.taken, srclen - all.taken, fin);
+    all.status = piece.status;
+    all.taken += piece.taken;
+    all.required = piece.required;
+    all.number = piece.number;
+    all.offset = piece.offset;
+    if (piece.status != H3_QPACK_FIELD) return all;
+    field = h3_qpack_section_reader_field(reader, out + all.len, outlen - all.len);
+    all.status = field.status;
+    if (field.status) return all;
+    fields[all.fields++] = field;
+    all.len += field.namelen + field.valuelen;
+  }
+}
+
+H3_QPACK_INLINE size_t h3_qpack_section_reader_get_pending(h3_qpack_section_reader *reader) {
+  return H3Q_IS_END(reader) ? h3q_reader_waiting(reader) : 0;
 }
 
 H3_QPACK_INLINE h3_qpack_written h3_qpack_encode_stateless(const h3_qpack_nv *nva, size_t nvlen, uint8_t *section,

@@ -24,6 +24,7 @@ from h3_qpack import (
     Prefix,
     QpackConnectionError,
     QpackError,
+    SectionReader,
     SectionTooLarge,
     SettingsError,
     StreamBlocked,
@@ -388,6 +389,41 @@ class EndsTest(unittest.TestCase):
 
     def test_the_version(self) -> None:
         self.assertEqual(library_version(), (0, 2))
+
+    def read_pieces(self, reader: SectionReader, decoder: Decoder, section: bytes, size: int) -> List[Field]:
+        """Reads a section in pieces of a size."""
+        fields: List[Field] = []
+        for at in range(0, max(len(section), 1), size):
+            last = at + size >= len(section)
+            pieces = reader.read(decoder, section[at : at + size], last)
+            fields += pieces.fields
+            self.assertEqual(pieces.ended, last)
+        self.assertEqual(reader.pending, 0)
+        return fields
+
+    def test_sections_in_pieces(self) -> None:
+        fields = [*REQUEST, Field(b"x-long", b"v" * 5000), *[Field(b"x", b"y")] * 70]
+        for size in 1, 7, 65536:
+            encoder, decoder = self.pair()
+            for stream_id in 0, 4, 8:
+                with SectionReader(stream_id) as reader:
+                    section, required = encoder.encode(stream_id, fields)[:2]
+                    if required > decoder.insert_count:
+                        with self.assertRaises(StreamBlocked) as blocked:
+                            reader.read(decoder, section)
+                        self.assertEqual((blocked.exception.required, decoder.blocked), (required, 1))
+                        section = section[blocked.exception.taken :]
+                    decoder.receive(encoder.take_encoder_stream())
+                    self.assertEqual(self.read_pieces(reader, decoder, section, size), fields)
+                    encoder.receive(decoder.take_decoder_stream())
+                self.assertTrue(reader.closed)
+                self.refused(EndClosed, reader.read, decoder, b"")
+        self.refused(InvalidArgument, SectionReader, 1 << 62)
+        with Decoder() as decoder, SectionReader(0) as reader:
+            self.assertEqual(reader.read(decoder, b"\x00").fields, [])
+            self.assertEqual(reader.pending, 1)
+            refusal = self.refused(DecompressionFailed, reader.read, decoder, b"\x00\xd1\xff", True)
+            self.assertEqual((refusal.number, refusal.offset), (2, 3))
 
 
 if __name__ == "__main__":

@@ -17,6 +17,7 @@ STRUCTS: Dict[str, Type[ctypes.Structure]] = {
     "nv": _library.Nv,
     "encoder": _library.End,
     "decoder": _library.End,
+    "section_reader": _library.End,
     "field": _library.CopiedField,
     "encoded": _library.Encoded,
     "written": _library.Written,
@@ -24,9 +25,12 @@ STRUCTS: Dict[str, Type[ctypes.Structure]] = {
     "prefix": _library.Prefix,
     "decoded_alone": _library.DecodedAlone,
     "decoded": _library.Decoded,
+    "pieces": _library.Pieces,
     "encoder_settings": _library.EncoderSettings,
     "decoder_settings": _library.DecoderSettings,
 }
+# That of a call which Python does not use.
+UNUSED = "h3_qpack_piece"
 
 
 def import_with(library: str) -> str:
@@ -43,6 +47,8 @@ class LibraryTest(unittest.TestCase):
     def test_the_layout_of_the_structs(self) -> None:
         rows = [line.split() for line in LAYOUT.read_text().splitlines()]
         for name, field, offset, size in rows:
+            if name == UNUSED:
+                continue
             struct = STRUCTS[name[len("h3_qpack_") :]]
             if field == "-":
                 self.assertEqual(ctypes.sizeof(struct), int(size), name)

@@ -4,9 +4,12 @@ pub mod Crossing
 pub mod Lowering
 pub mod Encoding
 pub mod Decoding
+pub mod Pieces
 pub mod Alone
 pub mod Tables
 pub mod EncoderSlots
 pub mod DecoderSlots
+pub mod ReaderSlots
 pub mod EncoderFollows
 pub mod DecoderFollows
+pub mod ReaderFollows

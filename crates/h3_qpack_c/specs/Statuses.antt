@@ -39,6 +39,16 @@ too_large = negsuc 4
 abbrev pub held : ℤ
 held = negsuc 5
 
+-- of a section that comes in pieces: its next field, its end, and its prefix, after which the call is made again
+abbrev pub gives_field : ℤ
+gives_field = negsuc 7
+
+abbrev pub ends : ℤ
+ends = negsuc 8
+
+abbrev pub begins : ℤ
+begins = negsuc 9
+
 -- the status of an error of an encoding end
 abbrev pub of_encoding : EncodingError → ℤ
 of_encoding (DecoderStream e) = pos 0x202

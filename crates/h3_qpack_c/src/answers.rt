@@ -53,6 +53,21 @@ pub struct Decoding {
     pub offset: u64,
 }
 
+/// The result of reading a piece of a section.
+#[repr(C)]
+#[derive(Drop)]
+pub struct Piece {
+    pub status: i32,
+    /// How many of the bytes were consumed.
+    pub taken: usize,
+    /// The required insert count, of a section that begins, waits or ends.
+    pub required: usize,
+    /// Where a line was rejected: its number in the section, from 1, else 0.
+    pub number: u64,
+    /// And where it begins, in bytes from the section's start.
+    pub offset: u64,
+}
+
 /// The result of reading the prefix of a section.
 #[repr(C)]
 #[derive(Drop)]

@@ -25,6 +25,7 @@ use std::alloc::Global;
 use std::marker::Model;
 
 mod lend;
+mod pieces;
 mod slot;
 mod table;
 

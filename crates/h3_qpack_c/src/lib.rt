@@ -8,6 +8,7 @@ mod answers;
 mod decoder;
 mod encoder;
 mod fields;
+mod reader;
 mod stateless;
 mod statuses;
 mod tables;

@@ -27,6 +27,15 @@ pub(crate) const TOO_LARGE: i32 = -5;
 /// The capacity would evict entries that may still be referenced; nothing was done.
 pub(crate) const HELD: i32 = -6;
 
+/// The next field of a section that comes in pieces.
+pub(crate) const FIELD: i32 = -8;
+
+/// The end of a section that comes in pieces.
+pub(crate) const ENDS: i32 = -9;
+
+/// The prefix of a section that comes in pieces; the call is to be made again.
+pub(crate) const PREFIX: i32 = -10;
+
 /// QPACK_DECOMPRESSION_FAILED (RFC 9204, section 6).
 pub(crate) const DECOMPRESSION_FAILED: i32 = 0x200;
 

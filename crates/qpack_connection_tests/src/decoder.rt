@@ -5,8 +5,10 @@ use crate::answers::{
 };
 use h3_qpack::coding::Cursor;
 use h3_qpack::stream::{DecoderLine, HeaderAck, InsertCountIncrement, StreamCancel, next_line};
-use qpack_ends::decoder::{ConnectionDecoder, DecoderSettings};
-use qpack_ends::{FieldSection, Reading};
+use qpack_ends::decoder::{ConnectionDecoder, DecoderSettings, DecodingError};
+use qpack_ends::{
+    FieldLine, FieldSection, Progress, Reading, SectionError, SectionReader, read_section,
+};
 use qpack_testing::cases::{Call, Subject};
 
 /// A decoding end, and the fields that it decoded last.
@@ -99,6 +101,49 @@ impl Decoder {
                 show_refusal(call, &error);
             }
         }
+    }
+
+    /// Reads a section under the table, and neither counts nor acknowledges it.
+    pub(crate) fn read_whole(
+        &mut self,
+        section: &[u8],
+        call: &mut Call<'_>,
+    ) -> Result<Reading, SectionError> {
+        let limit = self.end.settings().max_section_size;
+        let read = read_section(self.end.table(), section, limit, &mut self.fields);
+        note_memory(call, &read);
+        read
+    }
+
+    /// Reads a piece of a section.
+    pub(crate) fn read_piece(
+        &mut self,
+        reader: &mut SectionReader,
+        buf: &mut Cursor,
+        last: bool,
+        fields: &mut FieldSection,
+    ) -> Result<Progress, DecodingError> {
+        self.end.read(reader, buf, last, fields)
+    }
+
+    /// The size of pieces.
+    pub(crate) fn size(&self) -> usize {
+        self.size
+    }
+
+    /// The field of the section that was read last, at an index.
+    pub(crate) fn whole_field(&self, index: usize) -> Option<FieldLine<'_>> {
+        self.fields.get(index)
+    }
+
+    /// How many fields it has.
+    pub(crate) fn whole_len(&self) -> usize {
+        self.fields.len()
+    }
+
+    /// Appends what it was read as.
+    pub(crate) fn show_whole(&self, reading: Reading, call: &mut Call<'_>) {
+        self.show_decoded(reading, call);
     }
 
     /// Appends what a section was decoded to.

@@ -9,6 +9,7 @@ mod decoder;
 mod decoder_stream;
 mod encoder;
 mod encoder_stream;
+mod pieces;
 mod sections;
 
 use anyhow::Result;
@@ -18,11 +19,12 @@ use decoder::Decoder;
 use decoder_stream::Hearing;
 use encoder::Encoder;
 use encoder_stream::Receiving;
+use pieces::Pieces;
 use qpack_testing::cases::{Kinds, Run, answer_calls, hold, hold_files};
 use sections::Sections;
 
 /// The files of cases.
-const FILES: [&str; 14] = [
+const FILES: [&str; 15] = [
     "integers.txt",
     "literals.txt",
     "recorded_texts.txt",
@@ -35,6 +37,7 @@ const FILES: [&str; 14] = [
     "decoder_stream.txt",
     "encoder_stream.txt",
     "sections.txt",
+    "pieces.txt",
     "recordings.txt",
     "calls.txt",
 ];
@@ -49,6 +52,7 @@ impl Kinds for Ends {
             "encoder" => hold::<Encoder>(run),
             "decoder-stream" => hold::<Hearing>(run),
             "encoder-stream" => hold::<Receiving>(run),
+            "pieces" => hold::<Pieces>(run),
             "sections" => hold::<Sections>(run),
             "bytes" => hold::<Bytes>(run),
             "calls" => hold::<Calls>(run),

@@ -24,3 +24,10 @@ pub mod SentBytes
 pub mod SpansInTurn
 pub mod NoFields
 pub mod AskingToReceive
+pub mod MissingCode
+pub mod MissingBytes
+pub mod MissingParts
+pub mod PieceParts
+pub mod PieceAnswers
+pub mod PieceSteps
+pub mod OneField

@@ -2,11 +2,15 @@ pub mod FieldSections
 pub mod Lines
 pub mod Sections
 pub mod SectionPrefixes
+pub mod Missing
+pub mod Pieces
 pub mod Receiving
 pub mod Places
 pub mod Blocked
 pub mod Risk
 pub mod Decoders
+pub mod PieceDecoders
+pub mod PieceLaws
 pub mod Hearing
 pub mod Encoders
 pub mod Wishes

@@ -32,6 +32,8 @@ use std::alloc::Global;
 use std::marker::Model;
 use thiserror::Error;
 
+mod reading;
+
 /// What a decoding end sends as its settings (RFC 9204, section 5, and RFC 9114, section 7.2.4.1).
 #[derive(Clone, Copy, Debug, PartialEq, Eq, Drop)]
 pub struct DecoderSettings {

@@ -9,11 +9,12 @@ ghost use Rattle.qpack_base.specs.HeaderFields.{line_of};
 ghost use Rattle.qpack_ends.specs.FieldSections.{IsWithin, GrowsTo, GrowsWithin, LacksRoomWithin, text_of};
 ghost use Rattle.qpack_ends.specs.FieldSections.{field_at as field_of_span, start_of as start_of_span};
 ghost use Rattle.qpack_ends.specs.Lines.{under};
+ghost use Rattle.qpack_ends.specs.Pieces.{ReadsOneLine, line_at};
 ghost use Rattle.qpack_ends.specs.Sections.{ReadsLines};
 ghost use Rattle.qpack_ends.specs.declared.section.SectionError.TheVariants.{Memory};
 
 use crate::room::shrink_within;
-use crate::section::{Lines, SectionError, read_lines};
+use crate::section::{LineError, Lines, SectionError, read_line, read_lines};
 use qpack_base::coding::Cursor;
 use qpack_base::field::{ESTIMATED_OVERHEAD_BYTES, FieldLine};
 use qpack_base::stored_field::StoredField;
@@ -186,6 +187,28 @@ impl FieldSection {
     {
         self.text.clear();
         read_lines(lines, buf, &mut self.text, &mut self.spans)
+    }
+
+    /// Reads the line at the cursor into a field section without fields, the sizes before it having this sum. Returns the
+    /// sum with its field.
+    pub(crate) fn read_line<I: EntryIndex, F: StoredField>(
+        &mut self,
+        lines: &Lines<I, F>,
+        sum: u64,
+        buf: &mut Cursor,
+    ) -> Result<u64, LineError>
+        requires none { self.old.fields ≡ [] }
+        requires some { 0 < length buf.old.rest }
+        ensures exact { ReadsOneLine buf.old buf.new self.new.fields sum result
+            (line_at (under lines.now 0) sum buf.old.rest) }
+        ensures room { GrowsWithin lines.now.limit self.old self.new }
+    {
+        self.text.clear();
+        self.spans.clear();
+        let Some(first) = buf.chunk().first() else {
+            unreachable!()
+        };
+        read_line(lines, *first, sum, buf, &mut self.text, &mut self.spans)
     }
 }
 

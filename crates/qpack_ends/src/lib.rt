@@ -23,6 +23,7 @@ pub use field_section::{FieldSection, Fields};
 pub use qpack_base::coding::Cursor;
 pub use qpack_base::field::FieldLine;
 pub use qpack_codec::encoder::{AsField, Wish, WishedField};
+pub use section::reader::{Progress, SectionReader};
 pub use section::{
     DECOMPRESSION_FAILED, LineError, Reading, SectionError, SectionPrefix, longest_section,
     read_prefix, read_section,

@@ -15,7 +15,7 @@ ghost use Rattle.qpack_ends.specs.SectionPrefixes.{strict_numbers, strict_prefix
 ghost use Rattle.qpack_ends.specs.declared.section.SectionError.TheVariants.{Memory};
 
 use crate::field_section::FieldSection;
-use qpack_base::coding::Cursor;
+use qpack_base::coding::{Cursor, NoMemory};
 use qpack_base::parse_error::ParseError;
 use qpack_base::stored_field::StoredField;
 use qpack_codec::DecoderError;
@@ -24,8 +24,10 @@ use qpack_wire::block::HeaderPrefix;
 use thiserror::Error;
 
 mod lines;
+mod missing;
+pub mod reader;
 
-pub(crate) use crate::section::lines::{Lines, read_lines};
+pub(crate) use crate::section::lines::{Lines, at_line, read_line, read_lines};
 
 /// The result of reading a section.
 #[derive(Clone, Copy, Debug, PartialEq, Eq)]
@@ -149,6 +151,14 @@ impl From<ParseError> for SectionError {
             DecoderError::Memory => SectionError::Memory,
             e => SectionError::Prefix(e),
         }
+    }
+}
+
+impl From<NoMemory> for SectionError {
+    ghost from_gives = { λ _ r. r ≡ Memory };
+
+    fn from(_e: NoMemory) -> SectionError {
+        SectionError::Memory
     }
 }
 

@@ -34,6 +34,7 @@ mod decoder;
 mod encoder;
 mod entries;
 mod error;
+mod reader;
 
 pub use crate::copied::Fields;
 pub use crate::field::{FieldLine, Wish, WishedField};
@@ -44,6 +45,7 @@ pub use error::{
     DecodingError, EncodingError, NoMemory, Place, SettingsError, H3_SETTINGS_ERROR, QPACK_DECODER_STREAM_ERROR,
     QPACK_DECOMPRESSION_FAILED, QPACK_ENCODER_STREAM_ERROR,
 };
+pub use reader::{Progress, SectionReader};
 
 pub(crate) use error::DECOMPRESSION_FAILED;
 

@@ -29,6 +29,13 @@ pub(crate) const TOO_LARGE: i32 = -5;
 /// Entries would have to go that may still be referenced.
 pub(crate) const HELD: i32 = -6;
 
+/// The next field of a section in pieces.
+pub(crate) const FIELD: i32 = -8;
+/// The end of a section in pieces.
+pub(crate) const END: i32 = -9;
+/// The prefix of a section in pieces; the call is to be made again.
+const PREFIX: i32 = -10;
+
 /// The flag of a field that is never to be indexed.
 const NEVER_INDEX: u8 = 0x01;
 
@@ -121,6 +128,16 @@ pub(crate) struct Prefixed {
     pub(crate) len: usize,
 }
 
+/// What reading a piece of a section answers: `h3_qpack_piece`.
+#[repr(C)]
+pub(crate) struct Piece {
+    pub(crate) status: i32,
+    pub(crate) taken: usize,
+    pub(crate) required: usize,
+    pub(crate) number: u64,
+    pub(crate) offset: u64,
+}
+
 /// What decoding without an end answers: `h3_qpack_decoded_alone`.
 #[repr(C)]
 pub(crate) struct DecodedAlone {
@@ -148,7 +165,7 @@ impl Given {
     }
 }
 
-/// `h3_qpack_encoder` and `h3_qpack_decoder`, which are alike.
+/// `h3_qpack_encoder`, `h3_qpack_decoder` and `h3_qpack_section_reader`, which are alike.
 #[repr(C)]
 #[derive(Clone, Copy)]
 struct Handle {
@@ -234,6 +251,17 @@ declare! {
     fn h3q_decoder_stream(decoder: *mut Handle, out: *mut u8, out_len: usize) -> usize;
     fn h3q_decoder_stream_len(decoder: *mut Handle) -> usize;
     fn h3q_decoder_cancel(decoder: *mut Handle, stream_id: u64) -> i32;
+    fn h3q_decoder_read_section(
+        decoder: *mut Handle,
+        reader: *mut Handle,
+        bytes: *const u8,
+        bytes_len: usize,
+        last: u32,
+    ) -> Piece;
+    fn h3q_reader_new(stream_id: u64, at: *mut *mut c_void) -> i32;
+    fn h3q_reader_free(reader: Handle);
+    fn h3q_reader_field(reader: *mut Handle, out: *mut u8, out_len: usize) -> Given;
+    fn h3q_reader_waiting(reader: *mut Handle) -> usize;
     fn h3q_encode_stateless(
         fields: *const Lent<'_>,
         fields_len: usize,
@@ -623,9 +651,71 @@ impl Drop for Decoder {
     }
 }
 
+/// A reader of a stream's sections in pieces. Its cell makes it no `Sync`, as an end's does.
+pub(crate) struct Reader {
+    handle: UnsafeCell<Handle>,
+}
+
+// SAFETY: as for `Encoder`.
+unsafe impl Send for Reader {}
+
+impl Reader {
+    /// Makes a reader, or returns the status of the error.
+    pub(crate) fn new(stream_id: u64) -> Result<Reader, i32> {
+        let mut at = ptr::null_mut();
+        // SAFETY: `at` is there for the call, which writes to it.
+        match unsafe { h3q_reader_new(stream_id, &mut at) } {
+            OK => Ok(Reader { handle: UnsafeCell::new(Handle { at }) }),
+            status => Err(status),
+        }
+    }
+
+    /// Reads bytes of a section up to its next field.
+    pub(crate) fn read(&mut self, decoder: &mut Decoder, bytes: &[u8], last: bool) -> Piece {
+        let mut taken = 0;
+        loop {
+            let rest = &bytes[taken..];
+            let (end, handle) = (decoder.handle.get_mut(), self.handle.get_mut());
+            // SAFETY: the end and the reader are those that their `new` made, and the bytes are lent for the length of
+            // the call.
+            let piece = unsafe { h3q_decoder_read_section(end, handle, rest.as_ptr(), rest.len(), u32::from(last)) };
+            taken += piece.taken;
+            if piece.status != PREFIX {
+                return Piece { taken, ..piece };
+            }
+        }
+    }
+
+    /// Writes the field that was read last to the spare room of a vector, if it fits.
+    pub(crate) fn field(&mut self, bytes: &mut Vec<u8>) -> Given {
+        let (room, room_len) = room_of(bytes);
+        // SAFETY: the reader is one that `new` made; the room is lent for the length of the call. At status OK the call
+        // wrote both lengths to the room.
+        unsafe {
+            let given = h3q_reader_field(self.handle.get_mut(), room, room_len);
+            take_given(bytes, &given);
+            given
+        }
+    }
+
+    /// Returns how many bytes it keeps.
+    pub(crate) fn waiting(&self) -> usize {
+        // SAFETY: the reader is one that `new` made; it is no `Sync`, so no other call has it, and this one keeps it as it
+        // is.
+        unsafe { h3q_reader_waiting(self.handle.get()) }
+    }
+}
+
+impl Drop for Reader {
+    fn drop(&mut self) {
+        // SAFETY: the reader is one that `new` made, and nothing can use it behind its `drop`.
+        unsafe { h3q_reader_free(*self.handle.get_mut()) }
+    }
+}
+
 #[cfg(test)]
 mod tests {
-    use super::{Decoded, DecodedAlone, Encoded, Given, Handle, Lent, Prefixed, Received, Written, OK};
+    use super::{Decoded, DecodedAlone, Encoded, Given, Handle, Lent, Piece, Prefixed, Received, Written, OK};
     use crate::field::Wish;
     use alloc::format;
     use alloc::vec;
@@ -664,6 +754,7 @@ mod tests {
         );
         assert_laid_out!("h3_qpack_encoder", Handle { at: ptr::null_mut() }, at is "at");
         assert_laid_out!("h3_qpack_decoder", Handle { at: ptr::null_mut() }, at is "at");
+        assert_laid_out!("h3_qpack_section_reader", Handle { at: ptr::null_mut() }, at is "at");
     }
 
     #[test]
@@ -689,6 +780,10 @@ mod tests {
         assert_laid_out!(
             "h3_qpack_prefix", Prefixed { status: OK, required: 0, base: 0, len: 0 },
             status is "status", required is "required", base is "base", len is "len"
+        );
+        assert_laid_out!(
+            "h3_qpack_piece", Piece { status: OK, taken: 0, required: 0, number: 0, offset: 0 },
+            status is "status", taken is "taken", required is "required", number is "number", offset is "offset"
         );
         assert_laid_out!(
             "h3_qpack_decoded_alone", DecodedAlone { status: OK, fields: 0, len: 0, number: 0, offset: 0 },

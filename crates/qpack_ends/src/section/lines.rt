@@ -359,7 +359,7 @@ fn most_of_field(limit: u64, sum: u64) -> usize
 /// those so far have this sum. Returns the sum with it. On error text and spans are unchanged. What passes the limit is
 /// never appended, and no room is made for it.
 #[inline(always)]
-fn read_line<I: EntryIndex, F: StoredField>(
+pub(crate) fn read_line<I: EntryIndex, F: StoredField>(
     lines: &Lines<I, F>,
     first: u8,
     sum: u64,
@@ -423,7 +423,7 @@ fn read_line<I: EntryIndex, F: StoredField>(
 
 /// Returns the error of a section whose line of this number, at this offset, has this error; out of memory stays
 /// itself.
-fn at_line(number: usize, offset: usize, error: LineError) -> SectionError
+pub(crate) fn at_line(number: usize, offset: usize, error: LineError) -> SectionError
     ensures { result ≡ error_at number offset error }
 {
     match error {

@@ -170,6 +170,11 @@ impl ConnectionDecoder {
         }
     }
 
+    /// The end, for a reader of sections in pieces.
+    pub(super) fn end(&mut self) -> &mut sys::Decoder {
+        &mut self.end
+    }
+
     /// Returns the fields of the last decode, in order. There are none if it did not return [`Reading::Fields`].
     ///
     /// # Errors

@@ -1,0 +1,7 @@
+use Rattle.std.proofs.Common.{refl}
+use Rattle.qpack_ends.proofs.MissingCode.{nothing_is_prefix}
+use Rattle.qpack_ends.proofs.section.reader.SectionReader.begin.Goals as goal
+
+pub invariant_of-self : goal.invariant_of-self
+invariant_of-self c =
+    record { cut = nothing_is_prefix _ c.clear.ensures.items; placed = (refl, refl, refl) }

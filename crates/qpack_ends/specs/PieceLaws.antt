@@ -1,0 +1,54 @@
+-- What a section read in pieces has of the reading of the whole, as statements; the crate's law functions promise them
+-- (RFC 9204, sections 2.2.1 and 4.5).
+use Rattle.std.specs.Prelude.{◌≡◌, ℕ, ◌+◌, ◌-◌, ◌≤◌, ◌⊎◌, Bool, true, if◌then◌else◌, nat_lt, List, [], ◌∷◌, ◌++◌, length, drop}
+use Rattle.std.specs.Prelude.{Option, None, Some, Result, Ok, Err}
+use Rattle.std.specs.List.{AllByRecursion}
+use Rattle.qpack_spec.specs.Field.{FieldLine}
+use Rattle.qpack_spec.specs.Prefix.{prefix_at}
+use Rattle.qpack_spec.specs.StrictReading.{StrictReading, Read, Blocked, Refused, lines_behind, strict_lines_at}
+use Rattle.qpack_spec.specs.StrictReading.{strict_reading, strict_section_behind}
+use Rattle.qpack_spec.specs.Window.{Window, window_insert_count}
+use Rattle.qpack_ends.specs.Pieces.{ReaderView, IsReading, Next, More, Opens, Stays, Gives, Over, Fails, ReadsOn}
+use Rattle.qpack_ends.specs.Pieces.{fresh, opened, behind_line, lines_under, most_read, next_of}
+use Rattle.qpack_ends.specs.declared.section.SectionError.{SectionError}
+use Rattle.qpack_ends.specs.declared.section.SectionError.TheVariants.{Memory}
+use Rattle.qpack_ends.specs.declared.section.SectionPrefix.{SectionPrefix}
+use Rattle.qpack_ends.specs.declared.section.reader.Progress.{Progress}
+use Rattle.qpack_ends.specs.declared.section.reader.Progress.TheVariants as progress
+
+-- ---- the reading of what is still to come
+
+-- of these bytes, after what was read
+abbrev pub reading_behind : Window → ℕ → ReaderView → Option SectionPrefix → List ℕ → StrictReading
+reading_behind w limit r None bytes = strict_section_behind w limit (length bytes) (prefix_at bytes)
+reading_behind w limit r (Some p) bytes =
+    if nat_lt (window_insert_count w) p.required then Blocked p.required
+    else lines_behind p.required
+    (strict_lines_at (length bytes) (lines_under w limit p (r.offset + length bytes)) r.lines r.sum bytes)
+
+-- of the bytes that wait, and of those that come
+abbrev pub reading_on : Window → ℕ → ReaderView → List ℕ → StrictReading
+reading_on w limit r rest = reading_behind w limit r r.prefix (r.pending ++ rest)
+
+-- a reading with a field before its others
+abbrev pub with_field : FieldLine → StrictReading → StrictReading
+with_field f (Read fields required) = Read (f ∷ fields) required
+with_field f read = read
+
+-- what comes next of all bytes that are there leaves the reading of them, and of those that follow, as it is
+abbrev pub KeepsReading : Window → ℕ → ReaderView → List ℕ → List ℕ → StrictReading → Next → Type 0
+KeepsReading w limit r all more read More = read ≡ reading_on w limit (record r { pending = all }) more
+KeepsReading w limit r all more read (Opens p) = read ≡ reading_on w limit (opened p r) (drop p.length all ++ more)
+KeepsReading w limit r all more read (Stays required) = read ≡ Blocked required
+KeepsReading w limit r all more read (Gives f left) =
+    read ≡ with_field f (reading_on w limit (behind_line (length all - length left) f.field r) (left ++ more))
+KeepsReading w limit r all more read (Over required) = read ≡ Read [] required
+KeepsReading w limit r all more read (Fails fault) = read ≡ Refused fault
+
+-- whatever follows: each step under a window gives a part of the reading under it, or its fault
+abbrev pub PiecesKeepTheReading : Type 0
+PiecesKeepTheReading =
+    (w : Window) (limit : ℕ) (last : Bool) (r : ReaderView) (bytes more : List ℕ) → IsReading r
+    → (last ≡ true → more ≡ []) → r.offset + length (r.pending ++ bytes ++ more) ≤ most_read limit
+    → KeepsReading w limit r (r.pending ++ bytes) more (reading_on w limit r (bytes ++ more))
+    (next_of w limit last r (r.pending ++ bytes))
