@@ -40564,40 +40564,54 @@
 	mov	x0, x19
 .Lh3q_BB82_6:
 	ldr	x10, [x3]
-	subs	x11, x1, #8
+	cmp	x1, #8
 	b.hs	.Lh3q_BB82_8
-	mov	x12, x1
-	mov	x11, x0
-	b	.Lh3q_BB82_12
+	mov	x11, x1
+	subs	x12, x1, #4
+	b.hs	.Lh3q_BB82_13
+	b	.Lh3q_BB82_14
 .Lh3q_BB82_8:
-	cmp	x11, #40
-	b.lo	.Lh3q_BB82_10
-	add	x15, x9, x10
-	sub	x12, x15, x0
-	cmp	x12, #32
-	b.hs	.Lh3q_BB82_19
-.Lh3q_BB82_10:
-	mov	x11, x0
-	mov	x12, x1
-.Lh3q_BB82_11:
-	sub	x12, x12, #8
-	ldr	x13, [x11], #8
-	cmp	x12, #7
-	str	x13, [x10, x9]
-	add	x9, x9, #8
-	b.hi	.Lh3q_BB82_11
+	mov	x12, xzr
+	add	x13, x10, x9
+	mov	x11, x1
+.Lh3q_BB82_9:
+	sub	x14, x11, #8
+	cmp	x14, #7
+	b.ls	.Lh3q_BB82_12
+	sub	x11, x11, #16
+	ldr	q0, [x0, x12]
+	cmp	x11, #7
+	str	q0, [x13, x12]
+	add	x12, x12, #16
+	b.hi	.Lh3q_BB82_9
+	add	x0, x0, x12
+	add	x9, x9, x12
+	subs	x12, x11, #4
+	b.hs	.Lh3q_BB82_13
+	b	.Lh3q_BB82_14
 .Lh3q_BB82_12:
-	subs	x13, x12, #4
-	b.hs	.Lh3q_BB82_17
-	subs	x13, x12, #2
-	b.hs	.Lh3q_BB82_18
+	add	x0, x0, x12
+	add	x9, x9, x12
+	ldr	x11, [x0], #8
+	str	x11, [x9, x10]
+	add	x9, x9, #8
+	mov	x11, x14
+	subs	x12, x14, #4
+	b.lo	.Lh3q_BB82_14
+.Lh3q_BB82_13:
+	ldr	w11, [x0], #4
+	str	w11, [x10, x9]
+	add	x9, x9, #4
+	mov	x11, x12
 .Lh3q_BB82_14:
-	cbz	x12, .Lh3q_BB82_16
-.Lh3q_BB82_15:
-	ldrb	w11, [x11]
+	subs	x12, x11, #2
+	b.hs	.Lh3q_BB82_18
+	cbz	x11, .Lh3q_BB82_17
+.Lh3q_BB82_16:
+	ldrb	w11, [x0]
 	strb	w11, [x10, x9]
 	add	x9, x9, #1
-.Lh3q_BB82_16:
+.Lh3q_BB82_17:
 	mov	w0, wzr
 	stp	x10, x9, [x3]
 	str	x8, [x3, #16]
@@ -40605,40 +40619,12 @@
 	ldr	x21, [sp, #16]
 	ldp	x29, x30, [sp], #48
 	ret
-.Lh3q_BB82_17:
-	ldr	w12, [x11], #4
-	str	w12, [x10, x9]
-	add	x9, x9, #4
-	mov	x12, x13
-	subs	x13, x13, #2
-	b.lo	.Lh3q_BB82_14
 .Lh3q_BB82_18:
-	ldrh	w12, [x11], #2
-	strh	w12, [x10, x9]
+	ldrh	w11, [x0], #2
+	strh	w11, [x10, x9]
 	add	x9, x9, #2
-	cbnz	x13, .Lh3q_BB82_15
-	b	.Lh3q_BB82_16
-.Lh3q_BB82_19:
-	lsr	x11, x11, #3
-	add	x15, x15, #16
-	add	x13, x11, #1
-	and	x14, x13, #0x3ffffffffffffffc
-	and	x17, x13, #0x3ffffffffffffffc
-	lsl	x16, x14, #3
-	add	x11, x0, x16
-	sub	x12, x1, x16
-	add	x9, x9, x16
-	add	x16, x0, #16
-.Lh3q_BB82_20:
-	ldp	q0, q1, [x16, #-16]
-	subs	x17, x17, #4
-	add	x16, x16, #32
-	stp	q0, q1, [x15, #-16]
-	add	x15, x15, #32
-	b.ne	.Lh3q_BB82_20
-	cmp	x13, x14
-	b.ne	.Lh3q_BB82_11
-	b	.Lh3q_BB82_12
+	cbnz	x12, .Lh3q_BB82_16
+	b	.Lh3q_BB82_17
 .Lh3q_func_end82:
 	.size	"qpack_base::coding::append_within::<#94025a41bde9419f>", .Lh3q_func_end82-"qpack_base::coding::append_within::<#94025a41bde9419f>"
 

@@ -50893,13 +50893,13 @@
 	.cfi_offset %rbx, -32
 	.cfi_offset %r14, -24
 	.cfi_offset %r15, -16
-	movq	8(%rcx), %r11
-	movq	16(%rcx), %rsi
-	xorl	%r8d, %r8d
-	movq	%rsi, %r9
-	subq	%r11, %r9
-	cmovaeq	%r9, %r8
-	cmpq	%r8, %rdx
+	movq	8(%rcx), %rsi
+	movq	16(%rcx), %r8
+	xorl	%r9d, %r9d
+	movq	%r8, %r10
+	subq	%rsi, %r10
+	cmovaeq	%r10, %r9
+	cmpq	%r9, %rdx
 	jbe	.Lh3q_BB78_7
 	movq	%rdi, %rbx
 	movq	%rcx, %r15
@@ -50928,55 +50928,36 @@
 	.cfi_offset %r14, -24
 	.cfi_offset %r15, -16
 	movq	%r15, %rcx
-	movq	8(%r15), %r11
-	movq	16(%r15), %rsi
+	movq	8(%r15), %rsi
+	movq	16(%r15), %r8
 	movq	%r14, %rdx
 	movq	%rbx, %rdi
 .Lh3q_BB78_7:
 	movq	(%rcx), %rax
 	cmpq	$8, %rdx
 	jae	.Lh3q_BB78_9
-	movq	%r11, %r8
-	movq	%rdx, %r10
-	movq	%rdi, %r9
-	jmp	.Lh3q_BB78_13
-.Lh3q_BB78_9:
-	leaq	-8(%rdx), %rbx
-	cmpq	$40, %rbx
-	jb	.Lh3q_BB78_11
-	leaq	(%r11,%rax), %r8
-	subq	%rdi, %r8
-	cmpq	$32, %r8
-	jae	.Lh3q_BB78_20
-.Lh3q_BB78_11:
-	movq	%rdi, %r9
-	movq	%rdx, %r10
-	movq	%r11, %r8
-	.p2align	4
-.Lh3q_BB78_12:
-	addq	$-8, %r10
-	movq	(%r9), %rdi
-	addq	$8, %r9
-	movq	%rdi, (%rax,%r8)
-	addq	$8, %r8
-	cmpq	$7, %r10
-	ja	.Lh3q_BB78_12
-.Lh3q_BB78_13:
-	cmpq	$4, %r10
-	jae	.Lh3q_BB78_18
-	cmpq	$2, %r10
-	jae	.Lh3q_BB78_19
+	movq	%rdx, %r9
+	cmpq	$4, %r9
+	jb	.Lh3q_BB78_15
+.Lh3q_BB78_14:
+	addq	$-4, %r9
+	movl	(%rdi), %r10d
+	addq	$4, %rdi
+	movl	%r10d, (%rax,%rsi)
+	addq	$4, %rsi
 .Lh3q_BB78_15:
-	testq	%r10, %r10
-	je	.Lh3q_BB78_17
-.Lh3q_BB78_16:
-	movzbl	(%r9), %edi
-	movb	%dil, (%rax,%r8)
-	incq	%r8
+	cmpq	$2, %r9
+	jae	.Lh3q_BB78_19
+	testq	%r9, %r9
+	je	.Lh3q_BB78_18
 .Lh3q_BB78_17:
+	movzbl	(%rdi), %edi
+	movb	%dil, (%rax,%rsi)
+	incq	%rsi
+.Lh3q_BB78_18:
 	movq	%rax, (%rcx)
-	movq	%r8, 8(%rcx)
-	movq	%rsi, 16(%rcx)
+	movq	%rsi, 8(%rcx)
+	movq	%r8, 16(%rcx)
 	xorl	%eax, %eax
 	popq	%rbx
 	.cfi_def_cfa_offset 24
@@ -50988,52 +50969,51 @@
 	.cfi_restore %r14
 	.cfi_restore %r15
 	retq
-.Lh3q_BB78_18:
+.Lh3q_BB78_9:
 	.cfi_def_cfa_offset 32
 	.cfi_offset %rbx, -32
 	.cfi_offset %r14, -24
 	.cfi_offset %r15, -16
-	addq	$-4, %r10
-	movl	(%r9), %edi
-	addq	$4, %r9
-	movl	%edi, (%rax,%r8)
-	addq	$4, %r8
-	cmpq	$2, %r10
-	jb	.Lh3q_BB78_15
-.Lh3q_BB78_19:
-	addq	$-2, %r10
-	movzwl	(%r9), %edi
-	addq	$2, %r9
-	movw	%di, (%rax,%r8)
-	addq	$2, %r8
-	testq	%r10, %r10
-	jne	.Lh3q_BB78_16
-	jmp	.Lh3q_BB78_17
-.Lh3q_BB78_20:
-	shrq	$3, %rbx
-	incq	%rbx
-	movq	%rbx, %r14
-	andq	$-4, %r14
-	leaq	(,%r14,8), %r8
-	leaq	(%rdi,%r14,8), %r9
-	movq	%rdx, %r10
-	subq	%r8, %r10
-	leaq	(%r11,%r14,8), %r8
-	addq	%rax, %r11
-	addq	$16, %r11
-	xorl	%r15d, %r15d
+	leaq	(%rax,%rsi), %rbx
+	xorl	%r10d, %r10d
+	movq	%rdx, %r11
 	.p2align	4
-.Lh3q_BB78_21:
-	movups	(%rdi,%r15,8), %xmm0
-	movups	16(%rdi,%r15,8), %xmm1
-	movups	%xmm0, -16(%r11,%r15,8)
-	movups	%xmm1, (%r11,%r15,8)
-	addq	$4, %r15
-	cmpq	%r15, %r14
-	jne	.Lh3q_BB78_21
-	cmpq	%r14, %rbx
-	jne	.Lh3q_BB78_12
-	jmp	.Lh3q_BB78_13
+.Lh3q_BB78_10:
+	leaq	-8(%r11), %r9
+	cmpq	$7, %r9
+	jbe	.Lh3q_BB78_13
+	addq	$-16, %r11
+	movups	(%rdi,%r10), %xmm0
+	movups	%xmm0, (%rbx,%r10)
+	addq	$16, %r10
+	cmpq	$7, %r11
+	ja	.Lh3q_BB78_10
+	addq	%r10, %rdi
+	addq	%r10, %rsi
+	movq	%r11, %r9
+	cmpq	$4, %r9
+	jae	.Lh3q_BB78_14
+	jmp	.Lh3q_BB78_15
+.Lh3q_BB78_19:
+	addq	$-2, %r9
+	movzwl	(%rdi), %r10d
+	addq	$2, %rdi
+	movw	%r10w, (%rax,%rsi)
+	addq	$2, %rsi
+	testq	%r9, %r9
+	jne	.Lh3q_BB78_17
+	jmp	.Lh3q_BB78_18
+.Lh3q_BB78_13:
+	movq	(%rdi,%r10), %r11
+	addq	%r10, %rdi
+	addq	$8, %rdi
+	leaq	(%rsi,%r10), %rbx
+	movq	%r11, (%rax,%rbx)
+	addq	%r10, %rsi
+	addq	$8, %rsi
+	cmpq	$4, %r9
+	jb	.Lh3q_BB78_15
+	jmp	.Lh3q_BB78_14
 .Lh3q_func_end78:
 	.size	"qpack_base::coding::append_within::<#94025a41bde9419f>", .Lh3q_func_end78-"qpack_base::coding::append_within::<#94025a41bde9419f>"
 	.cfi_endproc
