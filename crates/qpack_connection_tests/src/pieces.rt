@@ -205,36 +205,20 @@ fn pass(
     let size = decoder.size().max(1);
     let mut fields = FieldSection::new(call.alloc());
     let mut at = 0usize;
-    loop {
-        let end = at.saturating_add(size).min(rest.len());
+    let mut end = size.min(rest.len());
+    for _ in 0..u64::MAX {
         let last = end == rest.len();
         let mut buf = Cursor::new(rest.get(at..end).unwrap_or(&[]));
-        let read = pass_piece(decoder, one, &mut buf, last, &mut fields, call);
-        one.passed = one.passed.saturating_add(buf.position());
-        match read {
-            Ok(Progress::Waits) if !last => at = end,
-            read => return read,
-        }
-    }
-}
-
-/// Passes a piece until no further field is whole.
-fn pass_piece(
-    decoder: &mut Decoder,
-    one: &mut Coming,
-    buf: &mut Cursor,
-    last: bool,
-    fields: &mut FieldSection,
-    call: &mut Call<'_>,
-) -> Result<Progress, DecodingError> {
-    for _ in 0..u64::MAX {
-        let left = buf.remaining();
-        let read = decoder.read_piece(&mut one.reader, buf, last, fields);
+        let read = decoder.read_piece(&mut one.reader, &mut buf, last, &mut fields);
         note_memory(call, &read);
+        let taken = buf.position();
+        one.passed = one.passed.saturating_add(taken);
+        at = at.saturating_add(taken);
         match read {
+            Ok(Progress::Waits) if !last => end = end.saturating_add(size).min(rest.len()),
             Ok(Progress::Prefix { .. }) => {}
             Ok(Progress::Field) => {
-                call.holds(buf.remaining() < left, "a field without a byte");
+                call.holds(taken > 0, "a field without a byte");
                 let is_same = fields.len() == 1 && fields.get(0) == decoder.whole_field(one.given);
                 call.holds(is_same, "a whole section has another field");
                 one.given = one.given.saturating_add(1);
