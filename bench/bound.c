@@ -71,7 +71,7 @@ static int comes_twice(const occurrences *o, size_t number, size_t from, size_t 
 /* ---- The encoders that know it */
 
 /* A reference to an entry at least this far before the base takes two bytes or more. */
-#define FAR 63
+#define FAR_AWAY 63
 
 /* A far entry is inserted again if at least this many lists referenced it, and the last of them at most so far back. */
 #define OFTEN 2
@@ -163,7 +163,7 @@ static int spares_others(const seer *s, const encoder *e, const field *f) {
 
 static int is_to_come_near(const seer *s, const encoder *e, const field *f, size_t entry) {
   size_t now = e->nsections;
-  if (!s->knows->brings_near || entry <= s->draining || entry > e->base || e->base - entry < FAR) return 0;
+  if (!s->knows->brings_near || entry <= s->draining || entry > e->base || e->base - entry < FAR_AWAY) return 0;
   if (now - s->used_at[entry] > RECENT || s->uses[entry] < OFTEN) return 0;
   return !s->knows->twice_in || comes_twice(&s->sees->fields, f->number, now, now + s->knows->twice_in);
 }

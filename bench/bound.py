@@ -45,11 +45,11 @@ def make_archive(room):
     return room / "made" / "libh3_qpack.a"
 
 
-def play(archive, room, *options):
-    """Returns the table that bound.c prints over an archive, with these options."""
+def play(archive, room, *options, bench=BENCH):
+    """Returns the table that bound.c of a folder prints over an archive, with these options."""
     program = room / "bound"
     words = ["-std=c11", "-D_GNU_SOURCE", "-Wall", "-Wextra", "-Werror", "-O2", f"-I{TOP / 'dist'}"]
-    run(os.environ.get("CC", "cc"), *words, BENCH / "bound.c", archive, "-o", program)
+    run(os.environ.get("CC", "cc"), *words, bench / "bound.c", archive, "-o", program)
     made = room / "corpora"
     made.mkdir()
     return run(program, *options, *RECORDED, *corpora.write_corpora(made))
