@@ -9,7 +9,7 @@ list: allocations; the instructions of the proved functions; and the lines of 64
 of data with those of the heap and the stack. Callgrind counts all but the first. What compilers and the C library make
 is left out: the layer in C, the heap, copies. Each function begins at a line, wherever the linker puts it.
 
-counts.tsv has a bound for each count, 2 % above what was measured, and 3 % for lines: assemblers write some instructions in
+counts.tsv has a bound for each count, 2 % above what was measured, and 4 % for lines: assemblers write some instructions in
 other lengths, and a compiler places some data. A count above its bound is a fault. One that is more than 6 % below is named,
 so that its bound can be lowered by --record. Then the script plants faults: each bound in turn is set below its count, and
 far above, which must be found.
@@ -153,7 +153,7 @@ def count_all(archive, room):
 
 def bound_for(name, count):
     """Returns the bound of a count that was measured."""
-    return count * (1.03 if name.endswith((OF_CODE, OF_DATA)) else 1.02)
+    return count * (1.04 if name.endswith((OF_CODE, OF_DATA)) else 1.02)
 
 
 def write_bounds(counts):
