@@ -225,7 +225,7 @@ try "another constant in each file of assembly" refuse_constants $texts &&
     try "another byte in each file for WebAssembly" refuse_wasm &&
     try "a blank in each other file" refuse_blanks $heaps $copies &&
     try "another body in heap.c" refuse dist/heap.c 's/malloc(len ? len : align)/malloc(len)/' $heaps &&
-    try "another setting in h3_qpack.c" refuse dist/h3_qpack.c 's/capacity = 4096/capacity = 8192/' wasm64.wasm &&
+    try "another setting in h3_qpack.c" refuse dist/h3_qpack.c 's/capacity = 16384/capacity = 8192/' wasm64.wasm &&
     try "another body in the header" refuse dist/h3_qpack.h 's/\(h3q_encoder_blocked(encoder) :\) 0/\1 1/' wasm64.wasm &&
     try "another heap for WebAssembly" refuse dist/heap_wasm64.c 's/HEAD + 16/HEAD + 32/' wasm64.wasm qpk-wasm64.wasm &&
     try "another instruction for WebAssembly" refuse dist/neon_wasm64.c 's/2 \* i + 1/2 * i/' qpk-wasm64.wasm &&
