@@ -31,3 +31,4 @@ pub mod PieceParts
 pub mod PieceAnswers
 pub mod PieceSteps
 pub mod OneField
+pub mod PieceWindows

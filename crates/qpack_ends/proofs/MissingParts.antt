@@ -94,11 +94,11 @@ line_followed u sum (b ∷ bytes) more none =
     go (Err e) = refl
 
 -- the form at the front of a line that was read
-record ReadsForm (bytes left : List ℕ) : Type 0 where
+pub record ReadsForm (bytes left : List ℕ) : Type 0 where
   pub line : Line
   pub is : form_at line_form bytes ≡ Ok (line, left)
 
-line_form_is : (u : LinesUnder) (sum : ℕ) (bytes left : List ℕ) (f : FieldLine) → line_at u sum bytes ≡ Ok (f, left)
+pub line_form_is : (u : LinesUnder) (sum : ℕ) (bytes left : List ℕ) (f : FieldLine) → line_at u sum bytes ≡ Ok (f, left)
     → ReadsForm bytes left
 unfolding line_at strict_line_at
 line_form_is u sum [] left f e = absurd cc

@@ -117,7 +117,7 @@ abbrev pub Keeps : Option SectionPrefix → Window → ℕ → ReaderView → Li
 Keeps o w limit r all more read More = read ≡ reading_behind w limit r o (all ++ more)
 Keeps o w limit r all more read next = KeepsReading w limit r all more read next
 
-same_behind : (o : Option SectionPrefix) (w : Window) (limit : ℕ) (r : ReaderView) (all bytes : List ℕ)
+pub same_behind : (o : Option SectionPrefix) (w : Window) (limit : ℕ) (r : ReaderView) (all bytes : List ℕ)
     → reading_behind w limit (record r { pending = all }) o bytes ≡ reading_behind w limit r o bytes
 same_behind None w limit r all bytes = refl
 same_behind (Some p) w limit r all bytes = refl
@@ -180,7 +180,7 @@ by_line w limit r p b bytes read there e =
     (section_free w limit (r.offset + length (b ∷ bytes)) p r.sum b bytes ∙ e)
     ∙ ap (λ (n : ℕ). or_in_line (suc r.lines) n read >>= after (length bytes) u (suc r.lines) r.sum) place))
 
-behind_read : (w : Window) (limit : ℕ) (r : ReaderView) (p : SectionPrefix) (f : FieldLine) (len : ℕ) (left : List ℕ)
+pub behind_read : (w : Window) (limit : ℕ) (r : ReaderView) (p : SectionPrefix) (f : FieldLine) (len : ℕ) (left : List ℕ)
     → p.required ≤ window_insert_count w
     → reading_behind w limit (behind_line len f.field r) (Some p) left
     ≡ lines_behind p.required (strict_lines_at (length left) (lines_under w limit p (r.offset + len + length left))
@@ -357,7 +357,7 @@ prefix_keeps w limit last r all more lines sum ends = pick (goes_on last (prefix
 
 -- ---- the law
 
-behind_keeps : (o : Option SectionPrefix) (w : Window) (limit : ℕ) (last : Bool) (r : ReaderView) (all more : List ℕ)
+pub behind_keeps : (o : Option SectionPrefix) (w : Window) (limit : ℕ) (last : Bool) (r : ReaderView) (all more : List ℕ)
     → r.prefix ≡ o → IsPlaced o r → (last ≡ true → more ≡ [])
     → Keeps o w limit r all more (reading_behind w limit r o (all ++ more)) (next_behind w limit last r o all)
 behind_keeps None w limit last r all more known placed ends =
@@ -373,7 +373,7 @@ behind_keeps (Some p) w limit last r all more known placed ends = elim (cases_lt
 ]
 
 -- bytes are within a limit if they are with more
-shorter_front : (offset limit : ℕ) (pending bytes more : List ℕ)
+pub shorter_front : (offset limit : ℕ) (pending bytes more : List ℕ)
     → offset + length (pending ++ bytes ++ more) ≤ limit → offset + length pending + length bytes ≤ limit
 shorter_front offset limit pending bytes more fits =
     omega (arith, fits, length-append (pending ++ bytes) more, length-append pending bytes)

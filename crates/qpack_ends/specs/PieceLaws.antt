@@ -52,3 +52,35 @@ PiecesKeepTheReading =
     → (last ≡ true → more ≡ []) → r.offset + length (r.pending ++ bytes ++ more) ≤ most_read limit
     → KeepsReading w limit r (r.pending ++ bytes) more (reading_on w limit r (bytes ++ more))
     (next_of w limit last r (r.pending ++ bytes))
+
+-- ---- under windows that differ
+
+-- bytes are read as these fields, or wait
+abbrev pub ReadsOrWaits : List FieldLine → ℕ → StrictReading → Type 0
+ReadsOrWaits fields required read = (read ≡ Read fields required) ⊎ (read ≡ Blocked required)
+
+-- under a window that may be another's, what comes next leaves the fields behind it, or is the end of all
+abbrev pub LeavesReading : Window → ℕ → ReaderView → List ℕ → List ℕ → List FieldLine → ℕ → Next → Type 0
+LeavesReading w limit r all more fields required More =
+    ReadsOrWaits fields required (reading_on w limit (record r { pending = all }) more)
+LeavesReading w limit r all more fields required (Opens p) =
+    (p.required ≡ required) × ReadsOrWaits fields required (reading_on w limit (opened p r) (drop p.length all ++ more))
+LeavesReading w limit r all more fields required (Stays many) = many ≡ required
+LeavesReading w limit r all more fields required (Gives f left) =
+    (others : List FieldLine) × (fields ≡ f ∷ others)
+    × ReadsOrWaits others required
+    (reading_on w limit (behind_line (length all - length left) f.field r) (left ++ more))
+LeavesReading w limit r all more fields required (Over many) = (fields ≡ []) × (many ≡ required)
+LeavesReading w limit r all more fields required (Fails fault) = ⊥
+
+-- a section that two windows read as the same fields, or with which they wait: a call under one leaves what the other
+-- reads. So calls under any such windows give these fields in turn
+abbrev pub PiecesLeaveTheReading : Type 0
+PiecesLeaveTheReading =
+    (w other : Window) (limit : ℕ) (last : Bool) (r : ReaderView) (bytes more : List ℕ) (fields : List FieldLine)
+    (required : ℕ) → IsReading r → (last ≡ true → more ≡ [])
+    → r.offset + length (r.pending ++ bytes ++ more) ≤ most_read limit
+    → ReadsOrWaits fields required (reading_on w limit r (bytes ++ more))
+    → ReadsOrWaits fields required (reading_on other limit r (bytes ++ more))
+    → LeavesReading other limit r (r.pending ++ bytes) more fields required
+    (next_of w limit last r (r.pending ++ bytes))

@@ -7,7 +7,7 @@ ghost use Rattle.qpack_ends.specs.FieldSections.{GrowsWithin};
 ghost use Rattle.qpack_ends.specs.Lines.{under};
 ghost use Rattle.qpack_ends.specs.Pieces.{ReadsOn, Answers, fresh, most_read, next_prefix, next_line, part_behind};
 ghost use Rattle.qpack_ends.specs.Missing.{line_missing, prefix_missing};
-ghost use Rattle.qpack_ends.specs.PieceLaws.{PiecesKeepTheReading};
+ghost use Rattle.qpack_ends.specs.PieceLaws.{PiecesKeepTheReading, PiecesLeaveTheReading};
 ghost use Rattle.qpack_ends.specs.Pieces.{front_of, kept_failure};
 ghost use Rattle.qpack_ends.specs.Pieces.{FindsPrefix, GathersPrefix, FindsLine, GathersLine, Gathers, AppendsMissing};
 ghost use Rattle.qpack_ends.specs.declared.section.missing.Part.TheVariants.{Line};
@@ -444,4 +444,10 @@ fn drop_all(pending: &mut Vec<u8>)
 /// under it, as far as that reads sections of any length, and leaves the rest.
 pub fn pieces_keep_the_reading()
     ensures { PiecesKeepTheReading }
+{}
+
+/// The table may change between calls: a section that tables read as the same fields, or with which they wait, leaves to
+/// each what it reads of the rest.
+pub fn pieces_leave_the_reading()
+    ensures { PiecesLeaveTheReading }
 {}
