@@ -1,16 +1,16 @@
 -- What is read of bytes of which none is missing is read the same with more bytes behind, and what waits never holds it.
-use Rattle.std.proofs.Common.{◌≡◌, ℕ, zero, suc, ◌+◌, ◌-◌, ◌/◌, ◌<◌, ◌≤◌, ◌⊎◌, Bool, true, false, cond, List, [], ◌∷◌, ◌++◌}
+use Rattle.std.proofs.Common.{◌≡◌, ℕ, ◌-◌, ◌/◌, ◌≤◌, Bool, true, false, cond, List, ◌++◌}
 use Rattle.std.proofs.Common.{length, take, drop, Option, None, Some, Result, Ok, Err, refl, sym, ap, ◌∙◌, arith}
-use Rattle.std.proofs.Common.{append-nil, append_assoc, length-append, subst, inl, inr}
+use Rattle.std.proofs.Common.{append_assoc, length-append}
 use Rattle.std.specs.Prelude.{nat_lt}
-use Rattle.std.proofs.lemmas.Bool.{ltb-true, ltb-false, lt-ltb, le-ltb}
+use Rattle.std.proofs.lemmas.Bool.{ltb-true, ltb-false, le-ltb}
 use Rattle.std.proofs.lemmas.List.{drop-append-le}
 use Rattle.qpack_spec.specs.Bytes.{◌>>=◌}
 use Rattle.qpack_spec.specs.Integer.{IntegerFault, Overflow, UnexpectedEnd, integer_at}
 use Rattle.qpack_spec.specs.Huffman.{HuffmanFault}
 use Rattle.qpack_spec.specs.Text.{StringFault, EndsEarly, LengthOverflows, BadHuffman, value_before, string_behind, string_at}
 use Rattle.qpack_spec.specs.Form.{FormFault, BadInteger, BadString, is_cut, Form, Index, IndexAndValue, NameAndValue}
-use Rattle.qpack_spec.specs.Form.{or_bad_integer, or_bad_string, value_at, made_at, in_form, form_at}
+use Rattle.qpack_spec.specs.Form.{or_bad_integer, or_bad_string, value_at, made_at}
 use Rattle.qpack_spec.proofs.Integers.{integer_overflows, overflow_begins}
 use Rattle.qpack_spec.proofs.Forms.{made_takes, made_again, made_refused, made_refusal}
 use Rattle.qpack_rules.proofs.Waiting.{reads_integer, string_cut, string_whole, meaning_of}

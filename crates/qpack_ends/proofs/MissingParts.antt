@@ -1,24 +1,23 @@
 -- A line and a prefix of which no byte is missing are read the same with more bytes behind, and end after what waits.
-use Rattle.std.proofs.Common.{◌≡◌, ℕ, zero, suc, ◌+◌, ◌-◌, ◌<◌, ◌≤◌, List, [], ◌∷◌, ◌++◌, length, drop, Option, None, Some}
-use Rattle.std.proofs.Common.{Result, Ok, Err, refl, sym, ap, ◌∙◌, arith, append_assoc, length-append, subst}
+use Rattle.std.proofs.Common.{◌≡◌, ℕ, suc, ◌+◌, ◌-◌, ◌<◌, ◌≤◌, List, [], ◌∷◌, ◌++◌, length, drop, Option, None, Some}
+use Rattle.std.proofs.Common.{Result, Ok, Err, refl, sym, ap, ◌∙◌, arith, append_assoc, length-append}
 use Rattle.std.proofs.Common.{inl, inr}
 use Rattle.std.specs.Prelude.{nat_eq}
 use Rattle.std.proofs.lemmas.Bool.{cases_lt}
 use Rattle.std.proofs.lemmas.List.{append_cancel_left, drop_at}
 use Rattle.qpack_spec.specs.Bytes.{◌>>=◌}
 use Rattle.qpack_spec.specs.Field.{Field, FieldLine}
-use Rattle.qpack_spec.specs.Form.{FormFault, BadInteger, Form, or_bad_integer, made_at, in_form, form_at}
+use Rattle.qpack_spec.specs.Form.{FormFault, Form, or_bad_integer, made_at, in_form, form_at}
 use Rattle.qpack_spec.specs.Integer.{IntegerFault, Overflow, UnexpectedEnd, integer_at}
 use Rattle.qpack_spec.specs.Line.{Line, line_form}
 use Rattle.qpack_spec.specs.Prefix.{Prefix, prefix_at}
-use Rattle.qpack_spec.specs.Reading.{Fault}
 use Rattle.qpack_spec.specs.BlockReading.{or_bad_form}
 use Rattle.qpack_spec.specs.StrictReading.{LineFault, SectionFault, LinesUnder, or_meaningless, strict_field, within_size}
 use Rattle.qpack_spec.specs.StrictReading.{is_never_indexed, strict_line_at}
 use Rattle.qpack_spec.specs.Window.{Window}
 use Rattle.qpack_spec.proofs.FormLaws.{form_takes, form_again}
 use Rattle.qpack_spec.proofs.Integers.{integer_takes, integer_again}
-use Rattle.qpack_spec.proofs.Results.{bind_ok, ok_is}
+use Rattle.qpack_spec.proofs.Results.{ok_is}
 use Rattle.qpack_rules.proofs.Waiting.{reads_integer}
 use Rattle.qpack_ends.specs.Missing.{integer_missing, missing_behind_count, form_missing, line_missing, prefix_missing}
 use Rattle.qpack_ends.specs.Pieces.{line_at}

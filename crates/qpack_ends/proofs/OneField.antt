@@ -1,11 +1,11 @@
 -- A line that is read into a field section without fields.
-use Rattle.std.proofs.Common.{◌≡◌, ◌∙◌, ℕ, List, [], ◌∷◌, ◌++◌, length, drop, Result, Ok, Err, refl, sym, ap, subst, arith}
+use Rattle.std.proofs.Common.{◌≡◌, ◌∙◌, ℕ, List, [], ◌∷◌, length, drop, Result, Ok, Err, sym, ap, subst, arith}
 use Rattle.qpack_spec.specs.Field.{FieldLine}
 use Rattle.qpack_spec.specs.StrictReading.{LineFault, LinesUnder, strict_line_at}
 use Rattle.qpack_base.specs.Cursor.{CursorView}
 use Rattle.qpack_ends.specs.declared.field_section.Span.{Span}
 use Rattle.qpack_ends.specs.declared.section.LineError.{LineError}
-use Rattle.qpack_ends.specs.FieldSections.{AreInTurn, field_at, fields_in}
+use Rattle.qpack_ends.specs.FieldSections.{AreInTurn, fields_in}
 use Rattle.qpack_ends.specs.Lines.{ReadsLine}
 use Rattle.qpack_ends.specs.Pieces.{ReadsOneLine, line_at}
 

@@ -1,5 +1,5 @@
 -- What the decoding end does with what a section gave that comes in pieces.
-use Rattle.std.proofs.Common.{◌≡◌, ◌+◌, ◌≤◌, ℕ, List, [], refl, arith, length}
+use Rattle.std.proofs.Common.{◌≡◌, ℕ, refl, arith, length}
 use Rattle.qpack_ends.specs.Decoders.{DecodingEnd}
 use Rattle.qpack_ends.specs.PieceDecoders.{answer_to_progress, begun_after}
 use Rattle.qpack_ends.specs.Pieces.{ReaderView}

@@ -1,15 +1,14 @@
 -- The parts of a section that comes in pieces, and what a call makes of them.
-use Rattle.std.proofs.Common.{◌≡◌, ◌≢◌, ℕ, zero, suc, ◌+◌, ◌-◌, ◌<◌, ◌≤◌, ◌⊎◌, Bool, true, false, cond, List, [], ◌∷◌, ◌++◌}
+use Rattle.std.proofs.Common.{◌≡◌, ℕ, suc, ◌+◌, ◌-◌, ◌<◌, ◌≤◌, ◌⊎◌, Bool, true, false, List, [], ◌∷◌, ◌++◌}
 use Rattle.std.proofs.Common.{length, drop, Option, None, Some, Result, Ok, Err, refl, sym, ap, ◌∙◌, arith, append-nil}
 use Rattle.std.proofs.Common.{length-append, subst, inl, inr}
-use Rattle.std.specs.Prelude.{not, ◌&&◌, nat_lt, nat_le}
+use Rattle.std.specs.Prelude.{nat_le}
 use Rattle.std.proofs.lemmas.Bool.{leb-true, leb-false, lt-ltb, le-ltb}
 use Rattle.std.proofs.Math.Seq.{drop-append-add}
-use Rattle.qpack_spec.specs.Field.{Field, FieldLine, field_size}
+use Rattle.qpack_spec.specs.Field.{FieldLine, field_size}
 use Rattle.qpack_spec.specs.Stateless.{saturated_size}
-use Rattle.qpack_spec.specs.Form.{Form}
 use Rattle.qpack_spec.specs.Integer.{IntegerFault, Overflow, UnexpectedEnd, integer_at}
-use Rattle.qpack_spec.specs.Line.{Line, line_form}
+use Rattle.qpack_spec.specs.Line.{line_form}
 use Rattle.qpack_spec.specs.StrictReading.{LineFault, SectionFault, InLine, LinesUnder}
 use Rattle.qpack_spec.specs.StrictReading as strict
 use Rattle.qpack_spec.specs.Window.{Window, window_insert_count}
@@ -22,7 +21,7 @@ use Rattle.qpack_ends.specs.Pieces.{line_at, Gathers, GathersPrefix, GathersLine
 use Rattle.qpack_ends.specs.Pieces.{ReaderView, IsPlaced, part_behind, opened, kept_failure, front_of, next_line, Gives}
 use Rattle.qpack_ends.specs.Pieces.{Next, ReadsOn}
 use Rattle.qpack_ends.specs.Pieces.{Fails, Stays, Answers, most_read, next_of, next_behind, lines_under}
-use Rattle.qpack_ends.specs.SectionPrefixes.{GivesPrefix, strict_prefix}
+use Rattle.qpack_ends.specs.SectionPrefixes.{strict_prefix}
 use Rattle.qpack_ends.specs.Sections.{TellsFault, error_at}
 use Rattle.qpack_ends.specs.declared.section.LineError.{LineError}
 use Rattle.qpack_ends.specs.declared.section.LineError.TheVariants as line

@@ -1,6 +1,6 @@
 -- Each step of a section that comes in pieces gives a part of the reading of the whole.
 use Rattle.std.proofs.Common.{◌≡◌, ℕ, zero, suc, ◌+◌, ◌-◌, ◌<◌, ◌≤◌, Bool, true, false, cond, List, [], ◌∷◌, ◌++◌, length}
-use Rattle.std.proofs.Common.{drop, min, Option, None, Some, Result, Ok, Err, refl, sym, ap, ◌∙◌, arith, append_assoc}
+use Rattle.std.proofs.Common.{drop, Option, None, Some, Result, Ok, Err, refl, sym, ap, ◌∙◌, arith, append_assoc}
 use Rattle.std.proofs.Common.{length-append, append-nil, subst, ◌⊎◌, inl, inr}
 use Rattle.std.specs.Prelude.{nat_lt, nat_le, nat_eq, if◌then◌else◌}
 use Rattle.std.proofs.lemmas.Bool.{ltb-false, lt-ltb, le-ltb, le-leb, cases_lt}
@@ -23,9 +23,9 @@ use Rattle.qpack_spec.proofs.Forms.{index_takes}
 use Rattle.qpack_spec.proofs.Results.{bind_ok, ok_is, ok_pair}
 use Rattle.qpack_ends.specs.Missing.{line_missing, prefix_missing}
 use Rattle.qpack_ends.specs.PieceLaws.{reading_behind, reading_on, with_field, KeepsReading, PiecesKeepTheReading}
-use Rattle.qpack_ends.specs.Pieces.{ReaderView, IsPlaced, opened, behind_line, lines_under, Next, More, Opens, Stays}
+use Rattle.qpack_ends.specs.Pieces.{ReaderView, IsPlaced, behind_line, lines_under, Next, More, Opens, Stays}
 use Rattle.qpack_ends.specs.Pieces.{Gives, Over, Fails, goes_on, line_at, line_says, prefix_says, next_prefix, next_line}
-use Rattle.qpack_ends.specs.Pieces.{next_behind, next_of, most_read}
+use Rattle.qpack_ends.specs.Pieces.{next_behind, most_read}
 use Rattle.qpack_ends.specs.SectionPrefixes.{strict_numbers, with_length, prefix_behind, strict_prefix}
 use Rattle.qpack_ends.specs.declared.section.SectionPrefix.{SectionPrefix}
 use Rattle.qpack_ends.proofs.MissingCode.{nothing_is_prefix}

@@ -1,12 +1,11 @@
 -- A section that comes in pieces, under windows that read it alike.
-use Rattle.std.proofs.Common.{◌≡◌, ℕ, suc, ◌+◌, ◌-◌, ◌<◌, ◌≤◌, Bool, true, false, cond, List, [], ◌∷◌, ◌++◌, length, ◌⊎◌}
-use Rattle.std.proofs.Common.{drop, Option, None, Some, Result, Ok, Err, refl, sym, ap, ◌∙◌, arith, append_assoc}
+use Rattle.std.proofs.Common.{◌≡◌, ℕ, suc, ◌+◌, ◌-◌, ◌<◌, ◌≤◌, Bool, true, false, cond, List, [], ◌∷◌, ◌++◌, length}
+use Rattle.std.proofs.Common.{drop, Option, None, Some, Result, Ok, Err, refl, sym, ap, ◌∙◌, append_assoc}
 use Rattle.std.proofs.Common.{subst, inl, inr}
-use Rattle.std.specs.Prelude.{nat_lt, nat_le, nat_eq, if◌then◌else◌, ◌&&◌}
-use Rattle.std.proofs.lemmas.Bool.{lt-ltb, le-ltb, le-leb, cases_lt}
+use Rattle.std.specs.Prelude.{nat_lt, nat_le, nat_eq, ◌&&◌}
+use Rattle.std.proofs.lemmas.Bool.{lt-ltb, le-leb, cases_lt}
 use Rattle.qpack_spec.specs.Field.{FieldLine, field_size}
-use Rattle.qpack_spec.specs.Form.{FormFault, form_at}
-use Rattle.qpack_spec.specs.Line.{Line, line_form}
+use Rattle.qpack_spec.specs.Form.{FormFault}
 use Rattle.qpack_spec.specs.Prefix.{Prefix, PrefixFault, prefix_at, read_required, read_strict_prefix, strict_base, with_base}
 use Rattle.qpack_spec.specs.Stateless.{saturated_size}
 use Rattle.qpack_spec.specs.StrictReading.{CountAtZero, InLine, LineFault, LinesUnder, SectionFault, StrictReading, Read, Blocked, Refused}
@@ -14,11 +13,11 @@ use Rattle.qpack_spec.specs.StrictReading.{lines_behind, strict_lines_at}
 use Rattle.qpack_spec.specs.Window.{Window, maximum_capacity, window_insert_count}
 use Rattle.qpack_spec.proofs.Results.{ok_is, ok_pair}
 use Rattle.qpack_ends.specs.Missing.{line_missing, prefix_missing}
-use Rattle.qpack_ends.specs.PieceLaws.{reading_behind, reading_on, with_field, KeepsReading, ReadsOrWaits, LeavesReading}
+use Rattle.qpack_ends.specs.PieceLaws.{reading_behind, reading_on, with_field, ReadsOrWaits, LeavesReading}
 use Rattle.qpack_ends.specs.PieceLaws.{PiecesLeaveTheReading}
-use Rattle.qpack_ends.specs.Pieces.{ReaderView, IsReading, IsPlaced, opened, behind_line, lines_under, Next, More, Opens}
+use Rattle.qpack_ends.specs.Pieces.{ReaderView, IsPlaced, opened, behind_line, lines_under, Next, More, Opens}
 use Rattle.qpack_ends.specs.Pieces.{Stays, Gives, Over, Fails, goes_on, line_at, line_says, prefix_says, next_prefix}
-use Rattle.qpack_ends.specs.Pieces.{next_line, next_behind, next_of, most_read}
+use Rattle.qpack_ends.specs.Pieces.{next_line, next_behind, most_read}
 use Rattle.qpack_ends.specs.SectionPrefixes.{or_in_prefix, strict_numbers, with_length, prefix_behind, strict_prefix}
 use Rattle.qpack_ends.specs.declared.section.SectionPrefix.{SectionPrefix}
 use Rattle.qpack_ends.proofs.MissingParts.{line_form_is}

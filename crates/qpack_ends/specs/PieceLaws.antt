@@ -1,20 +1,15 @@
 -- What a section read in pieces has of the reading of the whole, as statements; the crate's law functions promise them
 -- (RFC 9204, sections 2.2.1 and 4.5).
 use Rattle.std.specs.Prelude.{◌≡◌, ℕ, ◌+◌, ◌-◌, ◌≤◌, ◌⊎◌, Bool, true, if◌then◌else◌, nat_lt, List, [], ◌∷◌, ◌++◌, length, drop}
-use Rattle.std.specs.Prelude.{Option, None, Some, Result, Ok, Err}
-use Rattle.std.specs.List.{AllByRecursion}
+use Rattle.std.specs.Prelude.{Option, None, Some}
 use Rattle.qpack_spec.specs.Field.{FieldLine}
 use Rattle.qpack_spec.specs.Prefix.{prefix_at}
 use Rattle.qpack_spec.specs.StrictReading.{StrictReading, Read, Blocked, Refused, lines_behind, strict_lines_at}
-use Rattle.qpack_spec.specs.StrictReading.{strict_reading, strict_section_behind}
+use Rattle.qpack_spec.specs.StrictReading.{strict_section_behind}
 use Rattle.qpack_spec.specs.Window.{Window, window_insert_count}
-use Rattle.qpack_ends.specs.Pieces.{ReaderView, IsReading, Next, More, Opens, Stays, Gives, Over, Fails, ReadsOn}
-use Rattle.qpack_ends.specs.Pieces.{fresh, opened, behind_line, lines_under, most_read, next_of}
-use Rattle.qpack_ends.specs.declared.section.SectionError.{SectionError}
-use Rattle.qpack_ends.specs.declared.section.SectionError.TheVariants.{Memory}
+use Rattle.qpack_ends.specs.Pieces.{ReaderView, IsReading, Next, More, Opens, Stays, Gives, Over, Fails}
+use Rattle.qpack_ends.specs.Pieces.{opened, behind_line, lines_under, most_read, next_of}
 use Rattle.qpack_ends.specs.declared.section.SectionPrefix.{SectionPrefix}
-use Rattle.qpack_ends.specs.declared.section.reader.Progress.{Progress}
-use Rattle.qpack_ends.specs.declared.section.reader.Progress.TheVariants as progress
 
 -- ---- the reading of what is still to come
 

@@ -2,12 +2,10 @@
 -- is whole (RFC 9204, sections 2.2.1 and 4.5).
 use Rattle.std.specs.Prelude.{◌≡◌, ℕ, suc, ◌+◌, ◌-◌, ◌^◌, ◌<◌, ◌≤◌, min, Bool, true, false, not, ◌&&◌, if◌then◌else◌}
 use Rattle.std.specs.Prelude.{◌⊎◌, ⊤, nat_lt, List, [], ◌∷◌, ◌++◌, length, drop, Option, None, Some, Result, Ok, Err}
-use Rattle.qpack_spec.specs.Bytes.{◌>>=◌}
 use Rattle.qpack_spec.specs.Field.{Field, FieldLine, field_size}
 use Rattle.qpack_spec.specs.Form.{BadInteger}
 use Rattle.qpack_spec.specs.Integer.{UnexpectedEnd}
 use Rattle.qpack_spec.specs.LengthLaws.{longest_section}
-use Rattle.qpack_spec.specs.Prefix.{prefix_at}
 use Rattle.qpack_spec.specs.Stateless.{saturated_size}
 use Rattle.qpack_spec.specs.Reading.{BadForm}
 use Rattle.qpack_spec.specs.StrictReading.{LineFault, Meaningless, SectionFault, InLine, LinesUnder, StrictReading, Read, Blocked}

@@ -1,4 +1,4 @@
-use Rattle.std.proofs.Common.{◌∙◌, Ok, ap, sym, subst, length}
+use Rattle.std.proofs.Common.{◌∙◌, Ok, ap, sym, subst}
 use Rattle.qpack_spec.specs.Table.{window}
 use Rattle.qpack_ends.specs.Decoders.{DecoderView, end_of}
 use Rattle.qpack_ends.specs.Pieces.{ReadsOn}

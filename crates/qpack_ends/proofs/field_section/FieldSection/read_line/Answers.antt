@@ -1,11 +1,10 @@
-use Rattle.std.proofs.Common.{◌≡◌, ◌∙◌, ℕ, List, [], ap, sym, subst, arith}
-use Rattle.qpack_spec.specs.StrictReading.{LineFault, strict_line_at}
+use Rattle.std.proofs.Common.{◌∙◌, ℕ, List, ap, sym, subst, arith}
+use Rattle.qpack_spec.specs.StrictReading.{LineFault}
 use Rattle.qpack_spec.specs.Field.{FieldLine}
 use Rattle.std.specs.Prelude.{Result, slice_get}
 use Rattle.qpack_ends.specs.FieldSections.{fields_in}
-use Rattle.qpack_ends.specs.Lines.{under, ReadsLine}
-use Rattle.qpack_ends.specs.Pieces.{ReadsOneLine, line_at}
-use Rattle.qpack_ends.specs.declared.field_section.Span.{Span}
+use Rattle.qpack_ends.specs.Lines.{under}
+use Rattle.qpack_ends.specs.Pieces.{ReadsOneLine}
 use Rattle.qpack_ends.proofs.OneField.{line_is, one_in_turn, one_read, read_into_none}
 use Rattle.qpack_ends.proofs.SectionLines.{first_is}
 use Rattle.qpack_ends.proofs.field_section.FieldSection.read_line.Goals as goal

@@ -1,6 +1,4 @@
-use Rattle.std.proofs.Common.{◌∙◌, sym, ap}
-use Rattle.qpack_spec.specs.Integer.{integer_at}
-use Rattle.qpack_ends.specs.Missing.{integer_missing, missing_behind_index, missing_behind_name}
+use Rattle.std.proofs.Common.{sym}
 use Rattle.qpack_ends.proofs.MissingCode.{missing_by_form}
 use Rattle.qpack_ends.proofs.section.missing.line_missing_by_first.Goals as goal
 

@@ -1,9 +1,8 @@
-use Rattle.std.proofs.Common.{◌≡◌, ◌∙◌, ◌+◌, ◌++◌, ◌<◌, ◌≤◌, ℕ, Bool, true, false, List, Option, None, Some, Ok}
+use Rattle.std.proofs.Common.{◌≡◌, ◌∙◌, ◌+◌, ◌++◌, ℕ, true, false, List, Option, None, Some, Ok}
 use Rattle.std.proofs.Common.{ap, sym, subst, refl, arith, length}
 use Rattle.std.specs.Prelude.{nat_le}
 use Rattle.qpack_spec.specs.Field.{FieldLine}
 use Rattle.qpack_spec.specs.Table.{window}
-use Rattle.qpack_spec.specs.Window.{window_insert_count}
 use Rattle.qpack_ends.specs.Pieces.{ReaderView, Answers, Stays, most_read, next_behind, next_prefix, next_line, lines_under}
 use Rattle.qpack_ends.specs.declared.section.SectionPrefix.{SectionPrefix}
 use Rattle.qpack_ends.specs.declared.section.reader.Progress.TheVariants.{Blocked}

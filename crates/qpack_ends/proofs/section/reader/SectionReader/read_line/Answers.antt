@@ -1,4 +1,4 @@
-use Rattle.std.proofs.Common.{◌≡◌, ◌∙◌, ◌++◌, ◌+◌, ◌-◌, ℕ, List, [], Option, Some, Ok, Err, ap, sym, subst, arith, refl, length, drop, rules}
+use Rattle.std.proofs.Common.{◌≡◌, ◌∙◌, ◌++◌, ◌+◌, ◌-◌, ℕ, List, Some, Ok, Err, ap, subst, arith, refl, length, drop, rules}
 use Rattle.std.proofs.Common.{◌<◌}
 use Rattle.qpack_ends.specs.Lines.{under}
 use Rattle.qpack_ends.specs.Pieces.{ReaderView, Answers, next_line, part_behind, FindsLine, kept_failure}

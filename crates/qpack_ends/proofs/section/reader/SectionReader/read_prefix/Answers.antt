@@ -1,7 +1,6 @@
-use Rattle.std.proofs.Common.{◌≡◌, ◌∙◌, ◌++◌, ◌-◌, ℕ, List, [], Option, Some, Ok, ap, sym, subst, arith, refl, length, drop, rules}
+use Rattle.std.proofs.Common.{◌≡◌, ◌∙◌, ◌++◌, ◌-◌, ℕ, List, [], Some, Ok, ap, subst, arith, refl, length, drop, rules}
 use Rattle.qpack_spec.specs.Table.{window}
 use Rattle.qpack_ends.specs.Pieces.{ReaderView, Answers, next_prefix, opened, FindsPrefix}
-use Rattle.qpack_ends.specs.declared.section.SectionPrefix.{SectionPrefix}
 use Rattle.qpack_ends.specs.declared.section.reader.Progress.TheVariants.{Prefix}
 use Rattle.qpack_ends.proofs.PieceParts.{none_placed, no_line_waits, answers_opens}
 use Rattle.qpack_ends.proofs.section.reader.SectionReader.read_prefix.Goals as goal
