@@ -56,7 +56,7 @@ record ReadsFirst (f : FieldLine) (fields : List FieldLine) (required : ℕ) (re
 reads_first : (f : FieldLine) (fields : List FieldLine) (required many : ℕ) (read : Result (List FieldLine) SectionFault)
     → ReadsOrWaits fields required (with_field f (lines_behind many read))
     → ReadsFirst f fields required (lines_behind many read)
-reads_first f fields required many (Ok fs) (inl e) = record { others = fs; all = cc; behind = cc; }
+reads_first f fields required many (Ok fs) (inl e) = record { others = fs; all = cc; behind = cc }
 reads_first f fields required many (Ok fs) (inr e) = absurd cc
 reads_first f fields required many (Err fault) (inl e) = absurd cc
 reads_first f fields required many (Err fault) (inr e) = absurd cc
@@ -116,8 +116,7 @@ prefix_alike w other bytes p q e h same = go (prefix_at bytes) e h
         let n = numbers len (strict_numbers w x.0) p is in
         let m = numbers len (strict_numbers other x.0) q at in
         let a = numbers_based w x.0 p.0 p.1 n.0 in
-        let b = numbers_based other x.0 q.0 q.1 m.0 in
-        (
+        let b = numbers_based other x.0 q.0 q.1 m.0 in (
           ok_is p.1 q.1 (sym a ∙ ap (strict_base x.0) same ∙ b),
           n.1 ∙ sym m.1,
         )
@@ -193,11 +192,10 @@ prefix_leaves w other limit last r all more fields required both here there =
         let same : b ≡ a =
         ap (λ (n : ℕ). let x : SectionPrefix = record { required = n; base = q.1; length = q.2 } in x) (sym numbers)
         ∙ ap (λ (n : ℕ). let x : SectionPrefix = record { required = p.0; base = n; length = q.2 } in x) (sym alike.0)
-        ∙ ap (λ (n : ℕ). let x : SectionPrefix = record { required = p.0; base = p.1; length = n } in x) (sym alike.1) in
-        (
+        ∙ ap (λ (n : ℕ). let x : SectionPrefix = record { required = p.0; base = p.1; length = n } in x) (sym alike.1) in (
           first,
           subst (ReadsOrWaits fields required)
-          (l ∙ ap (λ (x : SectionPrefix). reading_on other limit (opened x r) (drop x.length all ++ more)) same) both.1,
+              (l ∙ ap (λ (x : SectionPrefix). reading_on other limit (opened x r) (drop x.length all ++ more)) same) both.1,
         )
 
     pick : (t : Bool) → keeps w (cond t More (prefix_says (strict_prefix w all)))
@@ -309,9 +307,12 @@ lines_leave w other limit last r p (b ∷ rest) more fields required known le bo
     found (Ok x) y e h kept there =
         let here = first w x.0 x.1 le kept both.0 in
         elim (cases_lt (window_insert_count other) p.required) [
-          | inl lt ↦ (here.others, here.all,
-              inr (waits_on other limit (behind_line (length all - length x.1) x.0.field r) p (x.1 ++ more) known lt
-              ∙ ap Blocked (requires x.0 x.1 here)))
+          | inl lt ↦ (
+            here.others,
+            here.all,
+            inr (waits_on other limit (behind_line (length all - length x.1) x.0.field r) p (x.1 ++ more) known lt
+                ∙ ap Blocked (requires x.0 x.1 here)),
+          )
           | inr le ↦ (here.others, here.all, inl (given x y e h here le (there le) here.others here.all))
         ]
 
