@@ -32,3 +32,4 @@ pub mod PieceAnswers
 pub mod PieceSteps
 pub mod OneField
 pub mod PieceWindows
+pub mod PiecesInTurn

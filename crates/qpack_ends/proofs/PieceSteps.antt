@@ -187,7 +187,7 @@ pub behind_read : (w : Window) (limit : ℕ) (r : ReaderView) (p : SectionPrefix
     (suc r.lines) (saturated_size (r.sum + field_size f.field)) left)
 behind_read w limit r p f len left there = rw (le-ltb (window_insert_count w) p.required there) refl
 
-none_waits : 0 < line_missing []
+pub none_waits : 0 < line_missing []
 unfolding line_missing
 none_waits = omega arith
 
@@ -326,7 +326,7 @@ numbered w limit p left lines sum =
     if nat_lt (window_insert_count w) p.0 then Blocked p.0 else lines_behind p.0 (strict_lines_at (length left)
     (record { window = w; required = p.0; base = p.1; limit = limit; section = p.2 + length left }) lines sum left)
 
-no_prefix_waits : 0 < prefix_missing []
+pub no_prefix_waits : 0 < prefix_missing []
 no_prefix_waits = nothing_is_prefix [] refl
 
 prefix_keeps : (w : Window) (limit : ℕ) (last : Bool) (r : ReaderView) (all more : List ℕ) → r.lines ≡ 0 → r.sum ≡ 0

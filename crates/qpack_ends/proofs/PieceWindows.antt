@@ -26,7 +26,7 @@ use Rattle.qpack_ends.proofs.PieceSteps.{Keeps, behind_keeps, behind_read, same_
 
 -- ---- readings
 
-never_refused : (fields : List FieldLine) (required : ℕ) (fault : SectionFault)
+pub never_refused : (fields : List FieldLine) (required : ℕ) (fault : SectionFault)
     → ReadsOrWaits fields required (Refused fault) → ⊥
 never_refused fields required fault (inl e) = absurd cc
 never_refused fields required fault (inr e) = absurd cc

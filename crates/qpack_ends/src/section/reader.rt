@@ -7,7 +7,8 @@ ghost use Rattle.qpack_ends.specs.FieldSections.{GrowsWithin};
 ghost use Rattle.qpack_ends.specs.Lines.{under};
 ghost use Rattle.qpack_ends.specs.Pieces.{ReadsOn, Answers, fresh, most_read, next_prefix, next_line, part_behind};
 ghost use Rattle.qpack_ends.specs.Missing.{line_missing, prefix_missing};
-ghost use Rattle.qpack_ends.specs.PieceLaws.{PiecesKeepTheReading, PiecesLeaveTheReading};
+ghost use Rattle.qpack_ends.specs.PieceLaws.{PiecesGiveTheFields, PiecesGiveTheSection, PiecesKeepTheReading};
+ghost use Rattle.qpack_ends.specs.PieceLaws.{PiecesLeaveTheReading};
 ghost use Rattle.qpack_ends.specs.Pieces.{front_of, kept_failure};
 ghost use Rattle.qpack_ends.specs.Pieces.{FindsPrefix, GathersPrefix, FindsLine, GathersLine, Gathers, AppendsMissing};
 ghost use Rattle.qpack_ends.specs.declared.section.missing.Part.TheVariants.{Line};
@@ -446,8 +447,11 @@ pub fn pieces_keep_the_reading()
     ensures { PiecesKeepTheReading }
 {}
 
-/// The table may change between calls: a section that tables read as the same fields, or with which they wait, leaves to
-/// each what it reads of the rest.
-pub fn pieces_leave_the_reading()
-    ensures { PiecesLeaveTheReading }
+/// The table may change between calls. A section that tables read as the same fields, or with which they wait, leaves to
+/// each what it reads of the rest. So calls under such tables give these fields in turn, and then the end: those of the
+/// whole section, if `read_section` would read it under each, or wait.
+pub fn pieces_give_the_section()
+    ensures leave { PiecesLeaveTheReading }
+    ensures fields { PiecesGiveTheFields }
+    ensures section { PiecesGiveTheSection }
 {}
