@@ -1,14 +1,14 @@
 -- What the calls over sections that come in pieces do in C.
 use Rattle.std.specs.Prelude.{◌≡◌, ◌-◌, ℕ, Bool, List, [], length, Option, Some, Result, Ok, Err}
 use Rattle.qpack_ends.specs.declared.decoder.DecodingError.{DecodingError}
-use Rattle.qpack_ends.specs.declared.decoder.DecodingError.TheVariants.{Section}
+use Rattle.qpack_ends.specs.declared.decoder.DecodingError.TheVariants.{Section, Memory}
 use Rattle.qpack_ends.specs.declared.section.SectionError.TheVariants.{Line}
 use Rattle.qpack_ends.specs.declared.section.reader.Progress.{Progress}
 use Rattle.qpack_ends.specs.declared.section.reader.Progress.TheVariants.{Waits, Prefix, Blocked, Field, Ends}
 use Rattle.qpack_ends.specs.Decoders.{end_of}
 use Rattle.qpack_ends.specs.FieldSections.{GrowsWithin}
-use Rattle.qpack_ends.specs.PieceDecoders.{ReadsPiece, answer_to_next, next_here}
-use Rattle.qpack_ends.specs.Pieces.{fresh}
+use Rattle.qpack_ends.specs.PieceDecoders.{ReadsPiece, NeedsMemoryForPiece, answer_to_next, next_here}
+use Rattle.qpack_ends.specs.Pieces.{KeepsWithin, fresh}
 use Rattle.qpack_ends.specs.Unsent.{KeepsRoom}
 use Rattle.h3_qpack_c.specs.declared.answers.Piece.{Piece}
 use Rattle.h3_qpack_c.specs.declared.decoder.State.{State}
@@ -17,7 +17,7 @@ use Rattle.h3_qpack_c.specs.Statuses.{done, blocked, gives_field, ends, begins, 
 
 -- a reader at the start of a section, which has no field
 pub record IsReader (stream : ℕ) (r : Reader) : Type 0 where
-  pub reader : r.reader ≡ fresh stream
+  pub reader : r.reader ≡ record { section = fresh stream; room = 0 }
   pub fields : r.fields ≡ record { fields = []; text_room = 0; fields_room = 0 }
 
 -- such a reader is kept
@@ -57,10 +57,12 @@ pub record ReadsPieceTo (old new : State) (was reader : Reader) (bytes : List �
     Type 0 where
   pub answer : Result Progress DecodingError
   pub left : List ℕ
-  pub reads : ReadsPiece (end_of old.end) (end_of new.end) last was.reader reader.reader bytes left
+  pub reads : ReadsPiece (end_of old.end) (end_of new.end) last was.reader.section reader.reader.section bytes left
       reader.fields.fields answer
-  pub unsent : KeepsRoom (length (answer_to_next was.reader.stream (next_here (end_of old.end) last was.reader bytes)
-      (end_of old.end))) old.end.unsent new.end.unsent
+  pub memory : answer ≡ Err Memory → NeedsMemoryForPiece old.end last was.reader bytes was.fields
+  pub kept : KeepsWithin old.end.settings.max_section_size was.reader reader.reader
+  pub unsent : KeepsRoom (length (answer_to_next was.reader.section.stream
+      (next_here (end_of old.end) last was.reader.section bytes) (end_of old.end))) old.end.unsent new.end.unsent
   pub room : GrowsWithin old.end.settings.max_section_size was.fields reader.fields
   pub fields : new.fields ≡ old.fields
   pub told_is : told ≡ told_of_piece answer (length bytes - length left)

@@ -105,7 +105,7 @@ pub extern "C" fn h3q_reader_field(handle: &mut Handle, out: &mut [u8]) -> Given
 #[unsafe(no_mangle)]
 pub extern "C" fn h3q_reader_waiting(handle: &mut Handle) -> usize
     ensures same { handle.new.value ≡ handle.old.value }
-    ensures exact { result ≡ length handle.old.value.reader.pending }
+    ensures exact { result ≡ length handle.old.value.reader.section.pending }
 {
     let state = state(handle);
     let waiting = state.reader.waiting();

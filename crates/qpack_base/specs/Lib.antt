@@ -13,5 +13,6 @@ pub mod BitPositions
 pub mod Payloads
 pub mod Writes
 pub mod Strings
+pub mod Codings
 pub mod WrittenPayloads
 pub mod ParseErrors

@@ -294,7 +294,7 @@ pub fn append_within<A: Allocator>(
 
 /// Returns the vector with the bytes appended, for which there is room: sixteen at a time, and the last ones eight, four,
 /// two and one at a time. It is passed by value, so that it stays in registers.
-fn extended<A: Allocator>(mut buf: Vec<u8, A>, bytes: &[u8]) -> (Vec<u8, A>, ())
+pub(crate) fn extended<A: Allocator>(mut buf: Vec<u8, A>, bytes: &[u8]) -> (Vec<u8, A>, ())
     requires { vec_len buf + length bytes.now ≤ vec_capacity buf }
     ensures items { result.0.items ≡ buf.items ++ bytes.now }
     ensures capacity { vec_capacity result.0 ≡ vec_capacity buf }

@@ -2,18 +2,21 @@
 //! RFC 9204, section 4.1.2).
 
 ghost use Rattle.std.specs.Prelude.{◌≡◌, ◌≢◌, ℕ, ◌≤◌, ◌-◌, ◌++◌, ◌↔◌, List, [], Err, IfOk, IfErr, OnOk, OnErr};
-ghost use Rattle.std.specs.Prelude.{◌+◌, ◌*◌, ◌/◌, ◌<◌, Ok, length, take, vec_len, vec_capacity, IsTrue, false, max};
+ghost use Rattle.std.specs.Prelude.{◌+◌, ◌*◌, ◌/◌, ◌<◌, Ok, length, take, vec_len, vec_capacity, IsTrue, false, max, min, ◌^◌};
 ghost use Rattle.qpack_spec.specs.Bytes.{Begins};
-ghost use Rattle.qpack_spec.specs.Huffman.{HuffmanFault, bits_of_bytes, with_front, text_of_bits};
+ghost use Rattle.qpack_spec.specs.Huffman.{HuffmanFault, bits_of_bytes, payload_of, with_front, text_of_bits};
 ghost use Rattle.qpack_spec.specs.Text.{LengthOverflows, BadHuffman, SpellsString, RefusesString, TruncatesString};
-ghost use Rattle.qpack_spec.specs.Text.{HoldsPayload, value_before, string_at, written_string};
+ghost use Rattle.qpack_spec.specs.Text.{HoldsPayload, value_before, string_at, is_coded, written_literal_of};
+ghost use Rattle.qpack_spec.specs.Text.{coded_string, written_string};
 ghost use Rattle.qpack_base.specs.Cursor.{MovesPast};
 ghost use Rattle.qpack_base.specs.Payloads.{huffman_fault_of, HasRoom};
 ghost use Rattle.qpack_base.specs.Refusals.{IsRefusedFor};
 ghost use Rattle.qpack_base.specs.Writes.{Writes};
 ghost use Rattle.qpack_base.specs.Strings.{error_of_integer, string_fault_of, meaning, ReadsString};
 ghost use Rattle.qpack_base.specs.Strings.{AppendsText, GivesValue, IsFaulty, GivesFault};
+ghost use Rattle.qpack_base.specs.Codings.{coding_of};
 ghost use Rattle.qpack_base.specs.Strings.{AppendsStringWithin, AppendsTextWithin, FitsWithin, FitsStringWithin};
+ghost use Rattle.qpack_base.specs.declared.prefix_string.Attempt.TheVariants.{Appended, Plain};
 ghost use Rattle.qpack_base.specs.declared.prefix_string.Error.TheVariants.{UnexpectedEnd as Truncated};
 ghost use Rattle.qpack_base.specs.declared.prefix_string.Error.TheVariants.{Integer as BadLength};
 ghost use Rattle.qpack_base.specs.declared.prefix_string.Error.TheVariants.{HuffmanDecoding as BadPayload};
@@ -26,7 +29,7 @@ mod decoding;
 mod encoding;
 mod pair_table;
 
-use crate::coding::{Cursor, NoMemory, append_within, make_room, make_room_within};
+use crate::coding::{Cursor, NoMemory, append_within, extended, make_room, make_room_within};
 use crate::prefix_int;
 use crate::prefix_string::ahead::push_codes;
 pub use crate::prefix_string::bitwin::BitWindow;
@@ -110,6 +113,40 @@ impl<T: Drop> From<AllocFailed<T>> for Error {
     }
 }
 
+/// Which strings are coded, which RFC 9204, section 4.1.2 leaves to the encoder.
+#[derive(Clone, Copy, Debug, PartialEq, Drop)]
+pub enum Coding {
+    /// Every string.
+    Always,
+    /// The strings that the code makes shorter.
+    WhereShorter,
+}
+
+impl Coding {
+    /// Returns whether the value is coded, by the length of its payload.
+    #[inline(always)]
+    fn codes(self, payload_len: usize, value: &[u8]) -> bool
+        requires { payload_len ≡ min (length (payload_of value.now)) (2 ^ 64 - 1) }
+        ensures { result ≡ is_coded (coding_of self) value.now }
+    {
+        match self {
+            Coding::Always => true,
+            Coding::WhereShorter => payload_len < value.len(),
+        }
+    }
+}
+
+/// What became of a literal whose payload was written first.
+#[derive(Clone, Copy, PartialEq, Drop)]
+enum Attempt {
+    /// It was appended.
+    Appended,
+    /// It is to be plain, and the vector is unchanged.
+    Plain,
+    /// Its length takes more bytes than were left for it, or fewer, and the vector is unchanged.
+    Misfit,
+}
+
 /// The payload of a string, whole, and the flags before its length, of which the lowest says whether it is coded.
 #[derive(Clone, Copy)]
 struct Payload<'a> {
@@ -187,12 +224,31 @@ pub fn encode<A: Allocator>(
     ensures writes { Writes (written_string size flags value.now) buf.old buf.new result }
     ensures memory { IfErr result (λ e. e ≡ NoRoom) }
 {
-    Ok(append(size, flags, value, buf)?)
+    encode_under(Coding::Always, size, flags, value, buf)
 }
 
-/// Appends the literal as `encode` does, with an error that fits a register. Inlined, it knows the size of the prefix.
+/// Appends the literal as `encode` does, plain if the coding has it so.
+#[inline(always)]
+pub fn encode_under<A: Allocator>(
+    coding: Coding,
+    size: u8,
+    flags: u8,
+    value: &[u8],
+    buf: &mut Vec<u8, A>,
+) -> Result<(), Error>
+    requires least { 2 ≤ size }
+    requires most { size ≤ 8 }
+    ensures writes { Writes (coded_string (coding_of coding) size flags value.now) buf.old buf.new result }
+    ensures memory { IfErr result (λ e. e ≡ NoRoom) }
+{
+    Ok(append(coding, size, flags, value, buf)?)
+}
+
+/// Appends the literal as `encode_under` does, with an error that fits a register. Inlined, it knows the size of the
+/// prefix.
 #[inline(always)]
 fn append<A: Allocator>(
+    coding: Coding,
     size: u8,
     flags: u8,
     value: &[u8],
@@ -200,12 +256,16 @@ fn append<A: Allocator>(
 ) -> Result<(), NoMemory>
     requires least { 2 ≤ size }
     requires most { size ≤ 8 }
-    ensures { Writes (written_string size flags value.now) buf.old buf.new result }
+    ensures { Writes (coded_string (coding_of coding) size flags value.now) buf.old buf.new result }
 {
-    if has_ample_room(value, buf) && append_unmeasured(size, flags, value, buf) {
-        return Ok(());
+    if !has_ample_room(value, buf) {
+        return append_measured(coding, size, flags, value, buf);
     }
-    append_measured(size, flags, value, buf)
+    match append_unmeasured(coding, size, flags, value, buf) {
+        Attempt::Appended => Ok(()),
+        Attempt::Plain => append_plain(size, flags, value, buf),
+        Attempt::Misfit => append_measured(coding, size, flags, value, buf),
+    }
 }
 
 /// Returns whether there is room for two bytes and the payload of this text, which has at most four bytes for each of
@@ -218,61 +278,86 @@ fn has_ample_room<A: Allocator>(value: &[u8], buf: &Vec<u8, A>) -> bool
 }
 
 /// Appends the literal of a text whose payload is written first, with room in front of it for its length: as much as
-/// that takes if a code has six bits, which is about what one has in a field. If it takes more or less, or more than
-/// two bytes, the vector is unchanged.
+/// that takes if a code has six bits, which is about what one has in a field. It is a misfit if it takes more or less, or
+/// more than two bytes.
 #[inline(always)]
-fn append_unmeasured<A: Allocator>(size: u8, flags: u8, value: &[u8], buf: &mut Vec<u8, A>) -> bool
+fn append_unmeasured<A: Allocator>(
+    coding: Coding,
+    size: u8,
+    flags: u8,
+    value: &[u8],
+    buf: &mut Vec<u8, A>,
+) -> Attempt
     requires least { 2 ≤ size }
     requires most { size ≤ 8 }
     requires room { vec_len buf.old + 4 * length value.now + 2 ≤ vec_capacity buf.old }
-    ensures done { IsTrue result → buf.new.items ≡ buf.old.items ++ written_string size flags value.now }
-    ensures undone { result ≡ false → buf.new.items ≡ buf.old.items }
+    ensures done { result ≡ Appended →
+        buf.new.items ≡ buf.old.items ++ coded_string (coding_of coding) size flags value.now }
+    ensures plain { result ≡ Plain → is_coded (coding_of coding) value.now ≡ false }
+    ensures undone { result ≢ Appended → buf.new.items ≡ buf.old.items }
     ensures capacity { vec_capacity buf.new ≡ vec_capacity buf.old }
 {
     let likely = value.len() - value.len() / 4;
     let prefix = (1 << (size - 1)) - 1;
     if likely < prefix {
-        return append_short(size, flags, value, buf);
+        return append_short(coding, size, flags, value, buf);
     }
     if likely < prefix + 128 {
-        return append_paired(size, flags, value, buf);
+        return append_paired(coding, size, flags, value, buf);
     }
-    false
+    Attempt::Misfit
 }
 
 /// Appends the literal, if its length takes one byte: that byte is written again once the payload is after it.
-/// Otherwise the vector is unchanged.
 #[inline(always)]
-#[tactic(auto, unfolding(qpack_spec::specs::Text::written_string))]
-fn append_short<A: Allocator>(size: u8, flags: u8, value: &[u8], buf: &mut Vec<u8, A>) -> bool
+fn append_short<A: Allocator>(
+    coding: Coding,
+    size: u8,
+    flags: u8,
+    value: &[u8],
+    buf: &mut Vec<u8, A>,
+) -> Attempt
     requires least { 2 ≤ size }
     requires most { size ≤ 8 }
     requires room { vec_len buf.old + 4 * length value.now + 1 ≤ vec_capacity buf.old }
-    ensures done { IsTrue result → buf.new.items ≡ buf.old.items ++ written_string size flags value.now }
-    ensures undone { result ≡ false → buf.new.items ≡ buf.old.items }
+    ensures done { result ≡ Appended →
+        buf.new.items ≡ buf.old.items ++ coded_string (coding_of coding) size flags value.now }
+    ensures plain { result ≡ Plain → is_coded (coding_of coding) value.now ≡ false }
+    ensures undone { result ≢ Appended → buf.new.items ≡ buf.old.items }
     ensures capacity { vec_capacity buf.new ≡ vec_capacity buf.old }
 {
     let start = buf.len();
     buf.push_reserved(0);
     encoding::put_payload(value, buf);
     let len = buf.len() - start - 1;
+    if !coding.codes(len, value) {
+        buf.truncate(start);
+        return Attempt::Plain;
+    }
     let Some(head) = prefix_int::short(size - 1, flags % 0x80 * 2 + 1, len as u64) else {
         buf.truncate(start);
-        return false;
+        return Attempt::Misfit;
     };
     buf[start] = head;
-    true
+    Attempt::Appended
 }
 
 /// Appends the literal as `append_short` does, if its length takes two bytes.
 #[inline(always)]
-#[tactic(auto, unfolding(qpack_spec::specs::Text::written_string))]
-fn append_paired<A: Allocator>(size: u8, flags: u8, value: &[u8], buf: &mut Vec<u8, A>) -> bool
+fn append_paired<A: Allocator>(
+    coding: Coding,
+    size: u8,
+    flags: u8,
+    value: &[u8],
+    buf: &mut Vec<u8, A>,
+) -> Attempt
     requires least { 2 ≤ size }
     requires most { size ≤ 8 }
     requires room { vec_len buf.old + 4 * length value.now + 2 ≤ vec_capacity buf.old }
-    ensures done { IsTrue result → buf.new.items ≡ buf.old.items ++ written_string size flags value.now }
-    ensures undone { result ≡ false → buf.new.items ≡ buf.old.items }
+    ensures done { result ≡ Appended →
+        buf.new.items ≡ buf.old.items ++ coded_string (coding_of coding) size flags value.now }
+    ensures plain { result ≡ Plain → is_coded (coding_of coding) value.now ≡ false }
+    ensures undone { result ≢ Appended → buf.new.items ≡ buf.old.items }
     ensures capacity { vec_capacity buf.new ≡ vec_capacity buf.old }
 {
     let start = buf.len();
@@ -280,20 +365,24 @@ fn append_paired<A: Allocator>(size: u8, flags: u8, value: &[u8], buf: &mut Vec<
     buf.push_reserved(0);
     encoding::put_payload(value, buf);
     let len = buf.len() - start - 2;
+    if !coding.codes(len, value) {
+        buf.truncate(start);
+        return Attempt::Plain;
+    }
     let head = prefix_int::paired(size - 1, flags % 0x80 * 2 + 1, len as u64);
     let Some((first, second)) = head else {
         buf.truncate(start);
-        return false;
+        return Attempt::Misfit;
     };
     buf[start] = first;
     buf[start + 1] = second;
-    true
+    Attempt::Appended
 }
 
 /// Appends the literal, with its length first.
 #[inline(never)]
-#[tactic(auto, unfolding(qpack_spec::specs::Text::written_string))]
 fn append_measured<A: Allocator>(
+    coding: Coding,
     size: u8,
     flags: u8,
     value: &[u8],
@@ -301,13 +390,52 @@ fn append_measured<A: Allocator>(
 ) -> Result<(), NoMemory>
     requires least { 2 ≤ size }
     requires most { size ≤ 8 }
-    ensures { Writes (written_string size flags value.now) buf.old buf.new result }
+    ensures { Writes (coded_string (coding_of coding) size flags value.now) buf.old buf.new result }
 {
     let len = encoding::payload_len(value);
+    if !coding.codes(len, value) {
+        return append_plain(size, flags, value, buf);
+    }
+    append_coded(size, flags, len, value, buf)
+}
+
+/// Appends the coded literal, by the length of its payload.
+#[inline(always)]
+fn append_coded<A: Allocator>(
+    size: u8,
+    flags: u8,
+    len: usize,
+    value: &[u8],
+    buf: &mut Vec<u8, A>,
+) -> Result<(), NoMemory>
+    requires least { 2 ≤ size }
+    requires most { size ≤ 8 }
+    requires len { len ≡ min (length (payload_of value.now)) (2 ^ 64 - 1) }
+    ensures { Writes (written_literal_of size flags 1 (payload_of value.now)) buf.old buf.new result }
+{
     let head = prefix_int::encoded_len(size - 1, len as u64);
     make_room(buf, len.saturating_add(head))?;
     prefix_int::put(size - 1, flags % 0x80 * 2 + 1, len as u64, buf);
     encoding::put_payload(value, buf);
+    Ok(())
+}
+
+/// Appends the plain literal.
+#[inline(never)]
+fn append_plain<A: Allocator>(
+    size: u8,
+    flags: u8,
+    value: &[u8],
+    buf: &mut Vec<u8, A>,
+) -> Result<(), NoMemory>
+    requires least { 2 ≤ size }
+    requires most { size ≤ 8 }
+    ensures { Writes (written_literal_of size flags 0 value.now) buf.old buf.new result }
+{
+    let head = prefix_int::encoded_len(size - 1, value.len() as u64);
+    make_room(buf, value.len().saturating_add(head))?;
+    prefix_int::put(size - 1, flags % 0x80 * 2, value.len() as u64, buf);
+    replace_with(buf, value, extended);
     Ok(())
 }
 

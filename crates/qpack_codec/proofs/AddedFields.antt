@@ -5,32 +5,33 @@ use Rattle.std.proofs.Common.{arith}
 use Rattle.std.proofs.Math.Seq.{take-suc}
 use Rattle.std.proofs.lemmas.List.{map-append}
 use Rattle.qpack_spec.specs.Field.{Field, FieldLine}
-use Rattle.qpack_spec.specs.Marked.{written_marked_lines}
-use Rattle.qpack_spec.specs.Instruction.{EncoderInstruction, written_encoder_instruction, written_encoder_instructions}
-use Rattle.qpack_spec.specs.Line.{Line, written_lines, written_marked_line}
+use Rattle.qpack_spec.specs.Marked.{coded_marked_lines}
+use Rattle.qpack_spec.specs.Instruction.{EncoderInstruction, coded_encoder_instruction, coded_encoder_instructions}
+use Rattle.qpack_spec.specs.Line.{Line, coded_lines, coded_marked_line}
 use Rattle.qpack_spec.specs.Rule.{Draft}
+use Rattle.qpack_spec.specs.Text.{Coding}
 
 -- ---- what is written, one list behind another
 
-pub lines_behind : (ls ks : List FieldLine) (xs ys : List Line) → length xs ≡ length ls
-    → written_marked_lines (ls ++ ks) (xs ++ ys) ≡ written_marked_lines ls xs ++ written_marked_lines ks ys
-unfolding written_marked_lines written_lines
-lines_behind [] ks [] ys each = refl
-lines_behind [] ks (x ∷ xs) ys each = absurd (omega (arith, each))
-lines_behind (l ∷ ls) ks [] ys each = absurd (omega (arith, each))
-lines_behind (l ∷ ls) ks (x ∷ xs) ys each =
-    ap (λ (b : List ℕ). written_marked_line l.never_indexed x ++ b) (lines_behind ls ks xs ys (omega (arith, each)))
-    ∙ sym (append_assoc (written_marked_line l.never_indexed x) (written_marked_lines ls xs)
-    (written_marked_lines ks ys))
+pub lines_behind : (coding : Coding) (ls ks : List FieldLine) (xs ys : List Line) → length xs ≡ length ls
+    → coded_marked_lines coding (ls ++ ks) (xs ++ ys) ≡ coded_marked_lines coding ls xs ++ coded_marked_lines coding ks ys
+unfolding coded_marked_lines coded_lines
+lines_behind coding [] ks [] ys each = refl
+lines_behind coding [] ks (x ∷ xs) ys each = absurd (omega (arith, each))
+lines_behind coding (l ∷ ls) ks [] ys each = absurd (omega (arith, each))
+lines_behind coding (l ∷ ls) ks (x ∷ xs) ys each =
+    ap (λ (b : List ℕ). coded_marked_line coding l.never_indexed x ++ b) (lines_behind coding ls ks xs ys (omega (arith, each)))
+    ∙ sym (append_assoc (coded_marked_line coding l.never_indexed x) (coded_marked_lines coding ls xs)
+    (coded_marked_lines coding ks ys))
 
-pub instructions_behind : (is js : List EncoderInstruction)
-    → written_encoder_instructions (is ++ js) ≡ written_encoder_instructions is ++ written_encoder_instructions js
-unfolding written_encoder_instructions
-instructions_behind [] js = refl
-instructions_behind (i ∷ is) js =
-    ap (λ (x : List ℕ). written_encoder_instruction i ++ x) (instructions_behind is js)
-    ∙ sym (append_assoc (written_encoder_instruction i) (written_encoder_instructions is)
-    (written_encoder_instructions js))
+pub instructions_behind : (coding : Coding) (is js : List EncoderInstruction)
+    → coded_encoder_instructions coding (is ++ js) ≡ coded_encoder_instructions coding is ++ coded_encoder_instructions coding js
+unfolding coded_encoder_instructions
+instructions_behind coding [] js = refl
+instructions_behind coding (i ∷ is) js =
+    ap (λ (x : List ℕ). coded_encoder_instruction coding i ++ x) (instructions_behind coding is js)
+    ∙ sym (append_assoc (coded_encoder_instruction coding i) (coded_encoder_instructions coding is)
+    (coded_encoder_instructions coding js))
 
 -- ---- a field behind others
 

@@ -5,7 +5,7 @@ use Rattle.std.proofs.Common.{Result, Ok, Err}
 use Rattle.std.specs.Prelude.{◌&&◌, IfOk, OnErr}
 use Rattle.std.proofs.lemmas.Bool.{lt-leb, cond_both}
 use Rattle.qpack_spec.specs.Field.{Field, FieldLine, field_size, total_size, has_name, is_field}
-use Rattle.qpack_spec.specs.Instruction.{written_encoder_instructions}
+use Rattle.qpack_spec.specs.Instruction.{coded_encoder_instructions, written_encoder_instructions}
 use Rattle.qpack_spec.specs.Line.{Line}
 use Rattle.qpack_spec.specs.Marked.{marked_field, marked_fields, marked_rule, written_marked_block}
 use Rattle.qpack_spec.specs.Marked.{stateless_line_marked, stateless_block_marked}
@@ -118,7 +118,7 @@ table_is t ls stream = rw (lt-leb (suc t.known_received_count) 0 (omega arith)) 
 encodes_bare : (stream : ℕ) (fs : List FieldLine) (old : Table) (before after written : List ℕ) → IsBare old
     → after ≡ before ++ written_marked_block fs (stateless_block_marked fs)
     → EncodesLines stream fs old (without_references old) before after written written 0
-unfolding written_encoder_instructions
+unfolding coded_encoder_instructions
 encodes_bare stream fs old before after written bare is =
     let lines = map (λ l. stateless_line_marked l) fs in
     let rule = rule_is old fs bare in
@@ -149,7 +149,7 @@ encodes_alone stream fs (Ok required) old new capacity before after written at z
 
 none_kept : (fs : List FieldLine) (old : Table) (written : List ℕ)
     → GivesUpLines fs old (without_references old) written written
-unfolding marked_rule without_references written_encoder_instructions
+unfolding marked_rule without_references coded_encoder_instructions
 none_kept fs old written = record { many = 0; table = refl; written = sym (append-nil written) }
 
 pub gives_up_alone : (fs : List FieldLine) (answer : Result ℕ EncoderError) (old new : Table) (written : List ℕ)

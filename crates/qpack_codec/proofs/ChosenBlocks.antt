@@ -7,9 +7,9 @@ use Rattle.std.proofs.lemmas.List.{length-map}
 use Rattle.qpack_spec.specs.Chosen.{Chosen, alone_chosen, literal_alone, line_alone}
 use Rattle.qpack_spec.specs.Chosen.{chosen_field, chosen_fields, chosen_rule}
 use Rattle.qpack_spec.specs.Field.{Field, FieldLine}
-use Rattle.qpack_spec.specs.Instruction.{written_encoder_instructions}
+use Rattle.qpack_spec.specs.Instruction.{coded_encoder_instructions}
 use Rattle.qpack_spec.specs.Line.{Line}
-use Rattle.qpack_spec.specs.Marked.{written_marked_lines, written_marked_block, stateless_line_marked}
+use Rattle.qpack_spec.specs.Marked.{coded_marked_lines, coded_marked_block, stateless_line_marked}
 use Rattle.qpack_spec.specs.Marked.{stateless_block_marked}
 use Rattle.qpack_spec.specs.Prefix.{Prefix, prefix_for, written_prefix}
 use Rattle.qpack_spec.specs.Reading.{Block, greatest_of}
@@ -18,6 +18,7 @@ use Rattle.qpack_spec.specs.Stateless.{stateless_literal, stateless_line_of, sta
 use Rattle.qpack_spec.specs.StaticTable.{static_index, static_name_index}
 use Rattle.qpack_spec.specs.Table.{Table, insert_count, without_references, commit}
 use Rattle.qpack_spec.specs.Window.{maximum_capacity}
+use Rattle.qpack_spec.specs.Text.{Coding}
 use Rattle.qpack_base.specs.declared.coding.NoMemory.{NoMemory}
 use Rattle.qpack_codec.specs.Encoding.{draft_at}
 use Rattle.qpack_codec.specs.ChoosesAlong.{Chooses, ChoosesAlong}
@@ -39,16 +40,16 @@ chosen_is t base fs cs begins same =
 
 -- ---- the block's bytes
 
-pub drafts_chosen : (t : Table) (base : ℕ) (fs : List FieldLine) (new : Table)
+pub drafts_chosen : {coding : Coding} (t : Table) (base : ℕ) (fs : List FieldLine) (new : Table)
     (before lines block written_old written_new : List ℕ) (len required most other : ℕ) (prefix : Prefix)
     → t.referenced ≡ [] → base ≡ insert_count t
-    → AddsChosen fs t base new before lines written_old written_new
+    → AddsChosen coding fs t base new before lines written_old written_new
     → len ≡ length before → required ≡ greatest_of new.referenced → most ≡ maximum_capacity t.agreed_max t.capacity
     → other ≡ base → prefix ≡ prefix_for most required other
     → block ≡ take len lines ++ written_prefix prefix ++ drop len lines
-    → DraftsChosen fs t new before block written_old written_new required
-unfolding written_marked_block
-drafts_chosen t base fs new before lines block written_old written_new len required most other prefix begins same k is
+    → DraftsChosen coding fs t new before block written_old written_new required
+unfolding coded_marked_block
+drafts_chosen {coding} t base fs new before lines block written_old written_new len required most other prefix begins same k is
     count maximum at made put =
     let cs = k.choices in
     let adds = k.adds in
@@ -68,34 +69,34 @@ drafts_chosen t base fs new before lines block written_old written_new len requi
       table = table;
       block = put
           ∙ put_together before lines (written_prefix prefix)
-          (written_marked_lines fs (chosen_fields base (draft_at t) fs cs).lines) len is adds.lines
+          (coded_marked_lines coding fs (chosen_fields base (draft_at t) fs cs).lines) len is adds.lines
           ∙ ap (λ (p : Prefix). before
-          ++ (written_prefix p ++ written_marked_lines fs (chosen_fields base (draft_at t) fs cs).lines)) whole
+          ++ (written_prefix p ++ coded_marked_lines coding fs (chosen_fields base (draft_at t) fs cs).lines)) whole
           ∙ ap (λ (x : Draft). before
-          ++ (written_prefix (block_of t (chosen_rule t fs cs)).prefix ++ written_marked_lines fs x.lines)) d;
-      written = adds.written ∙ ap (λ (x : Draft). written_old ++ written_encoder_instructions x.instructions) d;
+          ++ (written_prefix (block_of t (chosen_rule t fs cs)).prefix ++ coded_marked_lines coding fs x.lines)) d;
+      written = adds.written ∙ ap (λ (x : Draft). written_old ++ coded_encoder_instructions coding x.instructions) d;
     }
 
 -- ---- a block that is given up
 
-gives_up_chosen : (t : Table) (base : ℕ) (fs : List FieldLine) (new : Table) (written_old written_new : List ℕ)
-    → t.referenced ≡ [] → base ≡ insert_count t → StopsAmongChosen fs t base new written_old written_new
-    → GivesUpChosen fs t (without_references new) written_old written_new
-gives_up_chosen t base fs new written_old written_new begins same stops =
+gives_up_chosen : {coding : Coding} (t : Table) (base : ℕ) (fs : List FieldLine) (new : Table) (written_old written_new : List ℕ)
+    → t.referenced ≡ [] → base ≡ insert_count t → StopsAmongChosen coding fs t base new written_old written_new
+    → GivesUpChosen coding fs t (without_references new) written_old written_new
+gives_up_chosen {coding} t base fs new written_old written_new begins same stops =
     let d = chosen_is t base (take stops.many fs) stops.choices begins same in
     record {
       many = stops.many;
       choices = stops.choices;
       table = stops.table ∙ ap (λ (x : Draft). without_references x.table) d;
-      written = stops.written ∙ ap (λ (x : Draft). written_old ++ written_encoder_instructions x.instructions) d;
+      written = stops.written ∙ ap (λ (x : Draft). written_old ++ coded_encoder_instructions coding x.instructions) d;
     }
 
-gives_up_all_chosen : (t : Table) (base : ℕ) (fs : List FieldLine) (new : Table)
+gives_up_all_chosen : {coding : Coding} (t : Table) (base : ℕ) (fs : List FieldLine) (new : Table)
     (before lines written_old written_new : List ℕ)
     → t.referenced ≡ [] → base ≡ insert_count t
-    → AddsChosen fs t base new before lines written_old written_new
-    → GivesUpChosen fs t (without_references new) written_old written_new
-gives_up_all_chosen t base fs new before lines written_old written_new begins same k =
+    → AddsChosen coding fs t base new before lines written_old written_new
+    → GivesUpChosen coding fs t (without_references new) written_old written_new
+gives_up_all_chosen {coding} t base fs new before lines written_old written_new begins same k =
     gives_up_chosen t base fs new written_old written_new begins same
     (record {
       many = length fs;
@@ -111,26 +112,26 @@ rule_again : (t : Table) (fs : List FieldLine) (cs : List Chosen)
 unfolding chosen_rule without_references
 rule_again t fs cs = refl
 
-gives_up_begun : (fs : List FieldLine) (old begun new : Table) (written_old written_new : List ℕ)
-    → begun ≡ without_references old → GivesUpChosen fs begun new written_old written_new
-    → GivesUpChosen fs old new written_old written_new
-gives_up_begun fs old begun new written_old written_new begins k =
+gives_up_begun : {coding : Coding} (fs : List FieldLine) (old begun new : Table) (written_old written_new : List ℕ)
+    → begun ≡ without_references old → GivesUpChosen coding fs begun new written_old written_new
+    → GivesUpChosen coding fs old new written_old written_new
+gives_up_begun {coding} fs old begun new written_old written_new begins k =
     let d : chosen_rule begun (take k.many fs) k.choices ≡ chosen_rule old (take k.many fs) k.choices =
     ap (λ (t : Table). chosen_rule t (take k.many fs) k.choices) begins ∙ rule_again old (take k.many fs) k.choices in
     record {
       many = k.many;
       choices = k.choices;
       table = k.table ∙ ap (λ (x : Draft). without_references x.table) d;
-      written = k.written ∙ ap (λ (x : Draft). written_old ++ written_encoder_instructions x.instructions) d;
+      written = k.written ∙ ap (λ (x : Draft). written_old ++ coded_encoder_instructions coding x.instructions) d;
     }
 
-encodes_chosen_block : (fs : List FieldLine) (old begun mid new : Table) (stream given : ℕ)
+encodes_chosen_block : {coding : Coding} (fs : List FieldLine) (old begun mid new : Table) (stream given : ℕ)
     (before block written_old written_new : List ℕ) (required : ℕ)
     → begun ≡ without_references old → given ≡ stream
-    → DraftsChosen fs begun mid before block written_old written_new required → new ≡ commit mid given required
-    → EncodesChosen stream fs old new before block written_old written_new required
+    → DraftsChosen coding fs begun mid before block written_old written_new required → new ≡ commit mid given required
+    → EncodesChosen coding stream fs old new before block written_old written_new required
 unfolding without_references
-encodes_chosen_block fs old begun mid new stream given before block written_old written_new required begins same k
+encodes_chosen_block {coding} fs old begun mid new stream given before block written_old written_new required begins same k
     ends =
     let cs = k.choices in
     let d : chosen_rule begun fs cs ≡ chosen_rule old fs cs =
@@ -145,9 +146,9 @@ encodes_chosen_block fs old begun mid new stream given before block written_old 
           ∙ ap (λ (t : Table). commit t stream required) (k.table ∙ ap (λ (x : Draft). x.table) d)
           ∙ ap (λ (n : ℕ). commit (chosen_rule old fs cs).table stream n) required_is;
       block = k.block
-          ∙ ap (λ (x : Draft). before ++ written_marked_block fs (block_of begun x)) d
-          ∙ ap (λ (t : Table). before ++ written_marked_block fs (block_of t (chosen_rule old fs cs))) begins;
-      written = k.written ∙ ap (λ (x : Draft). written_old ++ written_encoder_instructions x.instructions) d;
+          ∙ ap (λ (x : Draft). before ++ coded_marked_block coding fs (block_of begun x)) d
+          ∙ ap (λ (t : Table). before ++ coded_marked_block coding fs (block_of t (chosen_rule old fs cs))) begins;
+      written = k.written ∙ ap (λ (x : Draft). written_old ++ coded_encoder_instructions coding x.instructions) d;
     }
 
 -- ---- a section without the dynamic table, which is one of no choices
@@ -181,11 +182,11 @@ alone_rule_is : (t : Table) (fs : List FieldLine)
 unfolding chosen_rule
 alone_rule_is t fs = lines_are (without_references t) (insert_count t) [] fs
 
-encodes_without : (stream : ℕ) (fs : List FieldLine) (old : Table) (before after written : List ℕ)
-    → after ≡ before ++ written_marked_block fs (stateless_block_marked fs)
-    → EncodesChosen stream fs old (without_references old) before after written written 0
-unfolding written_encoder_instructions
-encodes_without stream fs old before after written is =
+encodes_without : {coding : Coding} (stream : ℕ) (fs : List FieldLine) (old : Table) (before after written : List ℕ)
+    → after ≡ before ++ coded_marked_block coding fs (stateless_block_marked fs)
+    → EncodesChosen coding stream fs old (without_references old) before after written written 0
+unfolding coded_encoder_instructions
+encodes_without {coding} stream fs old before after written is =
     let lines = map (λ l. stateless_line_marked l) fs in
     let rule = alone_rule_is old fs in
     record {
@@ -193,32 +194,32 @@ encodes_without stream fs old before after written is =
       required_is = sym (ap (λ (d : Draft). required_insert_count d) rule ∙ nothing_required old lines);
       table = table_is old lines stream ∙ sym (ap (λ (d : Draft). committed_table d stream) rule);
       block = is
-          ∙ ap (λ (b : Block). before ++ written_marked_block fs b)
+          ∙ ap (λ (b : Block). before ++ coded_marked_block coding fs b)
           (sym (ap (λ (d : Draft). block_of old d) rule ∙ block_is old lines));
       written = sym (append-nil written)
-          ∙ ap (λ (d : Draft). written ++ written_encoder_instructions d.instructions) (sym rule);
+          ∙ ap (λ (d : Draft). written ++ coded_encoder_instructions coding d.instructions) (sym rule);
     }
 
 -- the answer is that nothing is required
-pub encodes_chosen_alone : (stream : ℕ) (fs : List FieldLine) (answer : Result ℕ EncoderError) (old new : Table)
+pub encodes_chosen_alone : (coding : Coding) (stream : ℕ) (fs : List FieldLine) (answer : Result ℕ EncoderError) (old new : Table)
     (before after written : List ℕ) → new ≡ without_references old
     → IfOk answer (λ required. (required ≡ 0)
-    × (after ≡ before ++ written_marked_block fs (stateless_block_marked fs)))
-    → IfOk answer (λ required. EncodesChosen stream fs old new before after written written required)
-encodes_chosen_alone stream fs (Err e) old new before after written is ok = tt
-encodes_chosen_alone stream fs (Ok required) old new before after written is ok =
+    × (after ≡ before ++ coded_marked_block coding fs (stateless_block_marked fs)))
+    → IfOk answer (λ required. EncodesChosen coding stream fs old new before after written written required)
+encodes_chosen_alone coding stream fs (Err e) old new before after written is ok = tt
+encodes_chosen_alone coding stream fs (Ok required) old new before after written is ok =
     rw (is, ok.0) (encodes_without stream fs old before after written ok.1)
 
-none_chosen : (fs : List FieldLine) (old : Table) (written : List ℕ)
-    → GivesUpChosen fs old (without_references old) written written
-unfolding chosen_rule without_references written_encoder_instructions
-none_chosen fs old written =
+none_chosen : {coding : Coding} (fs : List FieldLine) (old : Table) (written : List ℕ)
+    → GivesUpChosen coding fs old (without_references old) written written
+unfolding chosen_rule without_references coded_encoder_instructions
+none_chosen {coding} fs old written =
     record { many = 0; choices = []; table = refl; written = sym (append-nil written) }
 
-pub gives_up_chosen_alone : (fs : List FieldLine) (answer : Result ℕ EncoderError) (old new : Table) (written : List ℕ)
-    → new ≡ without_references old → OnErr answer (GivesUpChosen fs old new written written)
-gives_up_chosen_alone fs (Ok required) old new written is = tt
-gives_up_chosen_alone fs (Err e) old new written is = rw is (none_chosen fs old written)
+pub gives_up_chosen_alone : (coding : Coding) (fs : List FieldLine) (answer : Result ℕ EncoderError) (old new : Table) (written : List ℕ)
+    → new ≡ without_references old → OnErr answer (GivesUpChosen coding fs old new written written)
+gives_up_chosen_alone coding fs (Ok required) old new written is = tt
+gives_up_chosen_alone coding fs (Err e) old new written is = rw is (none_chosen fs old written)
 
 -- ---- by a chooser
 
@@ -234,17 +235,17 @@ along_begins chooses t base fs ws cs before after begins same k =
           (sym (begins_so t begins)) k);
     }
 
-pub drafts_along : {K W : Type 0} (chooses : Chooses K W) (ws : List W) (first last : K) (t : Table) (base : ℕ)
+pub drafts_along : {coding : Coding} {K W : Type 0} (chooses : Chooses K W) (ws : List W) (first last : K) (t : Table) (base : ℕ)
     (fs : List FieldLine) (new : Table) (before lines block written_old written_new : List ℕ)
     (len required most other : ℕ) (prefix : Prefix)
     → t.referenced ≡ [] → base ≡ insert_count t
-    → AddsAlong chooses fs ws t base new first last before lines written_old written_new
+    → AddsAlong coding chooses fs ws t base new first last before lines written_old written_new
     → len ≡ length before → required ≡ greatest_of new.referenced → most ≡ maximum_capacity t.agreed_max t.capacity
     → other ≡ base → prefix ≡ prefix_for most required other
     → block ≡ take len lines ++ written_prefix prefix ++ drop len lines
-    → DraftsAlong chooses fs ws t new before block written_old written_new required
+    → DraftsAlong coding chooses fs ws t new before block written_old written_new required
 unfolding drafts_chosen
-drafts_along chooses ws first last t base fs new before lines block written_old written_new len required most other
+drafts_along {coding} chooses ws first last t base fs new before lines block written_old written_new len required most other
     prefix begins same k is count maximum at made put =
     record {
       drafts = drafts_chosen t base fs new before lines block written_old written_new len required most other prefix
@@ -261,22 +262,22 @@ section_begun chooses fs ws cs old begun begins k =
     let same = subst (λ (t : Table). ChoosesSection chooses fs ws t cs) begins k in
     record { begun = same.begun; after = same.after; along = same.along }
 
-pub writes_along : {K W : Type 0} (chooses : Chooses K W) (ws : List W) (fs : List FieldLine) (r : Result ℕ NoMemory)
+pub writes_along : (coding : Coding) {K W : Type 0} (chooses : Chooses K W) (ws : List W) (fs : List FieldLine) (r : Result ℕ NoMemory)
     (answer : Result ℕ EncoderError) (old begun mid new : Table) (stream given : ℕ)
     (before block written_old written_new : List ℕ)
     → begun ≡ without_references old → given ≡ stream
-    → IfOk r (λ required. DraftsAlong chooses fs ws begun mid before block written_old written_new required)
+    → IfOk r (λ required. DraftsAlong coding chooses fs ws begun mid before block written_old written_new required)
     → IfOk answer (λ required. (r ≡ Ok required) × (new ≡ commit mid given required))
-    → IfOk answer (λ required. WritesAlong chooses stream fs ws old new before block written_old written_new required)
+    → IfOk answer (λ required. WritesAlong coding chooses stream fs ws old new before block written_old written_new required)
 unfolding encodes_chosen_block
-writes_along chooses ws fs r (Err e) old begun mid new stream given before block written_old written_new begins same
+writes_along coding chooses ws fs r (Err e) old begun mid new stream given before block written_old written_new begins same
     ok ends =
     tt
-writes_along chooses ws fs r (Ok required) old begun mid new stream given before block written_old written_new begins
+writes_along coding chooses ws fs r (Ok required) old begun mid new stream given before block written_old written_new begins
     same ok ends =
-    let drafted : DraftsAlong chooses fs ws begun mid before block written_old written_new required =
+    let drafted : DraftsAlong coding chooses fs ws begun mid before block written_old written_new required =
     subst (λ (x : Result ℕ NoMemory).
-    IfOk x (λ n. DraftsAlong chooses fs ws begun mid before block written_old written_new n)) ends.0 ok in
+    IfOk x (λ n. DraftsAlong coding chooses fs ws begun mid before block written_old written_new n)) ends.0 ok in
     record {
       section = encodes_chosen_block fs old begun mid new stream given before block written_old written_new required
           begins same drafted.drafts ends.1;
@@ -284,32 +285,32 @@ writes_along chooses ws fs r (Ok required) old begun mid new stream given before
     }
 
 -- above capacity 0
-pub encodes_along : {K W : Type 0} (chooses : Chooses K W) (ws : List W) (stream : ℕ) (fs : List FieldLine)
+pub encodes_along : (coding : Coding) {K W : Type 0} (chooses : Chooses K W) (ws : List W) (stream : ℕ) (fs : List FieldLine)
     (answer : Result ℕ EncoderError) (old new : Table) (before after written_old written_new : List ℕ)
-    → IfOk answer (λ required. WritesAlong chooses stream fs ws old new before after written_old written_new required)
-    → IfOk answer (λ required. EncodesAlong chooses stream fs ws old new before after written_old written_new required)
-encodes_along chooses ws stream fs (Err e) old new before after written_old written_new k = tt
-encodes_along chooses ws stream fs (Ok required) old new before after written_old written_new k =
+    → IfOk answer (λ required. WritesAlong coding chooses stream fs ws old new before after written_old written_new required)
+    → IfOk answer (λ required. EncodesAlong coding chooses stream fs ws old new before after written_old written_new required)
+encodes_along coding chooses ws stream fs (Err e) old new before after written_old written_new k = tt
+encodes_along coding chooses ws stream fs (Ok required) old new before after written_old written_new k =
     record { section = k.section; along = λ some. k.along }
 
 -- at capacity 0 nothing is chosen
-pub encodes_along_alone : {K W : Type 0} (chooses : Chooses K W) (ws : List W) (stream : ℕ) (fs : List FieldLine)
+pub encodes_along_alone : (coding : Coding) {K W : Type 0} (chooses : Chooses K W) (ws : List W) (stream : ℕ) (fs : List FieldLine)
     (answer : Result ℕ EncoderError) (old new : Table) (before after written : List ℕ) → old.capacity ≡ 0
-    → IfOk answer (λ required. EncodesChosen stream fs old new before after written written required)
-    → IfOk answer (λ required. EncodesAlong chooses stream fs ws old new before after written written required)
-encodes_along_alone chooses ws stream fs (Err e) old new before after written none k = tt
-encodes_along_alone chooses ws stream fs (Ok required) old new before after written none k =
+    → IfOk answer (λ required. EncodesChosen coding stream fs old new before after written written required)
+    → IfOk answer (λ required. EncodesAlong coding chooses stream fs ws old new before after written written required)
+encodes_along_alone coding chooses ws stream fs (Err e) old new before after written none k = tt
+encodes_along_alone coding chooses ws stream fs (Ok required) old new before after written none k =
     record { section = k; along = λ some. absurd (some none) }
 
 -- ---- given up by a chooser
 
 -- where memory was refused after some of the fields
-pub gives_up_along : {K W : Type 0} (chooses : Chooses K W) (ws : List W) (first : K) (t : Table) (base : ℕ)
+pub gives_up_along : {coding : Coding} {K W : Type 0} (chooses : Chooses K W) (ws : List W) (first : K) (t : Table) (base : ℕ)
     (fs : List FieldLine) (new : Table) (written_old written_new : List ℕ) → t.referenced ≡ [] → base ≡ insert_count t
-    → StopsAlong chooses fs ws t base new first written_old written_new
-    → GivesUpAlong chooses fs ws t (without_references new) written_old written_new
+    → StopsAlong coding chooses fs ws t base new first written_old written_new
+    → GivesUpAlong coding chooses fs ws t (without_references new) written_old written_new
 unfolding gives_up_chosen
-gives_up_along chooses ws first t base fs new written_old written_new begins same k =
+gives_up_along {coding} chooses ws first t base fs new written_old written_new begins same k =
     record {
       given_up = gives_up_chosen t base fs new written_old written_new begins same k.stops;
       along = along_begins chooses t base (take k.stops.many fs) (take k.stops.many ws) k.stops.choices first k.after
@@ -325,36 +326,36 @@ all_of : {X Y : Type 0} (xs : List X) (ys : List Y) → length xs ≡ length ys 
 all_of {X = X} xs ys same = ap (λ (n : ℕ). take n xs) (sym same) ∙ take-length xs
 
 -- where it was refused after all of them
-pub gives_up_all_along : {K W : Type 0} (chooses : Chooses K W) (ws : List W) (first last : K) (t : Table) (base : ℕ)
+pub gives_up_all_along : {coding : Coding} {K W : Type 0} (chooses : Chooses K W) (ws : List W) (first last : K) (t : Table) (base : ℕ)
     (fs : List FieldLine) (new : Table) (before lines written_old written_new : List ℕ) → length ws ≡ length fs
     → t.referenced ≡ [] → base ≡ insert_count t
-    → AddsAlong chooses fs ws t base new first last before lines written_old written_new
-    → GivesUpAlong chooses fs ws t (without_references new) written_old written_new
+    → AddsAlong coding chooses fs ws t base new first last before lines written_old written_new
+    → GivesUpAlong coding chooses fs ws t (without_references new) written_old written_new
 unfolding gives_up_all_chosen gives_up_chosen
-gives_up_all_along chooses ws first last t base fs new before lines written_old written_new each begins same k =
+gives_up_all_along {coding} chooses ws first last t base fs new before lines written_old written_new each begins same k =
     record {
       given_up = gives_up_all_chosen t base fs new before lines written_old written_new begins same k.adds;
       along = rw (take-length fs, all_of ws fs each)
           (along_begins chooses t base fs ws k.adds.choices first last begins same k.along);
     }
 
-given_up_begun : {K W : Type 0} (chooses : Chooses K W) (ws : List W) (fs : List FieldLine) (old begun new : Table)
+given_up_begun : {coding : Coding} {K W : Type 0} (chooses : Chooses K W) (ws : List W) (fs : List FieldLine) (old begun new : Table)
     (written_old written_new : List ℕ) → begun ≡ without_references old
-    → GivesUpAlong chooses fs ws begun new written_old written_new
-    → GivesUpAlong chooses fs ws old new written_old written_new
+    → GivesUpAlong coding chooses fs ws begun new written_old written_new
+    → GivesUpAlong coding chooses fs ws old new written_old written_new
 unfolding gives_up_begun
-given_up_begun chooses ws fs old begun new written_old written_new begins k =
+given_up_begun {coding} chooses ws fs old begun new written_old written_new begins k =
     record {
       given_up = gives_up_begun fs old begun new written_old written_new begins k.given_up;
       along = section_begun chooses (take k.given_up.many fs) (take k.given_up.many ws) k.given_up.choices old begun
           begins k.along;
     }
 
-drafted_given_up : {K W : Type 0} (chooses : Chooses K W) (ws : List W) (fs : List FieldLine) (old mid : Table)
+drafted_given_up : {coding : Coding} {K W : Type 0} (chooses : Chooses K W) (ws : List W) (fs : List FieldLine) (old mid : Table)
     (before block written_old written_new : List ℕ) (required : ℕ) → length ws ≡ length fs
-    → DraftsAlong chooses fs ws old mid before block written_old written_new required
-    → GivesUpAlong chooses fs ws old (without_references mid) written_old written_new
-drafted_given_up chooses ws fs old mid before block written_old written_new required each k =
+    → DraftsAlong coding chooses fs ws old mid before block written_old written_new required
+    → GivesUpAlong coding chooses fs ws old (without_references mid) written_old written_new
+drafted_given_up {coding} chooses ws fs old mid before block written_old written_new required each k =
     record {
       given_up = record {
         many = length fs;
@@ -366,28 +367,28 @@ drafted_given_up chooses ws fs old mid before block written_old written_new requ
     }
 
 -- refused, after lines that were written or before
-pub gives_up_section : {K W : Type 0} (chooses : Chooses K W) (ws : List W) (fs : List FieldLine) (r : Result ℕ NoMemory)
+pub gives_up_section : (coding : Coding) {K W : Type 0} (chooses : Chooses K W) (ws : List W) (fs : List FieldLine) (r : Result ℕ NoMemory)
     (answer : Result ℕ EncoderError) (old begun mid new : Table) (before block written_old written_new : List ℕ)
     → length ws ≡ length fs → begun ≡ without_references old
-    → IfOk r (λ required. DraftsAlong chooses fs ws begun mid before block written_old written_new required)
-    → OnErr r (GivesUpAlong chooses fs ws begun (without_references mid) written_old written_new)
+    → IfOk r (λ required. DraftsAlong coding chooses fs ws begun mid before block written_old written_new required)
+    → OnErr r (GivesUpAlong coding chooses fs ws begun (without_references mid) written_old written_new)
     → OnErr answer (new ≡ without_references mid)
-    → OnErr answer (GivesUpAlong chooses fs ws old new written_old written_new)
-gives_up_section chooses ws fs r (Ok required) old begun mid new before block written_old written_new each begins ok err
+    → OnErr answer (GivesUpAlong coding chooses fs ws old new written_old written_new)
+gives_up_section coding chooses ws fs r (Ok required) old begun mid new before block written_old written_new each begins ok err
     ends =
     tt
-gives_up_section chooses ws fs (Ok required) (Err e) old begun mid new before block written_old written_new each begins
+gives_up_section coding chooses ws fs (Ok required) (Err e) old begun mid new before block written_old written_new each begins
     ok err ends =
     rw ends
     (given_up_begun chooses ws fs old begun (without_references mid) written_old written_new begins
     (drafted_given_up chooses ws fs begun mid before block written_old written_new required each ok))
-gives_up_section chooses ws fs (Err f) (Err e) old begun mid new before block written_old written_new each begins ok err
+gives_up_section coding chooses ws fs (Err f) (Err e) old begun mid new before block written_old written_new each begins ok err
     ends =
     rw ends (given_up_begun chooses ws fs old begun (without_references mid) written_old written_new begins err)
 
-pub given_up_of : {K W : Type 0} (chooses : Chooses K W) (ws : List W) (fs : List FieldLine)
+pub given_up_of : (coding : Coding) {K W : Type 0} (chooses : Chooses K W) (ws : List W) (fs : List FieldLine)
     (answer : Result ℕ EncoderError) (old new : Table) (written_old written_new : List ℕ)
-    → OnErr answer (GivesUpAlong chooses fs ws old new written_old written_new)
-    → OnErr answer (GivesUpChosen fs old new written_old written_new)
-given_up_of chooses ws fs (Ok required) old new written_old written_new k = tt
-given_up_of chooses ws fs (Err e) old new written_old written_new k = k.given_up
+    → OnErr answer (GivesUpAlong coding chooses fs ws old new written_old written_new)
+    → OnErr answer (GivesUpChosen coding fs old new written_old written_new)
+given_up_of coding chooses ws fs (Ok required) old new written_old written_new k = tt
+given_up_of coding chooses ws fs (Err e) old new written_old written_new k = k.given_up

@@ -4,17 +4,19 @@ use Rattle.std.proofs.Common.{Some, None, refl, sym, ap, subst, ◌∙◌, appen
 use Rattle.std.proofs.Common.{true, false, cond, arith, length-append, inl, inr}
 use Rattle.std.specs.Prelude.{◌&&◌}
 use Rattle.std.proofs.lemmas.Bool.{cond_both}
-use Rattle.qpack_spec.specs.Chosen.{Choice, Alone, References, Names, Inserts, Chosen, passes_at, literal_alone, line_alone}
+use Rattle.qpack_spec.specs.Chosen.{Choice, Alone, References, Names, Inserts, Naming, Chosen, passes_at}
+use Rattle.qpack_spec.specs.Chosen.{literal_alone, line_alone, instruction_naming}
 use Rattle.qpack_spec.specs.Chosen.{named_or, literal_chosen, line_chosen, unreferenced_chosen, chosen_field, chosen_fields}
 use Rattle.qpack_spec.specs.Chosen.{with_unreferenced_entry, alone_chosen}
 use Rattle.qpack_rules.proofs.ChosenSteps.{field_by}
 use Rattle.qpack_spec.specs.Field.{Field, FieldLine, has_name, is_field}
 use Rattle.qpack_spec.specs.StaticTable.{static_index, static_name_index}
-use Rattle.qpack_spec.specs.Marked.{written_marked_lines}
-use Rattle.qpack_spec.specs.Instruction.{EncoderInstruction, written_encoder_instructions}
-use Rattle.qpack_spec.specs.Line.{Line, written_lines}
-use Rattle.qpack_spec.specs.Rule.{Draft, instruction_for, entries_left}
+use Rattle.qpack_spec.specs.Marked.{coded_marked_lines}
+use Rattle.qpack_spec.specs.Instruction.{EncoderInstruction, coded_encoder_instructions}
+use Rattle.qpack_spec.specs.Line.{Line, coded_lines}
+use Rattle.qpack_spec.specs.Rule.{Draft}
 use Rattle.qpack_spec.specs.Table.{Table, may_reference, below_limit, has_room, without_references, with_entry, sent_entry}
+use Rattle.qpack_spec.specs.Text.{Coding}
 use Rattle.qpack_codec.specs.ChoosesAlong.{Chooses, ChoosesUnless, ChoosesField, ChoosesAlong}
 use Rattle.qpack_codec.specs.Encoding.{draft_at, AddsLines}
 use Rattle.qpack_codec.specs.ChosenSections.{AddsChosen, AddsByChooser, AddsAlong, StopsAmongChosen}
@@ -49,44 +51,44 @@ literal_chosen_goes base d f (Names a) =
     named_goes base d _ _ f a (literal_goes d f (static_name_index f.name))
 literal_chosen_goes base d f Inserts = literal_goes d f (static_name_index f.name)
 
-line_chosen_goes : (base : ℕ) (d : Draft) (f : Field) (c : Choice)
-    → GoesOn d (line_chosen base (draft_at d.table) f c) (line_chosen base d f c)
-line_chosen_goes base d f Alone = line_goes d f (static_index f)
-line_chosen_goes base d f (References a) =
+line_chosen_goes : (names : Naming) (base : ℕ) (d : Draft) (f : Field) (c : Choice)
+    → GoesOn d (line_chosen names base (draft_at d.table) f c) (line_chosen names base d f c)
+line_chosen_goes names base d f Alone = line_goes d f (static_index f)
+line_chosen_goes names base d f (References a) =
     goes_if (passes_at d.table (is_field f) a && may_reference d.table a) d _ _ _ _
     (record { table = refl; lines = refl; instructions = sym (append-nil d.instructions) }) (line_goes d f (static_index f))
-line_chosen_goes base d f (Names a) = named_goes base d _ _ f a (line_goes d f (static_index f))
-line_chosen_goes base d f Inserts =
+line_chosen_goes names base d f (Names a) = named_goes base d _ _ f a (line_goes d f (static_index f))
+line_chosen_goes names base d f Inserts =
     goes_if (below_limit d.table && has_room d.table f) d _ _ _ _
     (record { table = refl; lines = refl; instructions = refl }) (line_goes d f (static_index f))
 
-unreferenced_goes : (unreferenced : Bool) (d x u : Draft) (f : Field) → GoesOn d x u
-    → GoesOn d (unreferenced_chosen unreferenced x f) (unreferenced_chosen unreferenced u f)
-unreferenced_goes unreferenced d x u f k =
-    subst (λ (t : Table). GoesOn d (unreferenced_chosen unreferenced x f)
+unreferenced_goes : (names : Naming) (unreferenced : Bool) (d x u : Draft) (f : Field) → GoesOn d x u
+    → GoesOn d (unreferenced_chosen names unreferenced x f) (unreferenced_chosen names unreferenced u f)
+unreferenced_goes names unreferenced d x u f k =
+    subst (λ (t : Table). GoesOn d (unreferenced_chosen names unreferenced x f)
     (cond (unreferenced && has_room t f) (record u {
       table = with_entry t (sent_entry f);
-      instructions = u.instructions ++ instruction_for f (entries_left t f) ∷ [];
+      instructions = u.instructions ++ instruction_naming names t f ∷ [];
     }) u)) (sym k.table)
-    (goes_if (unreferenced && has_room x.table f) d (with_unreferenced_entry x f) x
+    (goes_if (unreferenced && has_room x.table f) d (with_unreferenced_entry names x f) x
     (record u {
       table = with_entry x.table (sent_entry f);
-      instructions = u.instructions ++ instruction_for f (entries_left x.table f) ∷ [];
+      instructions = u.instructions ++ instruction_naming names x.table f ∷ [];
     }) u
     (record {
       table = refl;
       lines = k.lines;
-      instructions = ap (λ (is : List EncoderInstruction). is ++ instruction_for f (entries_left x.table f) ∷ [])
+      instructions = ap (λ (is : List EncoderInstruction). is ++ instruction_naming names x.table f ∷ [])
           k.instructions
-          ∙ append_assoc d.instructions x.instructions (instruction_for f (entries_left x.table f) ∷ []);
+          ∙ append_assoc d.instructions x.instructions (instruction_naming names x.table f ∷ []);
     }) k)
 
 pub goes_chosen : (base : ℕ) (d : Draft) (l : FieldLine) (c : Chosen)
     → GoesOn d (chosen_field base (draft_at d.table) l c) (chosen_field base d l c)
 goes_chosen base d l c =
     goes_if l.never_indexed d _ _ _ _ (literal_chosen_goes base d l.field c.line)
-    (unreferenced_goes c.unreferenced d (line_chosen base (draft_at d.table) l.field c.line) (line_chosen base d l.field c.line) l.field
-    (line_chosen_goes base d l.field c.line))
+    (unreferenced_goes c.names c.unreferenced d (line_chosen c.names base (draft_at d.table) l.field c.line)
+    (line_chosen c.names base d l.field c.line) l.field (line_chosen_goes c.names base d l.field c.line))
 
 -- ---- one line for each field
 
@@ -113,26 +115,27 @@ one_literal_chosen base d f (References a) = one_literal d f (static_name_index 
 one_literal_chosen base d f (Names a) = one_named base d _ f a (one_literal d f (static_name_index f.name))
 one_literal_chosen base d f Inserts = one_literal d f (static_name_index f.name)
 
-one_line_chosen : (base : ℕ) (d : Draft) (f : Field) (c : Choice) → OneMore d (line_chosen base d f c)
-one_line_chosen base d f Alone = one_alone d f (static_index f)
-one_line_chosen base d f (References a) =
+one_line_chosen : (names : Naming) (base : ℕ) (d : Draft) (f : Field) (c : Choice)
+    → OneMore d (line_chosen names base d f c)
+one_line_chosen names base d f Alone = one_alone d f (static_index f)
+one_line_chosen names base d f (References a) =
     cond_both (passes_at d.table (is_field f) a && may_reference d.table a) _ (line_alone d f (static_index f)) (OneMore d)
     (λ _. length-append d.lines _) (λ _. one_alone d f (static_index f))
-one_line_chosen base d f (Names a) = one_named base d _ f a (one_alone d f (static_index f))
-one_line_chosen base d f Inserts =
+one_line_chosen names base d f (Names a) = one_named base d _ f a (one_alone d f (static_index f))
+one_line_chosen names base d f Inserts =
     cond_both (below_limit d.table && has_room d.table f) _ (line_alone d f (static_index f)) (OneMore d)
     (λ _. length-append d.lines _) (λ _. one_alone d f (static_index f))
 
-one_unreferenced : (unreferenced : Bool) (d mid : Draft) (f : Field) → OneMore d mid
-    → OneMore d (unreferenced_chosen unreferenced mid f)
-one_unreferenced unreferenced d mid f k =
-    cond_both (unreferenced && has_room mid.table f) (with_unreferenced_entry mid f) mid (OneMore d) (λ _. k) (λ _. k)
+one_unreferenced : (names : Naming) (unreferenced : Bool) (d mid : Draft) (f : Field) → OneMore d mid
+    → OneMore d (unreferenced_chosen names unreferenced mid f)
+one_unreferenced names unreferenced d mid f k =
+    cond_both (unreferenced && has_room mid.table f) (with_unreferenced_entry names mid f) mid (OneMore d) (λ _. k) (λ _. k)
 
 one_chosen : (base : ℕ) (d : Draft) (l : FieldLine) (c : Chosen) → OneMore d (chosen_field base d l c)
 one_chosen base d l c =
     field_by (OneMore d) base d l c (one_literal_chosen base d l.field c.line)
-    (one_unreferenced c.unreferenced d (line_chosen base d l.field c.line) l.field
-    (one_line_chosen base d l.field c.line))
+    (one_unreferenced c.names c.unreferenced d (line_chosen c.names base d l.field c.line) l.field
+    (one_line_chosen c.names base d l.field c.line))
 
 chosen_each : (base : ℕ) (d : Draft) (ls : List FieldLine) (cs : List Chosen)
     → length (chosen_fields base d ls cs).lines ≡ length d.lines + length ls
@@ -163,9 +166,9 @@ goes_on_chosen t base ls l cs c each =
     subst (λ (x : Draft). GoesOn d (chosen_field base (draft_at d.table) l c) x)
     (sym (last_chosen base (draft_at t) ls l cs c each)) (goes_chosen base d l c)
 
-pub chosen_none : (t : Table) (base : ℕ) (lines written : List ℕ) → AddsChosen [] t base t lines lines written written
-unfolding written_marked_lines written_lines written_encoder_instructions
-chosen_none t base lines written =
+pub chosen_none : {coding : Coding} (t : Table) (base : ℕ) (lines written : List ℕ) → AddsChosen coding [] t base t lines lines written written
+unfolding coded_marked_lines coded_lines coded_encoder_instructions
+chosen_none {coding} t base lines written =
     record {
       choices = [];
       each = refl;
@@ -173,39 +176,39 @@ chosen_none t base lines written =
     }
 
 -- what one field line adds under some choice
-abbrev AddsOne : FieldLine → ℕ → Table → Table → List ℕ → List ℕ → List ℕ → List ℕ → Type 0
-AddsOne l base mid new lines_mid lines_new written_mid written_new =
-    (c : Chosen) × AddsLines (l ∷ []) (chosen_field base (draft_at mid) l c) new lines_mid lines_new written_mid
+abbrev AddsOne : Coding → FieldLine → ℕ → Table → Table → List ℕ → List ℕ → List ℕ → List ℕ → Type 0
+AddsOne coding l base mid new lines_mid lines_new written_mid written_new =
+    (c : Chosen) × AddsLines coding (l ∷ []) (chosen_field base (draft_at mid) l c) new lines_mid lines_new written_mid
     written_new
 
-chosen_last : (t : Table) (base : ℕ) (ls : List FieldLine) (l : FieldLine) (mid new : Table)
+chosen_last : {coding : Coding} (t : Table) (base : ℕ) (ls : List FieldLine) (l : FieldLine) (mid new : Table)
     (lines_old lines_mid lines_new written_old written_mid written_new : List ℕ)
-    → AddsChosen ls t base mid lines_old lines_mid written_old written_mid
-    → AddsOne l base mid new lines_mid lines_new written_mid written_new
-    → AddsChosen (ls ++ l ∷ []) t base new lines_old lines_new written_old written_new
-chosen_last t base ls l mid new lines_old lines_mid lines_new written_old written_mid written_new so_far (c, more) =
+    → AddsChosen coding ls t base mid lines_old lines_mid written_old written_mid
+    → AddsOne coding l base mid new lines_mid lines_new written_mid written_new
+    → AddsChosen coding (ls ++ l ∷ []) t base new lines_old lines_new written_old written_new
+chosen_last {coding} t base ls l mid new lines_old lines_mid lines_new written_old written_mid written_new so_far (c, more) =
     let d = chosen_fields base (draft_at t) ls so_far.choices in
     let goes = goes_on_chosen t base ls l so_far.choices c so_far.each in
     let m = chosen_field base (draft_at d.table) l c in
-    let next : AddsLines (l ∷ []) m new lines_mid lines_new written_mid written_new =
-    subst (λ (x : Table). AddsLines (l ∷ []) (chosen_field base (draft_at x) l c) new lines_mid lines_new written_mid
+    let next : AddsLines coding (l ∷ []) m new lines_mid lines_new written_mid written_new =
+    subst (λ (x : Table). AddsLines coding (l ∷ []) (chosen_field base (draft_at x) l c) new lines_mid lines_new written_mid
     written_new) so_far.adds.table more in
     record {
       choices = so_far.choices ++ c ∷ [];
       each = omega (arith, so_far.each, length-append so_far.choices (c ∷ []), length-append ls (l ∷ []));
       adds = record {
         table = next.table ∙ sym goes.table;
-        lines = appended lines_old (written_marked_lines ls d.lines) (written_marked_lines (l ∷ []) m.lines)
+        lines = appended lines_old (coded_marked_lines coding ls d.lines) (coded_marked_lines coding (l ∷ []) m.lines)
             lines_mid lines_new so_far.adds.lines next.lines
             ∙ ap (λ (x : List ℕ). lines_old ++ x)
-            (sym (ap (λ (x : List Line). written_marked_lines (ls ++ l ∷ []) x) goes.lines
-            ∙ lines_behind ls (l ∷ []) d.lines m.lines
+            (sym (ap (λ (x : List Line). coded_marked_lines coding (ls ++ l ∷ []) x) goes.lines
+            ∙ lines_behind coding ls (l ∷ []) d.lines m.lines
             (omega (arith, chosen_each base (draft_at t) ls so_far.choices))));
-        written = appended written_old (written_encoder_instructions d.instructions)
-            (written_encoder_instructions m.instructions) written_mid written_new so_far.adds.written next.written
+        written = appended written_old (coded_encoder_instructions coding d.instructions)
+            (coded_encoder_instructions coding m.instructions) written_mid written_new so_far.adds.written next.written
             ∙ ap (λ (x : List ℕ). written_old ++ x)
-            (sym (ap written_encoder_instructions goes.instructions
-            ∙ instructions_behind d.instructions m.instructions));
+            (sym (ap (coded_encoder_instructions coding) goes.instructions
+            ∙ instructions_behind coding d.instructions m.instructions));
       };
     }
 
@@ -218,12 +221,12 @@ front_with g xs i x within is = take_of g xs (i + 1) ∙ rw (front_of g xs i x w
 -- ---- by position in a list of items that lend field lines
 
 -- where memory was refused before the table of one more field line changed
-stops_before : {H : Type 0} (line : H → FieldLine) (xs : List H) (i : ℕ) (t : Table) (base : ℕ) (mid new : Table)
+stops_before : {coding : Coding} {H : Type 0} (line : H → FieldLine) (xs : List H) (i : ℕ) (t : Table) (base : ℕ) (mid new : Table)
     (lines_old lines_mid written_old written_mid written_new : List ℕ)
-    → AddsChosen (map line (take i xs)) t base mid lines_old lines_mid written_old written_mid
+    → AddsChosen coding (map line (take i xs)) t base mid lines_old lines_mid written_old written_mid
     → without_references new ≡ without_references mid → written_new ≡ written_mid
-    → StopsAmongChosen (map line xs) t base new written_old written_new
-stops_before line xs i t base mid new lines_old lines_mid written_old written_mid written_new so_far same none =
+    → StopsAmongChosen coding (map line xs) t base new written_old written_new
+stops_before {coding} line xs i t base mid new lines_old lines_mid written_old written_mid written_new so_far same none =
     record {
       many = i;
       choices = so_far.choices;
@@ -232,15 +235,15 @@ stops_before line xs i t base mid new lines_old lines_mid written_old written_mi
     }
 
 -- and where it was refused behind that
-stops_behind : {H : Type 0} (line : H → FieldLine) (xs : List H) (i : ℕ) (x : H) (t : Table) (base : ℕ)
+stops_behind : {coding : Coding} {H : Type 0} (line : H → FieldLine) (xs : List H) (i : ℕ) (x : H) (t : Table) (base : ℕ)
     (mid new : Table) (c : Chosen) (lines_old lines_mid written_old written_mid written_new : List ℕ)
     → i < length xs → x ≡ get_or xs i x
-    → AddsChosen (map line (take i xs)) t base mid lines_old lines_mid written_old written_mid
+    → AddsChosen coding (map line (take i xs)) t base mid lines_old lines_mid written_old written_mid
     → new ≡ (chosen_field base (draft_at mid) (line x) c).table
     → written_new
-    ≡ written_mid ++ written_encoder_instructions (chosen_field base (draft_at mid) (line x) c).instructions
-    → StopsAmongChosen (map line xs) t base new written_old written_new
-stops_behind line xs i x t base mid new c lines_old lines_mid written_old written_mid written_new within is so_far table
+    ≡ written_mid ++ coded_encoder_instructions coding (chosen_field base (draft_at mid) (line x) c).instructions
+    → StopsAmongChosen coding (map line xs) t base new written_old written_new
+stops_behind {coding} line xs i x t base mid new c lines_old lines_mid written_old written_mid written_new within is so_far table
     written =
     let ls = map line (take i xs) in
     let l = line x in
@@ -254,14 +257,14 @@ stops_behind line xs i x t base mid new c lines_old lines_mid written_old writte
       choices = so_far.choices ++ c ∷ [];
       table = rw front (ap (λ (x : Table). without_references x)
           (table ∙ ap (λ (x : Table). (chosen_field base (draft_at x) l c).table) now ∙ sym goes.table));
-      written = rw front (appended written_old (written_encoder_instructions d.instructions)
-          (written_encoder_instructions m.instructions) written_mid written_new so_far.adds.written
+      written = rw front (appended written_old (coded_encoder_instructions coding d.instructions)
+          (coded_encoder_instructions coding m.instructions) written_mid written_new so_far.adds.written
           (written
           ∙ ap (λ (x : Table). written_mid
-          ++ written_encoder_instructions (chosen_field base (draft_at x) l c).instructions) now)
+          ++ coded_encoder_instructions coding (chosen_field base (draft_at x) l c).instructions) now)
           ∙ ap (λ (x : List ℕ). written_old ++ x)
-          (sym (ap written_encoder_instructions goes.instructions
-          ∙ instructions_behind d.instructions m.instructions)));
+          (sym (ap (coded_encoder_instructions coding) goes.instructions
+          ∙ instructions_behind coding d.instructions m.instructions)));
     }
 
 -- ---- by a chooser
@@ -303,20 +306,20 @@ chooses_last chooses base d old mid new [] (v ∷ ws) cs l w c k one = absurd k
 chooses_last chooses base d old mid new (x ∷ ls) [] cs l w c k one = absurd k
 chooses_last chooses base d old mid new (x ∷ ls) (v ∷ ws) [] l w c k one = absurd k
 
-pub along_none : {K W : Type 0} (chooses : Chooses K W) (t : Table) (base : ℕ) (k : K) (lines written : List ℕ)
-    → AddsAlong chooses [] [] t base t k k lines lines written written
+pub along_none : {coding : Coding} {K W : Type 0} (chooses : Chooses K W) (t : Table) (base : ℕ) (k : K) (lines written : List ℕ)
+    → AddsAlong coding chooses [] [] t base t k k lines lines written written
 unfolding chosen_none
-along_none chooses t base k lines written = record { adds = chosen_none t base lines written; along = refl }
+along_none {coding} chooses t base k lines written = record { adds = chosen_none t base lines written; along = refl }
 
-along_last : {K W : Type 0} (chooses : Chooses K W) (t : Table) (base : ℕ) (ls : List FieldLine) (ws : List W)
+along_last : {coding : Coding} {K W : Type 0} (chooses : Chooses K W) (t : Table) (base : ℕ) (ls : List FieldLine) (ws : List W)
     (l : FieldLine) (w : W) (mid new : Table) (first before after : K) (lines_old lines_mid lines_new written_old
     written_mid written_new : List ℕ)
-    → AddsAlong chooses ls ws t base mid first before lines_old lines_mid written_old written_mid
-    → AddsByChooser chooses l w base mid new before after lines_mid lines_new written_mid written_new
-    → AddsAlong chooses (ls ++ l ∷ []) (ws ++ w ∷ []) t base new first after lines_old lines_new written_old
+    → AddsAlong coding chooses ls ws t base mid first before lines_old lines_mid written_old written_mid
+    → AddsByChooser coding chooses l w base mid new before after lines_mid lines_new written_mid written_new
+    → AddsAlong coding chooses (ls ++ l ∷ []) (ws ++ w ∷ []) t base new first after lines_old lines_new written_old
     written_new
 unfolding chosen_last
-along_last chooses t base ls ws l w mid new first before after lines_old lines_mid lines_new written_old written_mid
+along_last {coding} chooses t base ls ws l w mid new first before after lines_old lines_mid lines_new written_old written_mid
     written_new so_far one =
     record {
       adds = chosen_last t base ls l mid new lines_old lines_mid lines_new written_old written_mid written_new
@@ -326,39 +329,39 @@ along_last chooses t base ls ws l w mid new first before after lines_old lines_m
           (subst (λ (x : Table). ChoosesField chooses before base x l w one.choice after) so_far.adds.adds.table one.chose);
     }
 
-pub along_next : {K W H : Type 0} (chooses : Chooses K W) (line : H → FieldLine) (wish : H → W) (xs : List H) (i : ℕ)
+pub along_next : {coding : Coding} {K W H : Type 0} (chooses : Chooses K W) (line : H → FieldLine) (wish : H → W) (xs : List H) (i : ℕ)
     (x : H) (f : FieldLine) (w : W) (t : Table) (base other : ℕ) (mid new : Table) (first before after : K)
     (lines_old lines_mid lines_new written_old written_mid written_new : List ℕ)
     → i < length xs → x ≡ get_or xs i x → other ≡ base → f ≡ line x → w ≡ wish x
-    → AddsAlong chooses (map line (take i xs)) (map wish (take i xs)) t base mid first before lines_old lines_mid
+    → AddsAlong coding chooses (map line (take i xs)) (map wish (take i xs)) t base mid first before lines_old lines_mid
     written_old written_mid
-    → AddsByChooser chooses f w other mid new before after lines_mid lines_new written_mid written_new
-    → AddsAlong chooses (map line (take (i + 1) xs)) (map wish (take (i + 1) xs)) t base new first after lines_old
+    → AddsByChooser coding chooses f w other mid new before after lines_mid lines_new written_mid written_new
+    → AddsAlong coding chooses (map line (take (i + 1) xs)) (map wish (take (i + 1) xs)) t base new first after lines_old
     lines_new written_old written_new
-along_next {W = W} chooses line wish xs i x f w t base other mid new first before after lines_old lines_mid lines_new
+along_next {coding} {W = W} chooses line wish xs i x f w t base other mid new first before after lines_old lines_mid lines_new
     written_old written_mid written_new within is same lent asked so_far more =
     rw (front_of line xs i x within, front_of wish xs i x within, ← is)
     (along_last chooses t base (map line (take i xs)) (map wish (take i xs)) (line x) (wish x) mid new first before
     after lines_old lines_mid lines_new written_old written_mid written_new so_far
-    (subst (λ (b : ℕ). AddsByChooser chooses (line x) (wish x) b mid new before after lines_mid lines_new written_mid
+    (subst (λ (b : ℕ). AddsByChooser coding chooses (line x) (wish x) b mid new before after lines_mid lines_new written_mid
     written_new) same
-    (subst (λ (v : W). AddsByChooser chooses (line x) v other mid new before after lines_mid lines_new written_mid
+    (subst (λ (v : W). AddsByChooser coding chooses (line x) v other mid new before after lines_mid lines_new written_mid
     written_new) asked
-    (subst (λ (l : FieldLine). AddsByChooser chooses l w other mid new before after lines_mid lines_new written_mid
+    (subst (λ (l : FieldLine). AddsByChooser coding chooses l w other mid new before after lines_mid lines_new written_mid
     written_new) lent more))))
 
 -- ---- where memory was refused, by a chooser
 
-stops_along : {K W H : Type 0} (chooses : Chooses K W) (line : H → FieldLine) (wish : H → W) (xs : List H) (i : ℕ)
+stops_along : {coding : Coding} {K W H : Type 0} (chooses : Chooses K W) (line : H → FieldLine) (wish : H → W) (xs : List H) (i : ℕ)
     (x : H) (t : Table) (base : ℕ) (mid new : Table) (first before : K)
     (lines_old lines_mid written_old written_mid written_new : List ℕ)
     → i < length xs → x ≡ get_or xs i x
-    → AddsAlong chooses (map line (take i xs)) (map wish (take i xs)) t base mid first before lines_old lines_mid
+    → AddsAlong coding chooses (map line (take i xs)) (map wish (take i xs)) t base mid first before lines_old lines_mid
     written_old written_mid
-    → StopsByChooser chooses (line x) (wish x) base mid new before written_mid written_new
-    → StopsAlong chooses (map line xs) (map wish xs) t base new first written_old written_new
+    → StopsByChooser coding chooses (line x) (wish x) base mid new before written_mid written_new
+    → StopsAlong coding chooses (map line xs) (map wish xs) t base new first written_old written_new
 unfolding stops_before stops_behind
-stops_along {K = K} chooses line wish xs i x t base mid new first before lines_old lines_mid written_old written_mid
+stops_along {coding} {K = K} chooses line wish xs i x t base mid new first before lines_old lines_mid written_old written_mid
     written_new within is so_far one =
     elim one.stops [
       | inl h ↦
@@ -381,18 +384,18 @@ stops_along {K = K} chooses line wish xs i x t base mid new first before lines_o
           }
     ]
 
-pub stops_along_next : {K W H : Type 0} (chooses : Chooses K W) (line : H → FieldLine) (wish : H → W) (xs : List H)
+pub stops_along_next : {coding : Coding} {K W H : Type 0} (chooses : Chooses K W) (line : H → FieldLine) (wish : H → W) (xs : List H)
     (i : ℕ) (x : H) (f : FieldLine) (w : W) (t : Table) (base other : ℕ) (mid new : Table) (first before : K)
     (lines_old lines_mid written_old written_mid written_new : List ℕ)
     → i < length xs → x ≡ get_or xs i x → other ≡ base → f ≡ line x → w ≡ wish x
-    → AddsAlong chooses (map line (take i xs)) (map wish (take i xs)) t base mid first before lines_old lines_mid
+    → AddsAlong coding chooses (map line (take i xs)) (map wish (take i xs)) t base mid first before lines_old lines_mid
     written_old written_mid
-    → StopsByChooser chooses f w other mid new before written_mid written_new
-    → StopsAlong chooses (map line xs) (map wish xs) t base new first written_old written_new
-stops_along_next {W = W} chooses line wish xs i x f w t base other mid new first before lines_old lines_mid written_old
+    → StopsByChooser coding chooses f w other mid new before written_mid written_new
+    → StopsAlong coding chooses (map line xs) (map wish xs) t base new first written_old written_new
+stops_along_next {coding} {W = W} chooses line wish xs i x f w t base other mid new first before lines_old lines_mid written_old
     written_mid written_new within is same lent asked so_far one =
     stops_along chooses line wish xs i x t base mid new first before lines_old lines_mid written_old written_mid
     written_new within is so_far
-    (subst (λ (b : ℕ). StopsByChooser chooses (line x) (wish x) b mid new before written_mid written_new) same
-    (subst (λ (v : W). StopsByChooser chooses (line x) v other mid new before written_mid written_new) asked
-    (subst (λ (l : FieldLine). StopsByChooser chooses l w other mid new before written_mid written_new) lent one)))
+    (subst (λ (b : ℕ). StopsByChooser coding chooses (line x) (wish x) b mid new before written_mid written_new) same
+    (subst (λ (v : W). StopsByChooser coding chooses (line x) v other mid new before written_mid written_new) asked
+    (subst (λ (l : FieldLine). StopsByChooser coding chooses l w other mid new before written_mid written_new) lent one)))

@@ -1,30 +1,32 @@
 -- The line of a field by what is chosen for it, and an insertion after it that no line references.
 use Rattle.std.proofs.Common.{◌≡◌, ℕ, ◌+◌, ◌-◌, ◌≤◌, List, [], ◌∷◌, ◌++◌, length, Bool, true, false, cond, Option, None, Some, refl}
 use Rattle.std.proofs.Common.{sym, ap, subst, ◌∙◌, arith, append-nil, inr, Ok}
-use Rattle.std.proofs.Common.{◌<◌}
+use Rattle.std.proofs.Common.{◌<◌, drop}
 use Rattle.std.specs.Option.{option_eq}
 use Rattle.std.specs.Prelude.{◌&&◌, nat_eq, nat_le, nat_lt, slice_get}
 use Rattle.std.proofs.lemmas.Bool.{and_parts, cond_both, eqb-true, lt-ltb, ltb-true}
 use Rattle.std.proofs.lemmas.List.{length-map}
 use Rattle.std.proofs.lemmas.Option.{slice_get_within}
-use Rattle.qpack_spec.specs.Chosen.{Chosen, Alone, References, Names, Inserts, passes_at, literal_alone, line_alone}
-use Rattle.qpack_spec.specs.Chosen.{literal_chosen, line_chosen, unreferenced_chosen, chosen_field}
+use Rattle.qpack_spec.specs.Chosen.{Naming, Chosen, Alone, References, Names, Inserts, passes_at, literal_alone}
+use Rattle.qpack_spec.specs.Chosen.{line_alone, literal_chosen, line_uninserted, line_chosen, unreferenced_chosen}
+use Rattle.qpack_spec.specs.Chosen.{chosen_field, passed_over, instruction_naming}
 use Rattle.qpack_spec.specs.Chosen.{alone_chosen, some_passes}
 use Rattle.qpack_spec.specs.Field.{Field, FieldLine, has_name, is_field}
 use Rattle.qpack_spec.specs.Handle.{Lookup, AtStatic, AtRelative, AtPostBase, NotFound, Found, found_entry, lookup_of}
 use Rattle.qpack_spec.specs.Handle.{literal_at, line_of, answer_of, Insertion, Insertable}
 use Rattle.qpack_spec.specs.Instruction.{EncoderInstruction, InsertStaticName, InsertDynamicName, InsertLiteralName}
-use Rattle.qpack_spec.specs.Instruction.{Duplicate, SetCapacity, written_encoder_instruction}
-use Rattle.qpack_spec.specs.Instruction.{written_encoder_instructions}
+use Rattle.qpack_spec.specs.Instruction.{Duplicate, SetCapacity, coded_encoder_instruction}
+use Rattle.qpack_spec.specs.Instruction.{coded_encoder_instructions}
 use Rattle.qpack_spec.specs.Line.{Line, IndexedStatic, IndexedDynamic, IndexedPostBase, NamedDynamic}
-use Rattle.qpack_spec.specs.Line.{NamedPostBase, written_line, written_lines, written_marked_line}
-use Rattle.qpack_spec.specs.Marked.{written_marked_lines}
-use Rattle.qpack_spec.specs.Rule.{Draft, with_new_entry, by_name, by_static_name, by_equal, instruction_for}
-use Rattle.qpack_spec.specs.Rule.{entries_left}
+use Rattle.qpack_spec.specs.Line.{NamedStatic, NamedPostBase, Literal, written_line, coded_line, coded_lines, coded_marked_line}
+use Rattle.qpack_spec.specs.Marked.{coded_marked_lines}
+use Rattle.qpack_spec.specs.MarkedLaws.{is_literal}
+use Rattle.qpack_spec.specs.Rule.{Draft, with_inserted, by_name, by_static_name, by_equal, instruction_for}
 use Rattle.qpack_spec.specs.Stateless.{stateless_literal}
 use Rattle.qpack_spec.specs.StaticTable.{static_index, static_name_index}
 use Rattle.qpack_spec.specs.Table.{Entry, Table, fields_in, insert_count, newest_index, may_reference, with_reference}
-use Rattle.qpack_spec.specs.Table.{without_references, has_room, below_limit}
+use Rattle.qpack_spec.specs.Table.{without_references, has_room, below_limit, eviction_count_for}
+use Rattle.qpack_spec.specs.Text.{Coding}
 use Rattle.qpack_spec.proofs.Positions.{FoundEntry, newest_found}
 use Rattle.qpack_table.specs.Handles.{IsSoughtIn, InsertsIf, insertion_at, insertion_of, referenced_insertion}
 use Rattle.qpack_table.specs.Handles.{unreferenced_insertion}
@@ -122,23 +124,34 @@ line_alone_is : (t : Table) (f : Field) → static_index f ≡ None
     ≡ record { table = t; lines = stateless_literal f (static_name_index f.name) ∷ []; instructions = [] }
 line_alone_is t f none = rw none (literal_alone_is t f (static_name_index f.name))
 
-one_marked_line : (l : FieldLine) (x : Line)
-    → written_marked_lines (l ∷ []) (x ∷ []) ≡ written_marked_line l.never_indexed x
-unfolding written_marked_lines written_lines
-one_marked_line l x = append-nil (written_marked_line l.never_indexed x)
+one_marked_line : (coding : Coding) (l : FieldLine) (x : Line)
+    → coded_marked_lines coding (l ∷ []) (x ∷ []) ≡ coded_marked_line coding l.never_indexed x
+unfolding coded_marked_lines coded_lines
+one_marked_line coding l x = append-nil (coded_marked_line coding l.never_indexed x)
 
 -- a draft of one line, which was written
-adds_line : (l : FieldLine) (d : Draft) (new : Table) (x : Line) (lines_old lines_new : List ℕ)
+adds_line : {coding : Coding} (l : FieldLine) (d : Draft) (new : Table) (x : Line) (lines_old lines_new : List ℕ)
     → d ≡ record { table = new; lines = x ∷ []; instructions = [] }
-    → lines_new ≡ lines_old ++ written_marked_line l.never_indexed x → AddsLine l d new lines_old lines_new
-adds_line l d new x lines_old lines_new is lines =
+    → lines_new ≡ lines_old ++ coded_marked_line coding l.never_indexed x → AddsLine coding l d new lines_old lines_new
+adds_line {coding} l d new x lines_old lines_new is lines =
     record {
       table = sym (ap (λ (y : Draft). y.table) is);
       none = ap (λ (y : Draft). y.instructions) is;
       lines = lines
           ∙ ap (λ (b : List ℕ). lines_old ++ b)
-          (sym (ap (λ (y : Draft). written_marked_lines (l ∷ []) y.lines) is ∙ one_marked_line l x));
+          (sym (ap (λ (y : Draft). coded_marked_lines coding (l ∷ []) y.lines) is ∙ one_marked_line coding l x));
     }
+
+-- a line without a string is the same under any coding
+indexed_line : (coding : Coding) (l : Line) → is_literal l ≡ false → written_line l ≡ coded_line coding l
+unfolding coded_line
+indexed_line coding (IndexedStatic index) k = refl
+indexed_line coding (IndexedDynamic relative) k = refl
+indexed_line coding (IndexedPostBase post_base) k = refl
+indexed_line coding (NamedStatic index value) k = absurd cc
+indexed_line coding (NamedDynamic relative value) k = absurd cc
+indexed_line coding (NamedPostBase post_base value) k = absurd cc
+indexed_line coding (Literal name value) k = absurd cc
 
 -- ---- the line of an equal entry
 
@@ -159,7 +172,7 @@ reference_line_is base a f = both (nat_le a base)
     both false = refl
 
 equal_is : (t : Table) (base : ℕ) (f : Field) (a : ℕ) → passes_at t (is_field f) a ≡ true → static_index f ≡ None
-    → line_chosen base (draft_at t) f (References a)
+    → line_uninserted base (draft_at t) f (References a)
     ≡ record {
       table = (found_entry t base (Some a)).table;
       lines = equal_line f (found_entry t base (Some a)).lookup ∷ [];
@@ -185,12 +198,12 @@ equal_is t base f a passes none = rw passes (both (may_reference t a))
         } in d) (reference_line_is base a f)
     both false = line_alone_is t f none
 
-adds_found_equal : (t new : Table) (base : ℕ) (l : FieldLine) (a : ℕ) (lookup : Lookup) (x : Line)
+adds_found_equal : {coding : Coding} (t new : Table) (base : ℕ) (l : FieldLine) (a : ℕ) (lookup : Lookup) (x : Line)
     (lines_old lines_new : List ℕ) → passes_at t (is_field l.field) a ≡ true → static_index l.field ≡ None
     → found_entry t base (Some a) ≡ record { lookup = lookup; table = new } → equal_line l.field lookup ≡ x
-    → lines_new ≡ lines_old ++ written_marked_line l.never_indexed x
-    → AddsLine l (line_chosen base (draft_at t) l.field (References a)) new lines_old lines_new
-adds_found_equal t new base l a lookup x lines_old lines_new passes none found is lines =
+    → lines_new ≡ lines_old ++ coded_marked_line coding l.never_indexed x
+    → AddsLine coding l (line_uninserted base (draft_at t) l.field (References a)) new lines_old lines_new
+adds_found_equal {coding} t new base l a lookup x lines_old lines_new passes none found is lines =
     adds_line l _ new x lines_old lines_new
     (equal_is t base l.field a passes none
     ∙ ap (λ (y : Found). let d : Draft = record {
@@ -201,24 +214,25 @@ adds_found_equal t new base l a lookup x lines_old lines_new passes none found i
     ∙ ap (λ (y : Line). let d : Draft = record { table = new; lines = y ∷ []; instructions = [] } in d) is)
     lines
 
-pub adds_equal : (t new : Table) (base : ℕ) (l : FieldLine) (a : ℕ) (lookup : Lookup) (x : Line)
+pub adds_equal : {coding : Coding} (t new : Table) (base : ℕ) (l : FieldLine) (a : ℕ) (lookup : Lookup) (x : Line)
     (lines_old lines_new : List ℕ) → l.never_indexed ≡ false → passes_at t (is_field l.field) a ≡ true
     → static_index l.field ≡ None → found_entry t base (Some a) ≡ record { lookup = lookup; table = new }
-    → equal_line l.field lookup ≡ x → lines_new ≡ lines_old ++ written_line x
-    → AddsLine l (line_chosen base (draft_at t) l.field (References a)) new lines_old lines_new
-adds_equal t new base l a lookup x lines_old lines_new unmarked passes none found is lines =
+    → equal_line l.field lookup ≡ x → is_literal x ≡ false → lines_new ≡ lines_old ++ written_line x
+    → AddsLine coding l (line_uninserted base (draft_at t) l.field (References a)) new lines_old lines_new
+adds_equal {coding} t new base l a lookup x lines_old lines_new unmarked passes none found is indexed lines =
     adds_found_equal t new base l a lookup x lines_old lines_new passes none found is
     (lines
     ∙ ap (λ (b : List ℕ). lines_old ++ b)
-    (sym (ap (λ (b : Bool). written_marked_line b x) unmarked ∙ written_unmarked l.field x)))
+    (indexed_line coding x indexed
+    ∙ sym (ap (λ (b : Bool). coded_marked_line coding b x) unmarked ∙ written_unmarked coding l.field x)))
 
 -- the entry is not live, or another field: a line without the dynamic table
-pub adds_no_equal : (t : Table) (base : ℕ) (l : FieldLine) (a : ℕ) (lines_old lines_new : List ℕ)
+pub adds_no_equal : {coding : Coding} (t : Table) (base : ℕ) (l : FieldLine) (a : ℕ) (lines_old lines_new : List ℕ)
     → passes_at t (is_field l.field) a ≡ false → static_index l.field ≡ None
     → lines_new ≡ lines_old
-    ++ written_marked_line l.never_indexed (stateless_literal l.field (static_name_index l.field.name))
-    → AddsLine l (line_chosen base (draft_at t) l.field (References a)) t lines_old lines_new
-adds_no_equal t base l a lines_old lines_new other none lines =
+    ++ coded_marked_line coding l.never_indexed (stateless_literal l.field (static_name_index l.field.name))
+    → AddsLine coding l (line_uninserted base (draft_at t) l.field (References a)) t lines_old lines_new
+adds_no_equal {coding} t base l a lines_old lines_new other none lines =
     adds_line l _ t (stateless_literal l.field (static_name_index l.field.name)) lines_old lines_new
     (rw other (line_alone_is t l.field none)) lines
 
@@ -232,15 +246,15 @@ no_line f (answer.Relative index absolute) before since = absurd (before index a
 no_line f (answer.PostBase index absolute) before since = absurd (since index absolute refl)
 no_line f answer.NotFound before since = refl
 
-pub adds_equal_alone : (t new : Table) (base : ℕ) (l : FieldLine) (a : ℕ) (lookup : DynamicLookupResult)
+pub adds_equal_alone : {coding : Coding} (t new : Table) (base : ℕ) (l : FieldLine) (a : ℕ) (lookup : DynamicLookupResult)
     (lines_old lines_new : List ℕ) → passes_at t (is_field l.field) a ≡ true → static_index l.field ≡ None
     → found_entry t base (Some a) ≡ record { lookup = result_of lookup; table = new }
     → ((index absolute : ℕ) → lookup ≡ answer.Relative index absolute → ⊥)
     → ((index absolute : ℕ) → lookup ≡ answer.PostBase index absolute → ⊥)
     → lines_new ≡ lines_old
-    ++ written_marked_line l.never_indexed (stateless_literal l.field (static_name_index l.field.name))
-    → AddsLine l (line_chosen base (draft_at t) l.field (References a)) new lines_old lines_new
-adds_equal_alone t new base l a lookup lines_old lines_new passes none found before since lines =
+    ++ coded_marked_line coding l.never_indexed (stateless_literal l.field (static_name_index l.field.name))
+    → AddsLine coding l (line_uninserted base (draft_at t) l.field (References a)) new lines_old lines_new
+adds_equal_alone {coding} t new base l a lookup lines_old lines_new passes none found before since lines =
     adds_found_equal t new base l a (result_of lookup) (stateless_literal l.field (static_name_index l.field.name))
     lines_old lines_new passes none found (no_line l.field lookup before since) lines
 
@@ -289,14 +303,14 @@ named_is t base f (Some a) at =
         } in d) (name_line_is base a f)
     both false = literal_alone_is t f (static_name_index f.name)
 
-pub adds_named : (t new : Table) (base : ℕ) (l : FieldLine) (o : Option ℕ) (lookup : Lookup)
+pub adds_named : {coding : Coding} (t new : Table) (base : ℕ) (l : FieldLine) (o : Option ℕ) (lookup : Lookup)
     (lines_old lines_new : List ℕ) → o ≡ newest_index t (has_name l.field.name)
     → found_entry t base o ≡ record { lookup = lookup; table = new }
-    → lines_new ≡ lines_old ++ written_marked_line l.never_indexed (named_line l.field lookup)
-    → AddsLine l
+    → lines_new ≡ lines_old ++ coded_marked_line coding l.never_indexed (named_line l.field lookup)
+    → AddsLine coding l
     (literal_chosen base (draft_at t) l.field (by_entry Names (newest_index t (has_name l.field.name)))) new lines_old
     lines_new
-adds_named t new base l o lookup lines_old lines_new at found lines =
+adds_named {coding} t new base l o lookup lines_old lines_new at found lines =
     adds_line l _ new (named_line l.field lookup) lines_old lines_new
     (ap (λ (n : Option ℕ). literal_chosen base (draft_at t) l.field (by_entry Names n)) (sym at)
     ∙ named_is t base l.field o (sym at)
@@ -315,40 +329,40 @@ named_of f (answer.Relative index absolute) some = refl
 named_of f (answer.PostBase index absolute) some = refl
 named_of f answer.NotFound some = absurd (some refl)
 
-adds_alone : (t : Table) (base : ℕ) (l : FieldLine) (lines_old lines_new : List ℕ) → static_index l.field ≡ None
+adds_alone : {coding : Coding} (t : Table) (base : ℕ) (l : FieldLine) (lines_old lines_new : List ℕ) → static_index l.field ≡ None
     → lines_new ≡ lines_old
-    ++ written_marked_line l.never_indexed (stateless_literal l.field (static_name_index l.field.name))
-    → AddsLine l (line_chosen base (draft_at t) l.field Alone) t lines_old lines_new
-adds_alone t base l lines_old lines_new none lines =
+    ++ coded_marked_line coding l.never_indexed (stateless_literal l.field (static_name_index l.field.name))
+    → AddsLine coding l (line_uninserted base (draft_at t) l.field Alone) t lines_old lines_new
+adds_alone {coding} t base l lines_old lines_new none lines =
     adds_line l _ t (stateless_literal l.field (static_name_index l.field.name)) lines_old lines_new
     (line_alone_is t l.field none) lines
 
 -- no other choice
-pub adds_only_alone : (t : Table) (base : ℕ) (l : FieldLine) (c : choice.Choice) (lines_old lines_new : List ℕ)
+pub adds_only_alone : {coding : Coding} (t : Table) (base : ℕ) (l : FieldLine) (c : choice.Choice) (lines_old lines_new : List ℕ)
     → static_index l.field ≡ None
     → ((entry : ℕ) (inserts : Bool) → c ≡ choice.TheVariants.Equal entry inserts → ⊥)
     → ((inserts : Bool) → c ≡ choice.TheVariants.Named inserts → ⊥) → (c ≡ choice.TheVariants.Inserted → ⊥)
     → lines_new ≡ lines_old
-    ++ written_marked_line l.never_indexed (stateless_literal l.field (static_name_index l.field.name))
-    → AddsLine l (line_chosen base (draft_at t) l.field (line_choice t l.field c)) t lines_old lines_new
-adds_only_alone t base l (choice.TheVariants.Alone inserts) lines_old lines_new none equal named inserted lines =
+    ++ coded_marked_line coding l.never_indexed (stateless_literal l.field (static_name_index l.field.name))
+    → AddsLine coding l (line_uninserted base (draft_at t) l.field (line_choice t l.field c)) t lines_old lines_new
+adds_only_alone {coding} t base l (choice.TheVariants.Alone inserts) lines_old lines_new none equal named inserted lines =
     adds_alone t base l lines_old lines_new none lines
-adds_only_alone t base l (choice.TheVariants.Equal entry inserts) lines_old lines_new none equal named inserted lines =
+adds_only_alone {coding} t base l (choice.TheVariants.Equal entry inserts) lines_old lines_new none equal named inserted lines =
     absurd (equal entry inserts refl)
-adds_only_alone t base l (choice.TheVariants.Named inserts) lines_old lines_new none equal named inserted lines =
+adds_only_alone {coding} t base l (choice.TheVariants.Named inserts) lines_old lines_new none equal named inserted lines =
     absurd (named inserts refl)
-adds_only_alone t base l choice.TheVariants.Inserted lines_old lines_new none equal named inserted lines =
+adds_only_alone {coding} t base l choice.TheVariants.Inserted lines_old lines_new none equal named inserted lines =
     absurd (inserted refl)
 
 -- ---- a marked field
 
 -- any choice but a name is a literal without the dynamic table
-pub adds_literal_alone : (t : Table) (base : ℕ) (l : FieldLine) (c : choice.Choice) (lines_old lines_new : List ℕ)
+pub adds_literal_alone : {coding : Coding} (t : Table) (base : ℕ) (l : FieldLine) (c : choice.Choice) (lines_old lines_new : List ℕ)
     → ((inserts : Bool) → c ≡ choice.TheVariants.Named inserts → ⊥)
     → lines_new ≡ lines_old
-    ++ written_marked_line l.never_indexed (stateless_literal l.field (static_name_index l.field.name))
-    → AddsLine l (literal_chosen base (draft_at t) l.field (line_choice t l.field c)) t lines_old lines_new
-adds_literal_alone t base l c lines_old lines_new other lines =
+    ++ coded_marked_line coding l.never_indexed (stateless_literal l.field (static_name_index l.field.name))
+    → AddsLine coding l (literal_chosen base (draft_at t) l.field (line_choice t l.field c)) t lines_old lines_new
+adds_literal_alone {coding} t base l c lines_old lines_new other lines =
     adds_line l _ t (stateless_literal l.field (static_name_index l.field.name)) lines_old lines_new (is c other) lines
   where
     alone : literal_alone (draft_at t) l.field (static_name_index l.field.name)
@@ -375,94 +389,113 @@ marked_is : (t : Table) (base : ℕ) (l : FieldLine) (c : Chosen) → l.never_in
     → chosen_field base (draft_at t) l c ≡ literal_chosen base (draft_at t) l.field c.line
 marked_is t base l c is =
     ap (λ (b : Bool). cond b (literal_chosen base (draft_at t) l.field c.line)
-    (unreferenced_chosen c.unreferenced (line_chosen base (draft_at t) l.field c.line) l.field)) is
+    (unreferenced_chosen c.names c.unreferenced (line_chosen c.names base (draft_at t) l.field c.line) l.field)) is
 
 -- its line is that of a choice
-pub adds_marked : (t new : Table) (base : ℕ) (l : FieldLine) (c : Chosen) (lines_old lines_new written : List ℕ)
+pub adds_marked : {coding : Coding} (t new : Table) (base : ℕ) (l : FieldLine) (c : Chosen) (lines_old lines_new written : List ℕ)
     → l.never_indexed ≡ true
-    → AddsLine l (literal_chosen base (draft_at t) l.field c.line) new lines_old lines_new
-    → AddsLines (l ∷ []) (chosen_field base (draft_at t) l c) new lines_old lines_new written written
-unfolding written_encoder_instructions
-adds_marked t new base l c lines_old lines_new written never k =
-    subst (λ (d : Draft). AddsLines (l ∷ []) d new lines_old lines_new written written)
+    → AddsLine coding l (literal_chosen base (draft_at t) l.field c.line) new lines_old lines_new
+    → AddsLines coding (l ∷ []) (chosen_field base (draft_at t) l c) new lines_old lines_new written written
+unfolding coded_encoder_instructions
+adds_marked {coding} t new base l c lines_old lines_new written never k =
+    subst (λ (d : Draft). AddsLines coding (l ∷ []) d new lines_old lines_new written written)
     (sym (marked_is t base l c never))
     (record {
       table = k.table;
       lines = k.lines;
-      written = sym (append-nil written) ∙ ap (λ is. written ++ written_encoder_instructions is) (sym k.none);
+      written = sym (append-nil written) ∙ ap (λ is. written ++ coded_encoder_instructions coding is) (sym k.none);
     })
 
 -- ---- a field that may be indexed
 
 unmarked_is : (t : Table) (base : ℕ) (l : FieldLine) (c : Chosen) → l.never_indexed ≡ false
     → chosen_field base (draft_at t) l c
-    ≡ unreferenced_chosen c.unreferenced (line_chosen base (draft_at t) l.field c.line) l.field
+    ≡ unreferenced_chosen c.names c.unreferenced (line_chosen c.names base (draft_at t) l.field c.line) l.field
 unmarked_is t base l c is =
     ap (λ (b : Bool). cond b (literal_chosen base (draft_at t) l.field c.line)
-    (unreferenced_chosen c.unreferenced (line_chosen base (draft_at t) l.field c.line) l.field)) is
+    (unreferenced_chosen c.names c.unreferenced (line_chosen c.names base (draft_at t) l.field c.line) l.field)) is
+
+-- nothing is inserted for its line
+pub uninserted_is : (names : Naming) (t : Table) (base : ℕ) (f : Field) (c : choice.Choice)
+    → (c ≡ choice.TheVariants.Inserted → ⊥)
+    → line_chosen names base (draft_at t) f (line_choice t f c) ≡ line_uninserted base (draft_at t) f (line_choice t f c)
+uninserted_is names t base f (choice.TheVariants.Alone inserts) other = refl
+uninserted_is names t base f (choice.TheVariants.Equal entry inserts) other = refl
+uninserted_is names t base f (choice.TheVariants.Named inserts) other = by (newest_index t (has_name f.name))
+  where
+    by : (o : Option ℕ)
+        → line_chosen names base (draft_at t) f (by_entry Names o) ≡ line_uninserted base (draft_at t) f (by_entry Names o)
+    by None = refl
+    by (Some a) = refl
+uninserted_is names t base f choice.TheVariants.Inserted other = absurd (other refl)
 
 -- only its line was written
-pub adds_uninserted : (t new : Table) (base : ℕ) (l : FieldLine) (c : choice.Choice)
-    (lines_old lines_new written : List ℕ) → l.never_indexed ≡ false → inserts_after c ≡ false
-    → AddsLine l (line_chosen base (draft_at t) l.field (line_choice t l.field c)) new lines_old lines_new
-    → AddsLines (l ∷ []) (chosen_field base (draft_at t) l (chosen_of t l.field c)) new lines_old lines_new written
+pub adds_uninserted : {coding : Coding} (names : Naming) (t new : Table) (base : ℕ) (l : FieldLine) (c : choice.Choice)
+    (lines_old lines_new written : List ℕ) → l.never_indexed ≡ false → (c ≡ choice.TheVariants.Inserted → ⊥)
+    → inserts_after c ≡ false
+    → AddsLine coding l (line_uninserted base (draft_at t) l.field (line_choice t l.field c)) new lines_old lines_new
+    → AddsLines coding (l ∷ []) (chosen_field base (draft_at t) l (chosen_of names t l.field c)) new lines_old lines_new written
     written
-unfolding written_encoder_instructions
-adds_uninserted t new base l c lines_old lines_new written unmarked none k =
-    let d = line_chosen base (draft_at t) l.field (line_choice t l.field c) in
-    let is : chosen_field base (draft_at t) l (chosen_of t l.field c) ≡ d =
-    unmarked_is t base l (chosen_of t l.field c) unmarked
-    ∙ ap (λ (b : Bool). unreferenced_chosen b d l.field) none in
-    subst (λ (x : Draft). AddsLines (l ∷ []) x new lines_old lines_new written written) (sym is)
+unfolding coded_encoder_instructions
+adds_uninserted {coding} names t new base l c lines_old lines_new written unmarked other none k =
+    let d = line_uninserted base (draft_at t) l.field (line_choice t l.field c) in
+    let is : chosen_field base (draft_at t) l (chosen_of names t l.field c) ≡ d =
+    unmarked_is t base l (chosen_of names t l.field c) unmarked
+    ∙ ap (λ (b : Bool). unreferenced_chosen names b (line_chosen names base (draft_at t) l.field (line_choice t l.field c))
+    l.field) none
+    ∙ uninserted_is names t base l.field c other in
+    subst (λ (x : Draft). AddsLines coding (l ∷ []) x new lines_old lines_new written written) (sym is)
     (record {
       table = k.table;
       lines = k.lines;
       written = sym (append-nil written)
-          ∙ ap (λ is. written ++ written_encoder_instructions is) (sym k.none);
+          ∙ ap (λ is. written ++ coded_encoder_instructions coding is) (sym k.none);
     })
 
 -- ---- a field that is inserted for its line
 
 -- the room and the limit were asked
-inserts_is : (t : Table) (base : ℕ) (f : Field) → (below_limit t && has_room t f) ≡ true
-    → line_chosen base (draft_at t) f Inserts ≡ with_new_entry base (draft_at t) f
-inserts_is t base f can = rw can refl
+inserts_is : (names : Naming) (t : Table) (base : ℕ) (f : Field) → (below_limit t && has_room t f) ≡ true
+    → line_chosen names base (draft_at t) f Inserts
+    ≡ with_inserted base (draft_at t) f (instruction_naming names t f)
+inserts_is names t base f can = rw can refl
 
-inserts_none : (t : Table) (base : ℕ) (f : Field) → (below_limit t && has_room t f) ≡ false
-    → line_chosen base (draft_at t) f Inserts ≡ line_alone (draft_at t) f (static_index f)
-inserts_none t base f can = rw can refl
+inserts_none : (names : Naming) (t : Table) (base : ℕ) (f : Field) → (below_limit t && has_room t f) ≡ false
+    → line_chosen names base (draft_at t) f Inserts ≡ line_alone (draft_at t) f (static_index f)
+inserts_none names t base f can = rw can refl
 
 -- what is written of an insertion's answer is its instruction
-IsOf : Field → EncoderInstruction → Type 0
-IsOf f i = (p a : ℕ) → written_insertion f (answer_of i p a) ≡ written_encoder_instruction i
+IsOf : Coding → Field → EncoderInstruction → Type 0
+IsOf coding f i = (p a : ℕ) → written_insertion coding f (answer_of i p a) ≡ coded_encoder_instruction coding i
 
-of_name : (f : Field) (n : ℕ) (o : Option ℕ) → IsOf f (by_name f n o)
+of_name : (coding : Coding) (f : Field) (n : ℕ) (o : Option ℕ) → IsOf coding f (by_name f n o)
 unfolding IsOf
-of_name f n (Some i) = λ p a. refl
-of_name f n None = λ p a. refl
+of_name coding f n (Some i) = λ p a. refl
+of_name coding f n None = λ p a. refl
 
-of_static : (f : Field) (stay : List Field) (o : Option ℕ) → IsOf f (by_static_name f stay o)
+of_static : (coding : Coding) (f : Field) (stay : List Field) (o : Option ℕ) → IsOf coding f (by_static_name f stay o)
 unfolding IsOf
-of_static f stay (Some i) = λ p a. refl
-of_static f stay None = of_name f (length stay) _
+of_static coding f stay (Some i) = λ p a. refl
+of_static coding f stay None = of_name coding f (length stay) _
 
-of_equal : (f : Field) (stay : List Field) (o : Option ℕ) → IsOf f (by_equal f stay o)
+of_equal : (coding : Coding) (f : Field) (stay : List Field) (o : Option ℕ) → IsOf coding f (by_equal f stay o)
 unfolding IsOf
-of_equal f stay (Some i) = λ p a. refl
-of_equal f stay None = of_static f stay (static_name_index f.name)
+of_equal coding f stay (Some i) = λ p a. refl
+of_equal coding f stay None = of_static coding f stay (static_name_index f.name)
 
-of_field : (f : Field) (stay : List Field) → IsOf f (instruction_for f stay)
+of_field : (coding : Coding) (f : Field) (stay : List Field) → IsOf coding f (instruction_for f stay)
 unfolding instruction_for
-of_field f stay = of_equal f stay _
+of_field coding f stay = of_equal coding f stay _
 
 -- its instructions, as they are written
-insertion_written : (t : Table) (base : ℕ) (f : Field) (i : Insertion) → insertion_at t base f ≡ i
-    → written_insertion f i ≡ written_encoder_instructions (instruction_for f (entries_left t f) ∷ [])
-unfolding written_encoder_instructions IsOf
-insertion_written t base f i is =
-    ap (λ (x : Insertion). written_insertion f x) (sym is)
-    ∙ of_field f (entries_left t f) (insert_count t - base) (insert_count t + 1)
-    ∙ sym (append-nil (written_encoder_instruction (instruction_for f (entries_left t f))))
+insertion_written : (coding : Coding) (names : Naming) (t : Table) (base : ℕ) (f : Field) (i : Insertion) → insertion_at names t base f ≡ i
+    → written_insertion coding f i ≡ coded_encoder_instructions coding (instruction_naming names t f ∷ [])
+unfolding coded_encoder_instructions IsOf
+insertion_written coding names t base f i is =
+    ap (λ (x : Insertion). written_insertion coding f x) (sym is)
+    ∙ of_field coding f (drop (passed_over names (eviction_count_for t f)) (fields_in t.live)) (insert_count t - base)
+    (insert_count t + 1)
+    ∙ sym (append-nil (coded_encoder_instruction coding (instruction_naming names t f)))
 
 answer_line : (f : Field) (i : EncoderInstruction) (p a : ℕ) → line_of f (answer_of i p a) ≡ IndexedPostBase p
 answer_line f (InsertStaticName x v) p a = refl
@@ -471,134 +504,135 @@ answer_line f (InsertLiteralName n v) p a = refl
 answer_line f (Duplicate x) p a = refl
 answer_line f (SetCapacity n) p a = refl
 
-one_line : (l : Line) → written_lines (l ∷ []) ≡ written_line l
-unfolding written_lines
-one_line l = append-nil (written_line l)
+one_line : (coding : Coding) (l : Line) → coded_lines coding (l ∷ []) ≡ coded_line coding l
+unfolding coded_lines
+one_line coding l = append-nil (coded_line coding l)
 
 -- a field was inserted for its line, which was written or not: the table after it, and its instruction
-pub record IsInserted (t : Table) (base : ℕ) (f : Field) (insertion : Insertion) (new : Table) (written_old written_new :
-    List ℕ) : Type 0 where
+pub record IsInserted (coding : Coding) (names : Naming) (t : Table) (base : ℕ) (f : Field) (insertion : Insertion) (new : Table)
+    (written_old written_new : List ℕ) : Type 0 where
   pub can : (below_limit t && has_room t f) ≡ true
-  pub is : referenced_insertion t base f ≡ record { insertion = insertion; table = new }
-  pub written : written_new ≡ written_old ++ written_insertion f insertion
+  pub is : referenced_insertion names t base f ≡ record { insertion = insertion; table = new }
+  pub written : written_new ≡ written_old ++ written_insertion coding f insertion
 
-inserted_table : {t : Table} {base : ℕ} {f : Field} {i : Insertion} {new : Table} {written_old written_new : List ℕ}
-    → IsInserted t base f i new written_old written_new → new ≡ (line_chosen base (draft_at t) f Inserts).table
-inserted_table {t} {base} {f} k =
-    sym (ap (λ (x : Insertable). x.table) k.is) ∙ sym (ap (λ (d : Draft). d.table) (inserts_is t base f k.can))
+inserted_table : {coding : Coding} {names : Naming} {t : Table} {base : ℕ} {f : Field} {i : Insertion} {new : Table} {written_old written_new : List ℕ}
+    → IsInserted coding names t base f i new written_old written_new → new ≡ (line_chosen names base (draft_at t) f Inserts).table
+inserted_table {coding} {names} {t} {base} {f} k =
+    sym (ap (λ (x : Insertable). x.table) k.is) ∙ sym (ap (λ (d : Draft). d.table) (inserts_is names t base f k.can))
 
-inserted_written : {t : Table} {base : ℕ} {f : Field} {i : Insertion} {new : Table} {written_old written_new : List ℕ}
-    → IsInserted t base f i new written_old written_new
+inserted_written : {coding : Coding} {names : Naming} {t : Table} {base : ℕ} {f : Field} {i : Insertion} {new : Table} {written_old written_new : List ℕ}
+    → IsInserted coding names t base f i new written_old written_new
     → written_new
-    ≡ written_old ++ written_encoder_instructions (line_chosen base (draft_at t) f Inserts).instructions
-inserted_written {t} {base} {f} {i} {new} {written_old} k =
+    ≡ written_old ++ coded_encoder_instructions coding (line_chosen names base (draft_at t) f Inserts).instructions
+inserted_written {coding} {names} {t} {base} {f} {i} {new} {written_old} k =
     k.written
     ∙ ap (λ (b : List ℕ). written_old ++ b)
-    (insertion_written t base f i (ap (λ (x : Insertable). x.insertion) k.is))
-    ∙ sym (ap (λ (d : Draft). written_old ++ written_encoder_instructions d.instructions)
-    (inserts_is t base f k.can))
+    (insertion_written coding names t base f i (ap (λ (x : Insertable). x.insertion) k.is))
+    ∙ sym (ap (λ (d : Draft). written_old ++ coded_encoder_instructions coding d.instructions)
+    (inserts_is names t base f k.can))
 
-pub adds_new : {t : Table} {base : ℕ} {f : Field} {i : Insertion} {new : Table} {written_old written_new : List ℕ}
-    → IsInserted t base f i new written_old written_new → (lines_old lines_new : List ℕ)
-    → lines_new ≡ lines_old ++ written_line (line_of f i)
-    → Adds (line_chosen base (draft_at t) f Inserts) new lines_old lines_new written_old written_new
-adds_new {t} {base} {f} {i} k lines_old lines_new lines =
-    let insertion : insertion_at t base f ≡ i = ap (λ (x : Insertable). x.insertion) k.is in
+pub adds_new : {coding : Coding} {names : Naming} {t : Table} {base : ℕ} {f : Field} {i : Insertion} {new : Table} {written_old written_new : List ℕ}
+    → IsInserted coding names t base f i new written_old written_new → (lines_old lines_new : List ℕ)
+    → lines_new ≡ lines_old ++ coded_line coding (line_of f i)
+    → Adds coding (line_chosen names base (draft_at t) f Inserts) new lines_old lines_new written_old written_new
+adds_new {coding} {names} {t} {base} {f} {i} k lines_old lines_new lines =
+    let insertion : insertion_at names t base f ≡ i = ap (λ (x : Insertable). x.insertion) k.is in
     record {
       table = inserted_table k;
       lines = lines
-          ∙ ap (λ (x : Insertion). lines_old ++ written_line (line_of f x)) (sym insertion)
-          ∙ ap (λ (x : Line). lines_old ++ written_line x)
-          (answer_line f (instruction_for f (entries_left t f)) (insert_count t - base) (insert_count t + 1))
-          ∙ ap (λ (b : List ℕ). lines_old ++ b) (sym (one_line (IndexedPostBase (insert_count t - base))))
-          ∙ sym (ap (λ (d : Draft). lines_old ++ written_lines d.lines) (inserts_is t base f k.can));
+          ∙ ap (λ (x : Insertion). lines_old ++ coded_line coding (line_of f x)) (sym insertion)
+          ∙ ap (λ (x : Line). lines_old ++ coded_line coding x)
+          (answer_line f (instruction_naming names t f) (insert_count t - base) (insert_count t + 1))
+          ∙ ap (λ (b : List ℕ). lines_old ++ b) (sym (one_line coding (IndexedPostBase (insert_count t - base))))
+          ∙ sym (ap (λ (d : Draft). lines_old ++ coded_lines coding d.lines) (inserts_is names t base f k.can));
       written = inserted_written k;
     }
 
 -- its line is refused
-pub stops_new : {t : Table} {base : ℕ} {f : Field} {i : Insertion} {new : Table} {written_old written_new : List ℕ}
-    → IsInserted t base f i new written_old written_new
-    → StopsAdding (line_chosen base (draft_at t) f Inserts) t new written_old written_new
-stops_new k = inr (inserted_table k, inserted_written k)
+pub stops_new : {coding : Coding} {names : Naming} {t : Table} {base : ℕ} {f : Field} {i : Insertion} {new : Table} {written_old written_new : List ℕ}
+    → IsInserted coding names t base f i new written_old written_new
+    → StopsAdding coding (line_chosen names base (draft_at t) f Inserts) t new written_old written_new
+stops_new {coding} k = inr (inserted_table k, inserted_written k)
 
 -- there was no room for it, or no more may be blocked
-pub adds_not_new : (t new : Table) (base : ℕ) (l : FieldLine) (lines_old lines_new written_old written_new : List ℕ)
+pub adds_not_new : {coding : Coding} (names : Naming) (t new : Table) (base : ℕ) (l : FieldLine) (lines_old lines_new written_old written_new : List ℕ)
     → (below_limit t && has_room t l.field) ≡ false → new ≡ t → static_index l.field ≡ None → l.never_indexed ≡ false
     → lines_new ≡ lines_old
-    ++ written_marked_line l.never_indexed (stateless_literal l.field (static_name_index l.field.name))
+    ++ coded_marked_line coding l.never_indexed (stateless_literal l.field (static_name_index l.field.name))
     → written_new ≡ written_old
-    → Adds (line_chosen base (draft_at t) l.field Inserts) new lines_old lines_new written_old written_new
-unfolding written_encoder_instructions
-adds_not_new t new base l lines_old lines_new written_old written_new can same none unmarked lines written =
+    → Adds coding (line_chosen names base (draft_at t) l.field Inserts) new lines_old lines_new written_old written_new
+unfolding coded_encoder_instructions
+adds_not_new {coding} names t new base l lines_old lines_new written_old written_new can same none unmarked lines written =
     let x = stateless_literal l.field (static_name_index l.field.name) in
-    let is = inserts_none t base l.field can ∙ line_alone_is t l.field none in
+    let is = inserts_none names t base l.field can ∙ line_alone_is t l.field none in
     record {
       table = same ∙ sym (ap (λ (d : Draft). d.table) is);
       lines = lines
           ∙ ap (λ (b : List ℕ). lines_old ++ b)
-          (ap (λ (b : Bool). written_marked_line b x) unmarked ∙ written_unmarked l.field x ∙ sym (one_line x))
-          ∙ sym (ap (λ (d : Draft). lines_old ++ written_lines d.lines) is);
+          (ap (λ (b : Bool). coded_marked_line coding b x) unmarked ∙ written_unmarked coding l.field x ∙ sym (one_line coding x))
+          ∙ sym (ap (λ (d : Draft). lines_old ++ coded_lines coding d.lines) is);
       written = written ∙ sym (append-nil written_old)
-          ∙ sym (ap (λ (d : Draft). written_old ++ written_encoder_instructions d.instructions) is);
+          ∙ sym (ap (λ (d : Draft). written_old ++ coded_encoder_instructions coding d.instructions) is);
     }
 
 -- its line is that of a choice
-pub new_unmarked : (t new : Table) (base : ℕ) (l : FieldLine) (c : choice.Choice)
+pub new_unmarked : {coding : Coding} (names : Naming) (t new : Table) (base : ℕ) (l : FieldLine) (c : choice.Choice)
     (lines_old lines_new written_old written_new : List ℕ) → l.never_indexed ≡ false
     → c ≡ choice.TheVariants.Inserted
-    → Adds (line_chosen base (draft_at t) l.field Inserts) new lines_old lines_new written_old written_new
-    → AddsLines (l ∷ []) (chosen_field base (draft_at t) l (chosen_of t l.field c)) new lines_old lines_new written_old
+    → Adds coding (line_chosen names base (draft_at t) l.field Inserts) new lines_old lines_new written_old written_new
+    → AddsLines coding (l ∷ []) (chosen_field base (draft_at t) l (chosen_of names t l.field c)) new lines_old lines_new written_old
     written_new
-new_unmarked t new base l c lines_old lines_new written_old written_new unmarked is adds =
-    let d = line_chosen base (draft_at t) l.field Inserts in
-    subst (λ (x : Draft). AddsLines (l ∷ []) x new lines_old lines_new written_old written_new)
-    (sym (unmarked_is t base l (chosen_of t l.field choice.TheVariants.Inserted) unmarked)
-    ∙ ap (λ (k : choice.Choice). chosen_field base (draft_at t) l (chosen_of t l.field k)) (sym is))
+new_unmarked {coding} names t new base l c lines_old lines_new written_old written_new unmarked is adds =
+    let d = line_chosen names base (draft_at t) l.field Inserts in
+    subst (λ (x : Draft). AddsLines coding (l ∷ []) x new lines_old lines_new written_old written_new)
+    (sym (unmarked_is t base l (chosen_of names t l.field choice.TheVariants.Inserted) unmarked)
+    ∙ ap (λ (k : choice.Choice). chosen_field base (draft_at t) l (chosen_of names t l.field k)) (sym is))
     (record {
       table = adds.table;
-      lines = adds.lines ∙ ap (λ (b : List ℕ). lines_old ++ b) (sym (lines_unmarked t l d.lines unmarked));
+      lines = adds.lines ∙ ap (λ (b : List ℕ). lines_old ++ b) (sym (lines_unmarked coding t l d.lines unmarked));
       written = adds.written;
     })
 
 -- ---- an equal static field
 
-pub static_chosen : (t : Table) (base : ℕ) (l : FieldLine) (index : ℕ) (lines_old lines_new written : List ℕ)
+pub static_chosen : {coding : Coding} (t : Table) (base : ℕ) (l : FieldLine) (index : ℕ) (lines_old lines_new written : List ℕ)
     → l.never_indexed ≡ false → static_index l.field ≡ Some index
     → lines_new ≡ lines_old ++ written_line (IndexedStatic index)
-    → AddsLines (l ∷ []) (chosen_field base (draft_at t) l alone_chosen) t lines_old lines_new written written
-unfolding written_encoder_instructions
-static_chosen t base l index lines_old lines_new written unmarked at lines =
+    → AddsLines coding (l ∷ []) (chosen_field base (draft_at t) l alone_chosen) t lines_old lines_new written written
+unfolding coded_encoder_instructions
+static_chosen {coding} t base l index lines_old lines_new written unmarked at lines =
     let d : Draft = record { table = t; lines = IndexedStatic index ∷ []; instructions = [] } in
     let is : line_alone (draft_at t) l.field (static_index l.field) ≡ d = rw at refl in
-    subst (λ (x : Draft). AddsLines (l ∷ []) x t lines_old lines_new written written)
+    subst (λ (x : Draft). AddsLines coding (l ∷ []) x t lines_old lines_new written written)
     (sym (unmarked_is t base l alone_chosen unmarked ∙ is))
     (record {
       table = refl;
       lines = lines
           ∙ ap (λ (b : List ℕ). lines_old ++ b)
-          (sym (lines_unmarked t l (IndexedStatic index ∷ []) unmarked ∙ one_line (IndexedStatic index)));
+          (indexed_line coding (IndexedStatic index) refl
+          ∙ sym (lines_unmarked coding t l (IndexedStatic index ∷ []) unmarked ∙ one_line coding (IndexedStatic index)));
       written = sym (append-nil written);
     })
 
 -- ---- an insertion that no line references
 
-pub unreferenced_written : (t new : Table) (base : ℕ) (f : Field) (insertion : Insertion)
+pub unreferenced_written : (coding : Coding) (names : Naming) (t new : Table) (base : ℕ) (f : Field) (insertion : Insertion)
     (written_old written_new : List ℕ) → has_room t f ≡ true
-    → unreferenced_insertion t base f ≡ record { insertion = insertion; table = new }
-    → written_new ≡ written_old ++ written_insertion f insertion
+    → unreferenced_insertion names t base f ≡ record { insertion = insertion; table = new }
+    → written_new ≡ written_old ++ written_insertion coding f insertion
     → written_new ≡ written_old
-    ++ written_encoder_instructions (unreferenced_chosen true (draft_at t) f).instructions
-unreferenced_written t new base f insertion written_old written_new room is written =
+    ++ coded_encoder_instructions coding (unreferenced_chosen names true (draft_at t) f).instructions
+unreferenced_written coding names t new base f insertion written_old written_new room is written =
     rw room (written
     ∙ ap (λ (b : List ℕ). written_old ++ b)
-    (insertion_written t base f insertion (ap (λ (x : Insertable). x.insertion) is)))
+    (insertion_written coding names t base f insertion (ap (λ (x : Insertable). x.insertion) is)))
 
-pub no_room_written : (t : Table) (f : Field) (written_old written_new : List ℕ) → has_room t f ≡ false
+pub no_room_written : (coding : Coding) (names : Naming) (t : Table) (f : Field) (written_old written_new : List ℕ) → has_room t f ≡ false
     → written_new ≡ written_old
     → written_new ≡ written_old
-    ++ written_encoder_instructions (unreferenced_chosen true (draft_at t) f).instructions
-unfolding written_encoder_instructions
-no_room_written t f written_old written_new room same = rw room (same ∙ sym (append-nil written_old))
+    ++ coded_encoder_instructions coding (unreferenced_chosen names true (draft_at t) f).instructions
+unfolding coded_encoder_instructions
+no_room_written coding names t f written_old written_new room same = rw room (same ∙ sym (append-nil written_old))
 
 -- ---- what an insertion that depends on room answers
 
@@ -623,27 +657,27 @@ alone_keeps t f None = ap (λ (d : Draft). d.table) (literal_alone_is t f (stati
 
 -- a line without an insertion changes what is referenced alone
 pub line_keeps : (t : Table) (base : ℕ) (f : Field) (c : choice.Choice) → (c ≡ choice.TheVariants.Inserted → ⊥)
-    → without_references (line_chosen base (draft_at t) f (line_choice t f c)).table ≡ without_references t
+    → without_references (line_uninserted base (draft_at t) f (line_choice t f c)).table ≡ without_references t
 unfolding without_references with_reference
 line_keeps t base f c other = pick c other
   where
     alone : without_references (line_alone (draft_at t) f (static_index f)).table ≡ without_references t
     alone = ap (λ (x : Table). without_references x) (alone_keeps t f (static_index f))
 
-    equal : (a : ℕ) → without_references (line_chosen base (draft_at t) f (References a)).table ≡ without_references t
+    equal : (a : ℕ) → without_references (line_uninserted base (draft_at t) f (References a)).table ≡ without_references t
     equal a =
         cond_both (passes_at t (is_field f) a && may_reference t a) _ (line_alone (draft_at t) f (static_index f))
         (λ (d : Draft). without_references d.table ≡ without_references t) (λ _. refl) (λ _. alone)
 
     named : (o : Option ℕ)
-        → without_references (line_chosen base (draft_at t) f (by_entry Names o)).table ≡ without_references t
+        → without_references (line_uninserted base (draft_at t) f (by_entry Names o)).table ≡ without_references t
     named None = alone
     named (Some a) =
         cond_both (passes_at t (has_name f.name) a && may_reference t a) _ (line_alone (draft_at t) f (static_index f))
         (λ (d : Draft). without_references d.table ≡ without_references t) (λ _. refl) (λ _. alone)
 
     pick : (c : choice.Choice) → (c ≡ choice.TheVariants.Inserted → ⊥)
-        → without_references (line_chosen base (draft_at t) f (line_choice t f c)).table ≡ without_references t
+        → without_references (line_uninserted base (draft_at t) f (line_choice t f c)).table ≡ without_references t
     pick (choice.TheVariants.Alone inserts) other = alone
     pick (choice.TheVariants.Equal entry inserts) other = equal entry
     pick (choice.TheVariants.Named inserts) other = named (newest_index t (has_name f.name))

@@ -22,8 +22,8 @@ fits_kept most base f =
           (omega (arith, k.live, live_takes d.table.live (omega (arith, at.above, at.within)))) k;
       name = λ d a at may k. fits_reference most d.table a
           (omega (arith, k.live, live_takes d.table.live (omega (arith, at.above, at.within)))) k;
-      insertion = λ d below r k. fits_entry most d.table f (room d.table f r).fits k;
-      unreferenced = λ d r k. fits_unreferenced most d.table f (room d.table f r).fits k;
+      insertion = λ d names below r k. fits_entry most d.table f (room d.table f r).fits k;
+      unreferenced = λ d names r k. fits_unreferenced most d.table f (room d.table f r).fits k;
     }
 
 -- a block that references an entry has a maximum capacity of 32 at least

@@ -3,7 +3,7 @@ use Rattle.std.proofs.Common.{◌≡◌, ℕ, List, [], ◌++◌, take, drop, le
 use Rattle.std.proofs.Common.{append-nil, append_assoc, inl}
 use Rattle.std.proofs.lemmas.List.{take_at, drop_at}
 use Rattle.qpack_spec.specs.Field.{FieldLine}
-use Rattle.qpack_spec.specs.Instruction.{written_encoder_instructions}
+use Rattle.qpack_spec.specs.Instruction.{coded_encoder_instructions}
 use Rattle.qpack_spec.specs.Marked.{marked_rule}
 use Rattle.qpack_spec.specs.Table.{Table, insert_count, without_references}
 use Rattle.qpack_codec.specs.Encoding.{GivesUpLines, StopsEncodingLinesOf}
@@ -25,7 +25,7 @@ put_together before lines prefix text len is e =
 -- ---- a block that is given up
 
 gives_up_none : (t : Table) (written : List ℕ) → GivesUpLines [] t (without_references t) written written
-unfolding marked_rule without_references written_encoder_instructions
+unfolding marked_rule without_references coded_encoder_instructions
 gives_up_none t written = record { many = 0; table = refl; written = sym (append-nil written) }
 
 -- ---- a block as it begins

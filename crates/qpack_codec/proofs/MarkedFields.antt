@@ -6,17 +6,18 @@ use Rattle.std.proofs.Common.{get_or, length, length-append, ◌≤◌, arith, v
 use Rattle.std.specs.declared.vec.Vec.{Vec}
 use Rattle.std.specs.Borrow.{Bor}
 use Rattle.std.specs.Prelude.{OnErr, IfOk}
-use Rattle.qpack_spec.specs.BlockReading.{written_block}
+use Rattle.qpack_spec.specs.BlockReading.{coded_block}
 use Rattle.qpack_spec.specs.Field.{Field, FieldLine, unmarked}
 use Rattle.qpack_spec.specs.Instruction.{written_encoder_instructions}
-use Rattle.qpack_spec.specs.Line.{Line, written_line, written_lines, written_marked_line}
-use Rattle.qpack_spec.specs.Marked.{marked_rule, written_marked_lines, written_marked_block, stateless_line_marked}
+use Rattle.qpack_spec.specs.Line.{Line, coded_line, coded_lines, coded_marked_line}
+use Rattle.qpack_spec.specs.Marked.{marked_rule, coded_marked_lines, coded_marked_block, written_marked_block, stateless_line_marked}
 use Rattle.qpack_spec.specs.Marked.{stateless_block_marked}
 use Rattle.qpack_spec.specs.Prefix.{Prefix, written_prefix, prefix_for}
 use Rattle.qpack_spec.specs.Rule.{Draft, rule, block_of, required_insert_count, committed_table}
 use Rattle.qpack_spec.specs.Stateless.{stateless_line, stateless_literal}
 use Rattle.qpack_spec.specs.StaticTable.{static_name_index}
 use Rattle.qpack_spec.specs.Table.{Table, empty_table, without_references}
+use Rattle.qpack_spec.specs.Text.{Coding, Always}
 use Rattle.qpack_rules.proofs.Marked.{is_rule_unmarked}
 use Rattle.qpack_base.specs.HeaderFields.{field_of, fields_behind, DrainsFields}
 use Rattle.qpack_base.specs.declared.field.HeaderField.{HeaderField}
@@ -30,25 +31,25 @@ use Rattle.qpack_codec.proofs.AddedFields.{front_of}
 
 -- ---- a field that may be indexed
 
-pub written_unmarked : (f : Field) (l : Line) → written_marked_line false l ≡ written_line l
-unfolding written_marked_lines written_lines
-written_unmarked f l =
-    sym (append-nil (written_marked_line false l)) ∙ (is_rule_unmarked (empty_table 0 None 0) (f ∷ [])).lines (l ∷ [])
-    ∙ append-nil (written_line l)
+pub written_unmarked : (coding : Coding) (f : Field) (l : Line) → coded_marked_line coding false l ≡ coded_line coding l
+unfolding coded_marked_lines coded_lines
+written_unmarked coding f l =
+    sym (append-nil (coded_marked_line coding false l)) ∙ (is_rule_unmarked (empty_table 0 None 0) (f ∷ [])).lines coding (l ∷ [])
+    ∙ append-nil (coded_line coding l)
 
-pub lines_unmarked : (t : Table) (l : FieldLine) (ls : List Line) → l.never_indexed ≡ false
-    → written_marked_lines (l ∷ []) ls ≡ written_lines ls
-lines_unmarked t l ls is =
-    ap (λ (b : Bool). written_marked_lines ((let k : FieldLine = record { field = l.field; never_indexed = b } in k)
+pub lines_unmarked : (coding : Coding) (t : Table) (l : FieldLine) (ls : List Line) → l.never_indexed ≡ false
+    → coded_marked_lines coding (l ∷ []) ls ≡ coded_lines coding ls
+lines_unmarked coding t l ls is =
+    ap (λ (b : Bool). coded_marked_lines coding ((let k : FieldLine = record { field = l.field; never_indexed = b } in k)
     ∷ []) ls) is
-    ∙ (is_rule_unmarked t (l.field ∷ [])).lines ls
+    ∙ (is_rule_unmarked t (l.field ∷ [])).lines coding ls
 
 -- ---- a block of fields none of which is marked
 
 encodes_unmarked : (stream : ℕ) (fs : List Field) (old new : Table) (before block written_old written_new : List ℕ)
     (required : ℕ) → EncodesLines stream (map unmarked fs) old new before block written_old written_new required
     → EncodesBlock stream fs old new before block written_old written_new required
-unfolding written_marked_block written_block
+unfolding coded_marked_block coded_block
 encodes_unmarked stream fs old new before block written_old written_new required k =
     let same = (is_rule_unmarked old fs).draft in
     record {
@@ -57,7 +58,7 @@ encodes_unmarked stream fs old new before block written_old written_new required
       block = k.block
           ∙ ap (λ (d : Draft). before ++ written_marked_block (map unmarked fs) (block_of old d)) same
           ∙ ap (λ (x : List ℕ). before ++ (written_prefix (block_of old (rule old fs)).prefix ++ x))
-          ((is_rule_unmarked old fs).lines (rule old fs).lines);
+          ((is_rule_unmarked old fs).lines Always (rule old fs).lines);
       written = k.written ∙ ap (λ (d : Draft). written_old ++ written_encoder_instructions d.instructions) same;
     }
 
@@ -125,37 +126,37 @@ on_err_stops_unmarked (Err e) steps it old new written_old written_new stops =
 
 -- ---- a block where no entry is at hand
 
-lines_of_more : (ls : List FieldLine) (l : FieldLine)
-    → written_marked_lines (ls ++ l ∷ []) (map (λ k. stateless_line_marked k) (ls ++ l ∷ []))
-    ≡ written_marked_lines ls (map (λ k. stateless_line_marked k) ls)
-    ++ written_marked_line l.never_indexed (stateless_line_marked l)
-unfolding written_marked_lines written_lines
-lines_of_more [] l = append-nil (written_marked_line l.never_indexed (stateless_line_marked l))
-lines_of_more (k ∷ ls) l =
-    ap (λ (x : List ℕ). written_marked_line k.never_indexed (stateless_line_marked k) ++ x) (lines_of_more ls l)
-    ∙ sym (append_assoc (written_marked_line k.never_indexed (stateless_line_marked k))
-    (written_marked_lines ls (map (λ k. stateless_line_marked k) ls))
-    (written_marked_line l.never_indexed (stateless_line_marked l)))
+lines_of_more : (coding : Coding) (ls : List FieldLine) (l : FieldLine)
+    → coded_marked_lines coding (ls ++ l ∷ []) (map (λ k. stateless_line_marked k) (ls ++ l ∷ []))
+    ≡ coded_marked_lines coding ls (map (λ k. stateless_line_marked k) ls)
+    ++ coded_marked_line coding l.never_indexed (stateless_line_marked l)
+unfolding coded_marked_lines coded_lines
+lines_of_more coding [] l = append-nil (coded_marked_line coding l.never_indexed (stateless_line_marked l))
+lines_of_more coding (k ∷ ls) l =
+    ap (λ (x : List ℕ). coded_marked_line coding k.never_indexed (stateless_line_marked k) ++ x) (lines_of_more coding ls l)
+    ∙ sym (append_assoc (coded_marked_line coding k.never_indexed (stateless_line_marked k))
+    (coded_marked_lines coding ls (map (λ k. stateless_line_marked k) ls))
+    (coded_marked_line coding l.never_indexed (stateless_line_marked l)))
 
 -- the bytes of the block where no entry is at hand
-abbrev pub written_stateless : List FieldLine → List ℕ
-written_stateless ls = written_marked_block ls (stateless_block_marked ls)
+abbrev pub written_stateless : Coding → List FieldLine → List ℕ
+written_stateless coding ls = coded_marked_block coding ls (stateless_block_marked ls)
 
-stateless_more : (ls : List FieldLine) (l : FieldLine)
-    → written_stateless (ls ++ l ∷ [])
-    ≡ written_stateless ls ++ written_marked_line l.never_indexed (stateless_line_marked l)
-unfolding written_marked_block
-stateless_more ls l =
+stateless_more : (coding : Coding) (ls : List FieldLine) (l : FieldLine)
+    → written_stateless coding (ls ++ l ∷ [])
+    ≡ written_stateless coding ls ++ coded_marked_line coding l.never_indexed (stateless_line_marked l)
+unfolding coded_marked_block
+stateless_more coding ls l =
     let p = written_prefix (record { count = 0; sign = false; delta = 0 }) in
-    ap (λ (x : List ℕ). p ++ x) (lines_of_more ls l)
-    ∙ sym (append_assoc p (written_marked_lines ls (map (λ k. stateless_line_marked k) ls))
-    (written_marked_line l.never_indexed (stateless_line_marked l)))
+    ap (λ (x : List ℕ). p ++ x) (lines_of_more coding ls l)
+    ∙ sym (append_assoc p (coded_marked_lines coding ls (map (λ k. stateless_line_marked k) ls))
+    (coded_marked_line coding l.never_indexed (stateless_line_marked l)))
 
 -- the first bytes are the prefix
-pub stateless_begun : (before now : List ℕ) → now ≡ before ++ written_prefix (prefix_for 0 0 0)
-    → now ≡ before ++ written_stateless []
-unfolding written_marked_block written_marked_lines written_lines prefix_for
-stateless_begun before now e =
+pub stateless_begun : (coding : Coding) (before now : List ℕ) → now ≡ before ++ written_prefix (prefix_for 0 0 0)
+    → now ≡ before ++ written_stateless coding []
+unfolding coded_marked_block coded_marked_lines coded_lines prefix_for
+stateless_begun coding before now e =
     e ∙ ap (λ (x : List ℕ). before ++ x) (sym (append-nil (written_prefix (record {
       count = 0;
       sign = false;
@@ -163,94 +164,94 @@ stateless_begun before now e =
     }))))
 
 -- a line more
-pub stateless_grown : {H : Type 0} (line : H → FieldLine) (xs : List H) (i : ℕ) (x : H) (l : FieldLine)
+pub stateless_grown : (coding : Coding) {H : Type 0} (line : H → FieldLine) (xs : List H) (i : ℕ) (x : H) (l : FieldLine)
     (before mid now : List ℕ) → i < length xs → x ≡ get_or xs i x → l ≡ line x
-    → mid ≡ before ++ written_stateless (map line (take i xs))
-    → now ≡ mid ++ written_marked_line l.never_indexed (stateless_line_marked l)
-    → now ≡ before ++ written_stateless (map line (take (i + 1) xs))
-stateless_grown line xs i x l before mid now within is lent so_far more =
+    → mid ≡ before ++ written_stateless coding (map line (take i xs))
+    → now ≡ mid ++ coded_marked_line coding l.never_indexed (stateless_line_marked l)
+    → now ≡ before ++ written_stateless coding (map line (take (i + 1) xs))
+stateless_grown coding line xs i x l before mid now within is lent so_far more =
     rw (front_of line xs i x within, ← is, ← lent)
     (more
-    ∙ ap (λ (b : List ℕ). b ++ written_marked_line l.never_indexed (stateless_line_marked l)) so_far
-    ∙ append_assoc before (written_stateless (map line (take i xs)))
-    (written_marked_line l.never_indexed (stateless_line_marked l))
-    ∙ ap (λ (b : List ℕ). before ++ b) (sym (stateless_more (map line (take i xs)) l)))
+    ∙ ap (λ (b : List ℕ). b ++ coded_marked_line coding l.never_indexed (stateless_line_marked l)) so_far
+    ∙ append_assoc before (written_stateless coding (map line (take i xs)))
+    (coded_marked_line coding l.never_indexed (stateless_line_marked l))
+    ∙ ap (λ (b : List ℕ). before ++ b) (sym (stateless_more coding (map line (take i xs)) l)))
 
 -- the lines of the first fields are no longer than those of all
-stateless_lines_front : {H : Type 0} (line : H → FieldLine) (xs : List H) (n : ℕ)
-    → length (written_marked_lines (map line (take n xs)) (map (λ k. stateless_line_marked k) (map line (take n xs))))
-    ≤ length (written_marked_lines (map line xs) (map (λ k. stateless_line_marked k) (map line xs)))
-unfolding written_marked_lines written_lines
-stateless_lines_front {H} line xs zero = omega arith
-stateless_lines_front {H} line [] (suc n) = omega arith
-stateless_lines_front {H} line (x ∷ xs) (suc n) =
-    let first = written_marked_line (line x).never_indexed (stateless_line_marked (line x)) in
+stateless_lines_front : (coding : Coding) {H : Type 0} (line : H → FieldLine) (xs : List H) (n : ℕ)
+    → length (coded_marked_lines coding (map line (take n xs)) (map (λ k. stateless_line_marked k) (map line (take n xs))))
+    ≤ length (coded_marked_lines coding (map line xs) (map (λ k. stateless_line_marked k) (map line xs)))
+unfolding coded_marked_lines coded_lines
+stateless_lines_front coding {H} line xs zero = omega arith
+stateless_lines_front coding {H} line [] (suc n) = omega arith
+stateless_lines_front coding {H} line (x ∷ xs) (suc n) =
+    let first = coded_marked_line coding (line x).never_indexed (stateless_line_marked (line x)) in
     let lines : List H → List ℕ =
-    λ ys. written_marked_lines (map line ys) (map (λ k. stateless_line_marked k) (map line ys)) in
+    λ ys. coded_marked_lines coding (map line ys) (map (λ k. stateless_line_marked k) (map line ys)) in
     omega (
       arith,
       length-append first (lines (take n xs)),
       length-append first (lines xs),
-      stateless_lines_front line xs n,
+      stateless_lines_front coding line xs n,
     )
 
 -- so is the block of the first fields no longer than that of all
-pub stateless_front : {H : Type 0} (line : H → FieldLine) (xs : List H) (n : ℕ)
-    → length (written_stateless (map line (take n xs))) ≤ length (written_stateless (map line xs))
-unfolding written_marked_block
-stateless_front {H} line xs n =
+pub stateless_front : (coding : Coding) {H : Type 0} (line : H → FieldLine) (xs : List H) (n : ℕ)
+    → length (written_stateless coding (map line (take n xs))) ≤ length (written_stateless coding (map line xs))
+unfolding coded_marked_block
+stateless_front coding {H} line xs n =
     let p = written_prefix (record { count = 0; sign = false; delta = 0 }) in
     let lines : List H → List ℕ =
-    λ ys. written_marked_lines (map line ys) (map (λ k. stateless_line_marked k) (map line ys)) in
+    λ ys. coded_marked_lines coding (map line ys) (map (λ k. stateless_line_marked k) (map line ys)) in
     omega (
       arith,
       length-append p (lines (take n xs)),
       length-append p (lines xs),
-      stateless_lines_front line xs n,
+      stateless_lines_front coding line xs n,
     )
 
 -- where the block fits, its prefix does
-pub prefix_fits : {H A : Type 0} (line : H → FieldLine) (xs : List H) (v : Vec ℕ A) {p : Prefix}
+pub prefix_fits : (coding : Coding) {H A : Type 0} (line : H → FieldLine) (xs : List H) (v : Vec ℕ A) {p : Prefix}
     → p ≡ prefix_for 0 0 0
-    → vec_len v + length (written_stateless (map line xs)) ≤ vec_capacity v
+    → vec_len v + length (written_stateless coding (map line xs)) ≤ vec_capacity v
     → vec_len v + length (written_prefix p) ≤ vec_capacity v
-prefix_fits line xs v is fits =
+prefix_fits coding line xs v is fits =
     omega (
       arith,
       fits,
-      stateless_front line xs 0,
-      ap (λ (l : List ℕ). length l) (stateless_begun [] (written_prefix (prefix_for 0 0 0)) refl),
+      stateless_front coding line xs 0,
+      ap (λ (l : List ℕ). length l) (stateless_begun coding [] (written_prefix (prefix_for 0 0 0)) refl),
       ap (λ (p : Prefix). length (written_prefix p)) is,
     )
 
 -- so does each line behind those that are written
-pub line_fits : {H A : Type 0} (line : H → FieldLine) (xs : List H) (i : ℕ) (x : H) (l : FieldLine)
+pub line_fits : (coding : Coding) {H A : Type 0} (line : H → FieldLine) (xs : List H) (i : ℕ) (x : H) (l : FieldLine)
     (first mid : Vec ℕ A) → i < length xs → x ≡ get_or xs i x → l ≡ line x
-    → mid.items ≡ first.items ++ written_stateless (map line (take i xs))
+    → mid.items ≡ first.items ++ written_stateless coding (map line (take i xs))
     → (vec_len mid ≤ vec_capacity first → vec_capacity mid ≡ vec_capacity first)
-    → vec_len first + length (written_stateless (map line xs)) ≤ vec_capacity first
-    → vec_len mid + length (written_marked_line l.never_indexed (stateless_line_marked l)) ≤ vec_capacity mid
-line_fits line xs i x l first mid within is lent so_far still fits =
-    let next = written_marked_line l.never_indexed (stateless_line_marked l) in
-    let more : mid.items ++ next ≡ first.items ++ written_stateless (map line (take (i + 1) xs)) =
-    stateless_grown line xs i x l first.items mid.items (mid.items ++ next) within is lent so_far refl in
+    → vec_len first + length (written_stateless coding (map line xs)) ≤ vec_capacity first
+    → vec_len mid + length (coded_marked_line coding l.never_indexed (stateless_line_marked l)) ≤ vec_capacity mid
+line_fits coding line xs i x l first mid within is lent so_far still fits =
+    let next = coded_marked_line coding l.never_indexed (stateless_line_marked l) in
+    let more : mid.items ++ next ≡ first.items ++ written_stateless coding (map line (take (i + 1) xs)) =
+    stateless_grown coding line xs i x l first.items mid.items (mid.items ++ next) within is lent so_far refl in
     let lengths = ap (λ (l : List ℕ). length l) more in
     let long : vec_len mid + length next ≤ vec_capacity first = omega (
       arith,
       fits,
       lengths,
-      stateless_front line xs (i + 1),
+      stateless_front coding line xs (i + 1),
       length-append mid.items next,
-      length-append first.items (written_stateless (map line (take (i + 1) xs))),
+      length-append first.items (written_stateless coding (map line (take (i + 1) xs))),
       first.ok.0,
       mid.ok.0,
     ) in
     omega (arith, long, still (omega (arith, long)))
 
 -- the line of a field that may be indexed
-pub alone_unmarked : (l : FieldLine) → l.never_indexed ≡ false
-    → written_line (stateless_line l.field) ≡ written_marked_line l.never_indexed (stateless_line_marked l)
-alone_unmarked l is =
-    sym (ap (λ (b : Bool). written_marked_line b (cond b (stateless_literal l.field (static_name_index l.field.name))
+pub alone_unmarked : (coding : Coding) (l : FieldLine) → l.never_indexed ≡ false
+    → coded_line coding (stateless_line l.field) ≡ coded_marked_line coding l.never_indexed (stateless_line_marked l)
+alone_unmarked coding l is =
+    sym (ap (λ (b : Bool). coded_marked_line coding b (cond b (stateless_literal l.field (static_name_index l.field.name))
     (stateless_line l.field))) is
-    ∙ written_unmarked l.field (stateless_line l.field))
+    ∙ written_unmarked coding l.field (stateless_line l.field))

@@ -3,7 +3,7 @@ use Rattle.std.proofs.Common.{◌≡◌, ℕ, ◌-◌, Bool, true, false, cond, 
 use Rattle.std.proofs.Common.{arith, Result, Ok, Err, take}
 use Rattle.std.specs.Prelude.{nat_le, ◌&&◌, IfOk, OnErr}
 use Rattle.std.proofs.lemmas.Bool.{and_parts, lt-ltb}
-use Rattle.qpack_spec.specs.Chosen.{References, Names, Inserts, Chosen, passes_at, literal_chosen, line_chosen, unreferenced_chosen}
+use Rattle.qpack_spec.specs.Chosen.{References, Names, Inserts, Staying, Chosen, passes_at, literal_chosen, line_chosen, unreferenced_chosen}
 use Rattle.qpack_spec.specs.Chosen.{chosen_field, chosen_fields, chosen_rule}
 use Rattle.qpack_spec.specs.Field.{Field, FieldLine, has_name, is_field}
 use Rattle.qpack_spec.specs.Instruction.{written_encoder_instructions}
@@ -14,6 +14,7 @@ use Rattle.qpack_spec.specs.Rule.{rule_field, with_referencing_line, empty_draft
 use Rattle.qpack_spec.specs.StaticTable.{static_index, static_name_index}
 use Rattle.qpack_spec.specs.Table.{Table, insert_count, newest_index, has_room, below_limit, may_reference}
 use Rattle.qpack_spec.specs.Table.{without_references}
+use Rattle.qpack_spec.specs.Text.{Always}
 use Rattle.qpack_spec.proofs.Positions.{FoundEntry, newest_found}
 use Rattle.qpack_codec.specs.Choices as choices
 use Rattle.qpack_codec.specs.ChoosesAlong.{ChoosesUnless, ChoosesField, ChoosesAlong}
@@ -45,29 +46,29 @@ literal_is base d f None e = by_name_is base d f (newest_index d.table (has_name
 -- ---- a line of a field that no static field equals
 
 name_line_is : (base : ℕ) (d : Draft) (f : Field) (o : Option ℕ) → static_index f ≡ None
-    → line_chosen base d f (choices.by_entry Names o) ≡ literal_chosen base d f (choices.by_entry Names o)
+    → line_chosen Staying base d f (choices.by_entry Names o) ≡ literal_chosen base d f (choices.by_entry Names o)
 name_line_is base d f None none = rw none refl
 name_line_is base d f (Some a) none = rw none refl
 
 literal_line_is : (base : ℕ) (d : Draft) (f : Field) (o : Option ℕ) → static_name_index f.name ≡ o
-    → static_index f ≡ None → line_chosen base d f (literal_first d.table f o) ≡ literal base d f o
+    → static_index f ≡ None → line_chosen Staying base d f (literal_first d.table f o) ≡ literal base d f o
 literal_line_is base d f (Some i) e none = rw (none, e) refl
 literal_line_is base d f None e none =
     name_line_is base d f (newest_index d.table (has_name f.name)) none ∙ literal_is base d f None e
 
 insertion_is : (base : ℕ) (d : Draft) (f : Field) → static_index f ≡ None
-    → line_chosen base d f (insertion_first d.table f) ≡ insertion_or_literal base d f
+    → line_chosen Staying base d f (insertion_first d.table f) ≡ insertion_or_literal base d f
 insertion_is base d f none = go (below_limit d.table && has_room d.table f) refl
   where
     go : (b : Bool) → (below_limit d.table && has_room d.table f) ≡ b
-        → line_chosen base d f (cond b Inserts (literal_first d.table f (static_name_index f.name)))
+        → line_chosen Staying base d f (cond b Inserts (literal_first d.table f (static_name_index f.name)))
         ≡ cond b (with_new_entry base d f) (literal base d f (static_name_index f.name))
     go true e = rw e refl
     go false e = literal_line_is base d f (static_name_index f.name) refl none
 
 entry_if : (base : ℕ) (d : Draft) (f : Field) (a : ℕ) → newest_index d.table (is_field f) ≡ Some a
     → static_index f ≡ None → (b : Bool) → (nat_le a base && may_reference d.table a) ≡ b
-    → line_chosen base d f (cond b (References a) (insertion_first d.table f))
+    → line_chosen Staying base d f (cond b (References a) (insertion_first d.table f))
     ≡ cond b (with_referencing_line d a (IndexedDynamic (base - a))) (insertion_or_literal base d f)
 entry_if base d f a e none true is =
     let p = and_parts (nat_le a base) (may_reference d.table a) is in
@@ -76,7 +77,7 @@ entry_if base d f a e none true is =
 entry_if base d f a e none false is = insertion_is base d f none
 
 entry_is : (base : ℕ) (d : Draft) (f : Field) (o : Option ℕ) → newest_index d.table (is_field f) ≡ o
-    → static_index f ≡ None → line_chosen base d f (entry_first base d.table f o) ≡ by_entry base d f o
+    → static_index f ≡ None → line_chosen Staying base d f (entry_first base d.table f o) ≡ by_entry base d f o
 entry_is base d f None e none = insertion_is base d f none
 entry_is base d f (Some a) e none = entry_if base d f a e none (nat_le a base && may_reference d.table a) refl
 
@@ -90,7 +91,7 @@ field_is {K = K} base d l w c before after k = go (static_index l.field) l.never
     go : (o : Option ℕ) (b : Bool) → static_index l.field ≡ o → l.never_indexed ≡ b
         → ChoosesUnless o b (by_newest K) before base d.table l w c after
         → cond b (literal_chosen base d l.field c.line)
-        (unreferenced_chosen c.unreferenced (line_chosen base d l.field c.line) l.field)
+        (unreferenced_chosen c.names c.unreferenced (line_chosen c.names base d l.field c.line) l.field)
         ≡ cond b (literal base d l.field (static_name_index l.field.name)) (by_static base d l.field o)
     go (Some i) false s m chose = rw (chose.0, s) refl
     go None false s m chose = rw (chose, m) (entry_is base d l.field (newest_index d.table (is_field l.field)) refl s)
@@ -118,7 +119,7 @@ rule_is t fs ws cs k = fields_are (insert_count t) (empty_draft t) k.begun k.aft
 
 pub encodes_newest : (K : Type 0) (stream : ℕ) (fs : List FieldLine) (ws : List Wish) (answer : Result ℕ EncoderError)
     (old new : Table) (before after written_old written_new : List ℕ)
-    → IfOk answer (λ required. WritesAlong (by_newest K) stream fs ws old new before after written_old written_new
+    → IfOk answer (λ required. WritesAlong Always (by_newest K) stream fs ws old new before after written_old written_new
     required)
     → IfOk answer (λ required. EncodesLines stream fs old new before after written_old written_new required)
 encodes_newest K stream fs ws (Err e) old new before after written_old written_new k = tt
@@ -134,7 +135,7 @@ encodes_newest K stream fs ws (Ok required) old new before after written_old wri
 
 pub gives_up_newest : (K : Type 0) (fs : List FieldLine) (ws : List Wish) (answer : Result ℕ EncoderError)
     (old new : Table) (written_old written_new : List ℕ)
-    → OnErr answer (GivesUpAlong (by_newest K) fs ws old new written_old written_new)
+    → OnErr answer (GivesUpAlong Always (by_newest K) fs ws old new written_old written_new)
     → OnErr answer (GivesUpLines fs old new written_old written_new)
 gives_up_newest K fs ws (Ok required) old new written_old written_new k = tt
 gives_up_newest K fs ws (Err e) old new written_old written_new k =

@@ -4,15 +4,15 @@ use Rattle.std.proofs.Common.{◌∙◌, append_assoc, append-nil}
 use Rattle.std.proofs.Math.Seq.{take-append_seam}
 use Rattle.std.specs.Borrow.{Bor}
 use Rattle.qpack_spec.specs.Field.{Field}
-use Rattle.qpack_spec.specs.Line.{Line, written_line, written_lines}
+use Rattle.qpack_spec.specs.Line.{Line, written_line, coded_lines, written_lines}
 use Rattle.qpack_spec.specs.Prefix.{written_prefix, prefix_for}
-use Rattle.qpack_spec.specs.BlockReading.{written_block}
+use Rattle.qpack_spec.specs.BlockReading.{coded_block, written_block}
 use Rattle.qpack_spec.specs.Stateless.{stateless_line, stateless_block}
 use Rattle.qpack_base.specs.declared.field.HeaderField.{HeaderField}
 use Rattle.qpack_base.specs.HeaderFields.{field_of, fields_behind}
 
 lines_more : (ls : List Line) (l : Line) → written_lines (ls ++ l ∷ []) ≡ written_lines ls ++ written_line l
-unfolding written_lines
+unfolding coded_lines
 lines_more [] l = append-nil (written_line l)
 lines_more (k ∷ ls) l = ap (λ (t : List ℕ). written_line k ++ t) (lines_more ls l)
     ∙ sym (append_assoc (written_line k) (written_lines ls) (written_line l))
@@ -24,14 +24,14 @@ lines_of_more (g ∷ fs) f = ap (λ (ls : List Line). stateless_line g ∷ ls) (
 
 -- of no fields it is the prefix that requires nothing
 block_of_none : written_block (stateless_block []) ≡ written_prefix (prefix_for 0 0 0)
-unfolding written_block written_lines prefix_for
+unfolding coded_block coded_lines prefix_for
 block_of_none = append-nil (written_prefix (record { count = 0; sign = false; delta = 0 }))
 
 -- of a field more it has the field's line more
 block_of_more : (fs : List Field) (f : Field)
     → written_block (stateless_block (fs ++ f ∷ []))
     ≡ written_block (stateless_block fs) ++ written_line (stateless_line f)
-unfolding written_block
+unfolding coded_block
 block_of_more fs f =
     let p = written_prefix (record { count = 0; sign = false; delta = 0 }) in
     ap (λ (t : List ℕ). p ++ t) (ap written_lines (lines_of_more fs f)

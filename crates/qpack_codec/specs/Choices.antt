@@ -42,6 +42,6 @@ inserts_after (Equal entry inserts) = inserts
 inserts_after (Named inserts) = inserts
 inserts_after Inserted = false
 
--- what is chosen for a field at a table
-abbrev pub chosen_of : Table → Field → Choice → Chosen
-chosen_of t f c = record { line = line_choice t f c; unreferenced = inserts_after c }
+-- what is chosen for a field at a table, by a chooser whose insertions may name these entries
+abbrev pub chosen_of : chosen.Naming → Table → Field → Choice → Chosen
+chosen_of names t f c = record { line = line_choice t f c; unreferenced = inserts_after c; names = names }

@@ -6,14 +6,15 @@ use Rattle.std.specs.Borrow.{Bor}
 use Rattle.std.specs.Iterator.{Drains}
 use Rattle.qpack_spec.specs.Field.{Field, FieldLine, fields_of_lines, total_size}
 use Rattle.qpack_spec.specs.Instruction.{InsertStaticName, InsertDynamicName, InsertLiteralName, Duplicate}
-use Rattle.qpack_spec.specs.Instruction.{written_encoder_instruction, written_encoder_instructions}
-use Rattle.qpack_spec.specs.Line.{written_lines}
+use Rattle.qpack_spec.specs.Instruction.{coded_encoder_instruction, coded_encoder_instructions, written_encoder_instructions}
+use Rattle.qpack_spec.specs.Line.{coded_lines}
 use Rattle.qpack_spec.specs.BlockReading.{written_block}
 use Rattle.qpack_spec.specs.Table.{Table, without_references}
 use Rattle.qpack_spec.specs.Rule.{Draft, rule, required_insert_count, block_of, committed_table}
 use Rattle.qpack_spec.specs.Handle.{Insertion, Duplicated, InsertedWithStaticName, InsertedWithName, Inserted}
 use Rattle.qpack_spec.specs.Handle.{NotInserted}
-use Rattle.qpack_spec.specs.Marked.{marked_rule, written_marked_lines, written_marked_block}
+use Rattle.qpack_spec.specs.Marked.{marked_rule, coded_marked_lines, written_marked_block}
+use Rattle.qpack_spec.specs.Text.{Coding}
 use Rattle.qpack_base.specs.HeaderFields.{DrainsFields}
 use Rattle.qpack_base.specs.declared.field.HeaderField.{HeaderField}
 
@@ -23,14 +24,14 @@ abbrev pub DrainsLinesOf : {S H : Type 0} → (H → FieldLine) → (S → Optio
 DrainsLinesOf {H = H} line steps it P = (items : List H) × Drains steps it items × P (map line items)
 
 -- the written instruction of an insertion's result, if it has one
-abbrev pub written_insertion : Field → Insertion → List ℕ
-written_insertion f (Duplicated relative post_base absolute) = written_encoder_instruction (Duplicate relative)
-written_insertion f (InsertedWithStaticName post_base index absolute) =
-    written_encoder_instruction (InsertStaticName index f.value)
-written_insertion f (InsertedWithName relative post_base absolute) =
-    written_encoder_instruction (InsertDynamicName relative f.value)
-written_insertion f (Inserted post_base absolute) = written_encoder_instruction (InsertLiteralName f.name f.value)
-written_insertion f (NotInserted lookup) = []
+abbrev pub written_insertion : Coding → Field → Insertion → List ℕ
+written_insertion coding f (Duplicated relative post_base absolute) = coded_encoder_instruction coding (Duplicate relative)
+written_insertion coding f (InsertedWithStaticName post_base index absolute) =
+    coded_encoder_instruction coding (InsertStaticName index f.value)
+written_insertion coding f (InsertedWithName relative post_base absolute) =
+    coded_encoder_instruction coding (InsertDynamicName relative f.value)
+written_insertion coding f (Inserted post_base absolute) = coded_encoder_instruction coding (InsertLiteralName f.name f.value)
+written_insertion coding f (NotInserted lookup) = []
 
 -- both calls did what they were asked for, or neither
 abbrev pub AreAlike : {E F : Type 0} → Result ⊤ E → Result ⊤ F → Type 0
@@ -72,26 +73,26 @@ abbrev pub draft_at : Table → Draft
 draft_at t = record { table = t; lines = []; instructions = [] }
 
 -- the table is the draft's, and exactly its lines and instructions were written
-pub record Adds (d : Draft) (new : Table) (lines_old lines_new written_old written_new : List ℕ) : Type 0 where
+pub record Adds (coding : Coding) (d : Draft) (new : Table) (lines_old lines_new written_old written_new : List ℕ) : Type 0 where
   pub table : new ≡ d.table
-  pub lines : lines_new ≡ lines_old ++ written_lines d.lines
-  pub written : written_new ≡ written_old ++ written_encoder_instructions d.instructions
+  pub lines : lines_new ≡ lines_old ++ coded_lines coding d.lines
+  pub written : written_new ≡ written_old ++ coded_encoder_instructions coding d.instructions
 
 -- memory was refused: except for references, the table is unchanged, and no instruction was written; or the table is
 -- the draft's, and exactly its instructions were written
-abbrev pub StopsAdding : Draft → Table → Table → List ℕ → List ℕ → Type 0
-StopsAdding d old new written_old written_new =
+abbrev pub StopsAdding : Coding → Draft → Table → Table → List ℕ → List ℕ → Type 0
+StopsAdding coding d old new written_old written_new =
     ((without_references new ≡ without_references old) × (written_new ≡ written_old))
-    ⊎ ((new ≡ d.table) × (written_new ≡ written_old ++ written_encoder_instructions d.instructions))
+    ⊎ ((new ≡ d.table) × (written_new ≡ written_old ++ coded_encoder_instructions coding d.instructions))
 
 -- ---- field lines
 
 -- the table is the draft's, and exactly the lines of these field lines and its instructions were written
-pub record AddsLines (ls : List FieldLine) (d : Draft) (new : Table) (lines_old lines_new written_old written_new :
+pub record AddsLines (coding : Coding) (ls : List FieldLine) (d : Draft) (new : Table) (lines_old lines_new written_old written_new :
     List ℕ) : Type 0 where
   pub table : new ≡ d.table
-  pub lines : lines_new ≡ lines_old ++ written_marked_lines ls d.lines
-  pub written : written_new ≡ written_old ++ written_encoder_instructions d.instructions
+  pub lines : lines_new ≡ lines_old ++ coded_marked_lines coding ls d.lines
+  pub written : written_new ≡ written_old ++ coded_encoder_instructions coding d.instructions
 
 -- ---- a block
 

@@ -1,6 +1,6 @@
 -- The rule of the calls of h3's names as one choice for each field (RFC 9204, section 2.1).
 use Rattle.std.specs.Prelude.{◌≡◌, ℕ, false, if◌then◌else◌, ◌&&◌, nat_le, Option, None, Some}
-use Rattle.qpack_spec.specs.Chosen.{Choice, Alone, References, Names, Inserts, Chosen}
+use Rattle.qpack_spec.specs.Chosen.{Choice, Alone, References, Names, Inserts, Staying, Chosen}
 use Rattle.qpack_spec.specs.Field.{Field, FieldLine, has_name, is_field}
 use Rattle.qpack_spec.specs.StaticTable.{static_name_index}
 use Rattle.qpack_spec.specs.Table.{Table, below_limit, has_room, may_reference, newest_index}
@@ -28,13 +28,14 @@ entry_first base t f None = insertion_first t f
 abbrev pub unmarked_first : ℕ → Table → Field → Choice
 unmarked_first base t f = entry_first base t f (newest_index t (is_field f))
 
--- for any field; a marked one is a literal (section 7.1.3)
+-- for any field; a marked one is a literal (section 7.1.3), and an insertion names what stays
 abbrev pub newest_first : ℕ → Table → FieldLine → Chosen
 newest_first base t l =
     record {
       line = if l.never_indexed then literal_first t l.field (static_name_index l.field.name)
           else unmarked_first base t l.field;
       unreferenced = false;
+      names = Staying;
     }
 
 -- a chooser that chooses this alone

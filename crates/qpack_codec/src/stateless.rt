@@ -24,6 +24,7 @@ use crate::error::{DecoderError, EncoderError};
 use crate::stateless::field_lines::append_unmarked;
 use qpack_base::coding::Cursor;
 use qpack_base::field::HeaderField;
+use qpack_base::prefix_string::Coding;
 use qpack_base::static_::StaticTable;
 use qpack_wire::block::{
     BlockLine, HeaderBlockField, HeaderPrefix, Indexed, Literal, LiteralWithNameRef,
@@ -74,7 +75,12 @@ fn append_stateless<'a, A: Allocator, T: Iterator<Item = &'a HeaderField> + Drop
     HeaderPrefix::new(0, 0, 0, 0).encode(block)?;
     let mut size = 0u64;
     for field in fields {
-        append_unmarked(block, field.name.as_slice(), field.value.as_slice())?;
+        append_unmarked(
+            Coding::Always,
+            block,
+            field.name.as_slice(),
+            field.value.as_slice(),
+        )?;
         size = size.saturating_add(field.mem_size() as u64);
     }
     Ok(size)

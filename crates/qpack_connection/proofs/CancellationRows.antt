@@ -16,14 +16,17 @@ use Rattle.qpack_connection.specs.Headline.{EventsAnswerWhatWasHanded}
 use Rattle.qpack_connection.proofs.HeadlineRows.{owned, line, settings, shown, encode, decoded, waits, section_of}
 
 -- the events and outcomes where one stream may wait, and where a limit of 67 bytes lets one of these fields pass
-abbrev Right : List Event → List Outcome → Type 0
+abbrev pub Right : List Event → List Outcome → Type 0
 Right events outcomes = EventsAnswerWhatWasHanded (settings 1 1000) events outcomes
 
-abbrev Wrong : List Event → List Outcome → Type 0
+abbrev pub Wrong : List Event → List Outcome → Type 0
 Wrong events outcomes = Right events outcomes → ⊥
 
-abbrev WrongWithin : ℕ → List Event → List Outcome → Type 0
-WrongWithin limit events outcomes = EventsAnswerWhatWasHanded (settings 1 limit) events outcomes → ⊥
+abbrev pub RightWithin : ℕ → List Event → List Outcome → Type 0
+RightWithin limit events outcomes = EventsAnswerWhatWasHanded (settings 1 limit) events outcomes
+
+abbrev pub WrongWithin : ℕ → List Event → List Outcome → Type 0
+WrongWithin limit events outcomes = RightWithin limit events outcomes → ⊥
 
 -- ---- a cancellation
 
@@ -128,10 +131,10 @@ held_without_room : Wrong (section_of 0 ∷ event.SetCapacity 30 ∷ [])
 held_without_room r = grind (r, arith)
 
 -- the section that is past the limit is that of the stream, and its line is past it
-abbrev two_fields : ℕ → Event
+abbrev pub two_fields : ℕ → Event
 two_fields s = encode s (owned 1 2 false ∷ owned 3 4 true ∷ []) (omega arith)
 
-past_the_limit : EventsAnswerWhatWasHanded (settings 1 67) (two_fields 0 ∷ event.Decode 0 ∷ [])
+past_the_limit : RightWithin 67 (two_fields 0 ∷ event.Decode 0 ∷ [])
     (Encoded (Ok 1) ∷ Decoded (Err (decoding.Section 0 (Line 2 5 (TooLarge 68)))) (shown []) ∷ [])
 past_the_limit = grind arith
 

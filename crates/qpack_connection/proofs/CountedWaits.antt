@@ -1,11 +1,12 @@
 -- No more streams are known to wait than the decoding end counts as blocked.
-use Rattle.std.proofs.Common.{◌≡◌, ◌≤◌, ◌<◌, ◌+◌, ℕ, Bool, true, false, cond, List, [], ◌∷◌, length, refl, ap, ◌∙◌}
-use Rattle.std.proofs.Common.{arith}
-use Rattle.std.proofs.lemmas.Bool.{ltb-true, lt-ltb}
-use Rattle.std.specs.Prelude.{◌&&◌, filter, nat_eq, nat_lt, not}
+use Rattle.std.proofs.Common.{◌≡◌, ◌≤◌, ◌<◌, ◌+◌, ℕ, Bool, true, false, cond, List, [], ◌∷◌, length, Option, None, Some}
+use Rattle.std.proofs.Common.{refl, ap, ◌∙◌, arith}
+use Rattle.std.proofs.lemmas.Bool.{leb-true, ltb-true, lt-ltb}
+use Rattle.std.specs.Option.{IfSome}
+use Rattle.std.specs.Prelude.{◌&&◌, filter, nat_eq, nat_le, nat_lt, not}
 use Rattle.qpack_ends.specs.declared.blocked.BlockedStream.{BlockedStream}
 use Rattle.qpack_ends.specs.Blocked.{blocked_among, without, comes_before, in_order, with_blocked}
-use Rattle.qpack_connection.specs.Headline.{others}
+use Rattle.qpack_connection.specs.Headline.{others, known_to_wait}
 
 -- ---- how many of a list are so
 
@@ -82,19 +83,44 @@ count_in_order : (p : BlockedStream → Bool) (b : BlockedStream) (bs : List Blo
 count_in_order p b [] = count_one p b []
 count_in_order p b (x ∷ xs) = placed p b x xs (comes_before b x) (count_in_order p b xs)
 
+-- no more of a list are so than there are
+count_few : (p : BlockedStream → Bool) (bs : List BlockedStream) → count p bs ≤ length bs
+count_few p [] = omega arith
+count_few p (b ∷ bs) = by (p b) (count_few p bs)
+  where
+    by : (t : Bool) → count p bs ≤ length bs → length (cond t (b ∷ filter p bs) (filter p bs)) ≤ length (b ∷ bs)
+    by true few = omega (arith, few)
+    by false few = omega (arith, few)
+
 -- ---- what is known to wait is counted
 
--- of whatever kind, no more are known to wait than are counted that require more than this number of insertions
+-- of whatever kind, no more wait that require more than this number of insertions than are counted
 abbrev pub AreCounted : ℕ → List BlockedStream → List BlockedStream → Type 0
 AreCounted n waiting blocked =
-    (p : BlockedStream → Bool) → count p waiting ≤ count (λ b. p b && nat_lt n b.required) blocked
+    (p : BlockedStream → Bool)
+    → count (λ b. p b && nat_lt n b.required) waiting ≤ count (λ b. p b && nat_lt n b.required) blocked
 
 pub none_counted : (n : ℕ) (blocked : List BlockedStream) → AreCounted n [] blocked
 none_counted n blocked p = omega arith
 
-pub within_counted : (n : ℕ) (waiting blocked : List BlockedStream) → AreCounted n waiting blocked
-    → length waiting ≤ blocked_among n blocked
-within_counted n waiting blocked k = omega (arith, count_all waiting, k (λ b. true))
+-- those that are known to wait, by a number that is above how many were received
+pub within_counted : (n : ℕ) (below : Option ℕ) (waiting blocked : List BlockedStream) → IfSome below (λ m. n < m)
+    → AreCounted n waiting blocked → length (known_to_wait below waiting) ≤ blocked_among n blocked
+within_counted n None waiting blocked above k = omega arith
+within_counted n (Some m) waiting blocked above k =
+    let p : BlockedStream → Bool = λ b. nat_le m b.required in
+    let up : BlockedStream → Bool = λ b. nat_lt n b.required in
+    omega (
+      arith,
+      k p,
+      count_same (λ b. p b && up b) p waiting (λ b. at b.required (nat_le m b.required) refl),
+      count_both p up blocked,
+      count_few p (filter up blocked),
+    )
+  where
+    at : (required : ℕ) (t : Bool) → nat_le m required ≡ t → t && nat_lt n required ≡ t
+    at required true e = lt-ltb n required (omega (arith, above, leb-true m required e))
+    at required false e = refl
 
 swap_last : (x y z : Bool) → (x && y) && z ≡ (x && z) && y
 swap_last true y z = swapped y z
@@ -114,46 +140,57 @@ others_counted n s waiting blocked k p =
     let up : BlockedStream → Bool = λ b. nat_lt n b.required in
     omega (
       arith,
-      count_both p q waiting,
+      count_both (λ b. p b && up b) q waiting,
+      count_same (λ b. (p b && q b) && up b) (λ b. (p b && up b) && q b) waiting
+          (λ b. swap_last (p b) (q b) (up b)),
       k (λ b. p b && q b),
       count_same (λ b. (p b && q b) && up b) (λ b. (p b && up b) && q b) blocked
           (λ b. swap_last (p b) (q b) (up b)),
       count_both (λ b. p b && up b) q blocked,
     )
 
+-- of those that wait for more than this number, those that wait for more than another one, which is no less
+above_both : (n total : ℕ) → n ≤ total → (x : Bool) (required : ℕ)
+    → (x && nat_lt total required) && nat_lt n required ≡ x && nat_lt total required
+above_both n total least true required = above (nat_lt total required) refl
+  where
+    above : (t : Bool) → nat_lt total required ≡ t → t && nat_lt n required ≡ t
+    above true e = lt-ltb n required (omega (arith, least, ltb-true total required e))
+    above false e = refl
+above_both n total least false required = refl
+
+-- once more insertions were received
+pub later_counted : (n total : ℕ) (waiting blocked : List BlockedStream) → n ≤ total → AreCounted n waiting blocked
+    → AreCounted total waiting blocked
+later_counted n total waiting blocked least k p =
+    let q : BlockedStream → Bool = λ b. p b && nat_lt total b.required in
+    let both : BlockedStream → Bool = λ b. q b && nat_lt n b.required in
+    let same : (b : BlockedStream) → both b ≡ q b = λ b. above_both n total least (p b) b.required in
+    omega (arith, k q, count_same both q waiting same, count_same both q blocked same)
+
 -- those that wait for more than were received, which are no fewer than before
 pub told_counted : (n total : ℕ) (waiting blocked : List BlockedStream) → n ≤ total → AreCounted n waiting blocked
     → AreCounted total (filter (λ w. nat_lt total w.required) waiting) blocked
 told_counted n total waiting blocked least k p =
     let q : BlockedStream → Bool = λ b. nat_lt total b.required in
-    let up : BlockedStream → Bool = λ b. nat_lt n b.required in
     omega (
       arith,
-      count_both p q waiting,
-      k (λ b. p b && q b),
-      count_same (λ b. (p b && q b) && up b) (λ b. p b && q b) blocked (λ b. kept (p b) b.required),
+      count_both (λ b. p b && q b) q waiting,
+      count_same (λ b. (p b && q b) && q b) (λ b. p b && q b) waiting
+          (λ b. above_both total total (omega arith) (p b) b.required),
+      later_counted n total waiting blocked least k p,
     )
-  where
-    above : (required : ℕ) (t : Bool) → nat_lt total required ≡ t → t && nat_lt n required ≡ t
-    above required true e = lt-ltb n required (omega (arith, least, ltb-true total required e))
-    above required false e = refl
-
-    kept : (x : Bool) (required : ℕ) → (x && nat_lt total required) && nat_lt n required ≡ x && nat_lt total required
-    kept true required = above required (nat_lt total required) refl
-    kept false required = refl
 
 -- one more waits, and is counted
-pub one_counted : (n s required : ℕ) (waiting blocked : List BlockedStream) → n < required
-    → AreCounted n waiting blocked
+pub one_counted : (n s required : ℕ) (waiting blocked : List BlockedStream) → AreCounted n waiting blocked
     → AreCounted n (record { stream = s; required = required } ∷ others s waiting)
     (with_blocked (record { stream = s; required = required }) blocked)
-one_counted n s required waiting blocked more k p =
+one_counted n s required waiting blocked k p =
     let b : BlockedStream = record { stream = s; required = required } in
     let up : BlockedStream → Bool = λ x. p x && nat_lt n x.required in
     omega (
       arith,
-      count_one p b (others s waiting),
+      count_one up b (others s waiting),
       others_counted n s waiting blocked k p,
       count_in_order up b (without s blocked),
-      ap one (ap (λ (x : Bool). p b && x) (lt-ltb n required more) ∙ and_true (p b)),
     )

@@ -4,8 +4,9 @@ use Rattle.std.proofs.Common.{refl, sym, ap, subst, ◌∙◌, append_assoc}
 use Rattle.std.proofs.lemmas.List.{append-nil}
 use Rattle.std.specs.Prelude.{⊤}
 use Rattle.qpack_spec.specs.Field.{FieldLine}
-use Rattle.qpack_spec.specs.Instruction.{SetCapacity, written_encoder_instruction, written_encoder_instructions}
+use Rattle.qpack_spec.specs.Instruction.{SetCapacity, written_encoder_instruction, coded_encoder_instructions}
 use Rattle.qpack_spec.specs.Chosen.{chosen_rule}
+use Rattle.qpack_spec.specs.Text.{WhereShorter}
 use Rattle.qpack_ends.specs.declared.encoder.EncodingError.{EncodingError}
 use Rattle.qpack_ends.specs.declared.encoder.EncodingError.TheVariants.{Memory}
 use Rattle.qpack_ends.specs.Encoders.{EncodingEnd, begun, begun_with, WritesSection, WritesAlone, GivesUpSection}
@@ -59,7 +60,7 @@ module _ (e e' : EncodingEnd) (s : ℕ) (fields : List FieldLine) (section : Lis
       → (more : List ℕ) × (e'.unsent ≡ e.unsent ++ more)
       × WritesSection (begun (with_unsent [] e)) (with_unsent more e') s fields [] section required
   writes_framed required b w =
-      let added = written_encoder_instructions (chosen_rule (begun e).table fields w.section.choices).instructions in
+      let added = coded_encoder_instructions WhereShorter (chosen_rule (begun e).table fields w.section.choices).instructions in
       let more = b.more ++ added in (
         more,
         w.section.written ∙ ap (λ (x : List ℕ). x ++ added) b.written ∙ append_assoc e.unsent b.more added,
@@ -97,7 +98,7 @@ module _ (e e' : EncodingEnd) (s : ℕ) (fields : List FieldLine) (section : Lis
       → (more : List ℕ) × (e'.unsent ≡ e.unsent ++ more)
       × GivesUpSection (begun (with_unsent [] e)) (with_unsent more e') fields
   gives_up_framed b w =
-      let added = written_encoder_instructions
+      let added = coded_encoder_instructions WhereShorter
       (chosen_rule (begun e).table (take w.lines.many fields) w.lines.choices).instructions in
       let more = b.more ++ added in (
         more,

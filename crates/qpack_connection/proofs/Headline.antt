@@ -127,7 +127,7 @@ module _ (settings : ConnectionSettings) (first : Connection) (begins : BeginsWi
         decoder = record {
           settings_are = begins.new.decoder.settings_are ∙ begins.decoder_is;
           least = omega arith;
-          told = λ t. sym none;
+          fewer = omega (arith, none);
           counted = none_counted (insert_count first.decoder.table) first.decoder.blocked;
         };
         streams = λ s. subst (IsStream s (nothing_yet.streams s))

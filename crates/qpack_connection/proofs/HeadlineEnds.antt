@@ -1,7 +1,8 @@
 -- What events and outcomes say of a connection is what it keeps, and why its ends stop.
 use Rattle.std.proofs.Common.{◌≡◌, ◌<◌, ◌≤◌, ◌+◌, ◌-◌, ◌^◌, ℕ, zero, suc, Bool, true, false, cond, List, [], length}
-use Rattle.std.proofs.Common.{drop, None, Some, Result, Ok, Err, refl, sym, ap, subst, ◌∙◌, arith, inl, inr, ◌⊎◌, min}
+use Rattle.std.proofs.Common.{drop, Option, None, Some, Result, Ok, Err, refl, sym, ap, subst, ◌∙◌, arith, inl, inr, ◌⊎◌, min}
 use Rattle.std.proofs.lemmas.Bool.{leb-true, leb-false}
+use Rattle.std.specs.Option.{IfSome}
 use Rattle.std.specs.Prelude.{nat_le}
 use Rattle.qpack_spec.specs.History.{window_of}
 use Rattle.qpack_spec.specs.StrictReading.{StrictReading, Read, Blocked, Refused}
@@ -28,7 +29,7 @@ use Rattle.qpack_ends.specs.declared.section.SectionError.TheVariants as section
 use Rattle.qpack_connection.specs.declared.connection.ConnectionSettings.{ConnectionSettings}
 use Rattle.qpack_connection.specs.ConnectionEvents.{Shows}
 use Rattle.qpack_connection.specs.Connections.{Connection, Receive, Step}
-use Rattle.qpack_connection.specs.Headline.{SoFar, AnswersEncode, IsOfLimit, AnswersCancellation}
+use Rattle.qpack_connection.specs.Headline.{SoFar, known_to_wait, AnswersEncode, IsOfLimit, AnswersCancellation}
 use Rattle.qpack_connection.specs.RefinedConnections.{received_of, RefinesSession}
 use Rattle.qpack_connection.proofs.CountedWaits.{AreCounted}
 use Rattle.qpack_connection.proofs.FollowedRuns.{Follows, IsSent, follows_shown, sent_shown}
@@ -39,13 +40,13 @@ use Rattle.qpack_connection.proofs.RefinedDecodes.{stops_for_memory}
 
 -- ---- the decoding end
 
--- it has these settings, has received no fewer insertions than it answered, and exactly these if the last delivery
--- answered them, and counts all streams that are known to wait
-pub record IsDecoder (settings : ConnectionSettings) (received : ℕ) (is_current : Bool) (waiting : List BlockedStream)
+-- it has these settings, has received no fewer insertions than this and fewer than a number that is known, and counts all
+-- streams that wait
+pub record IsDecoder (settings : ConnectionSettings) (received : ℕ) (below : Option ℕ) (waiting : List BlockedStream)
     (d : DecodingEnd) : Type 0 where
   pub settings_are : d.settings ≡ settings.decoder
   pub least : received ≤ insert_count d.table
-  pub told : is_current ≡ true → received ≡ insert_count d.table
+  pub fewer : IfSome below (λ n. insert_count d.table < n)
   pub counted : AreCounted (insert_count d.table) waiting d.blocked
 
 -- a call leaves its settings and its table, and these streams are blocked
@@ -62,16 +63,16 @@ counted_at waiting old new blocked keeps counted =
     (subst (λ (bs : List BlockedStream). AreCounted (insert_count old.table) waiting bs) (sym keeps.blocked_are)
     counted)
 
-pub still_decoder : (settings : ConnectionSettings) (received : ℕ) (is_current : Bool)
-    (before waiting : List BlockedStream) (old new : DecodingEnd)
-    (blocked : List BlockedStream) → IsDecoder settings received is_current before old
+pub still_decoder : (settings : ConnectionSettings) (received : ℕ) (below : Option ℕ) (waiting : List BlockedStream)
+    (old new : DecodingEnd) (blocked : List BlockedStream) → old.settings ≡ settings.decoder
+    → received ≤ insert_count old.table → IfSome below (λ n. insert_count old.table < n)
     → KeepsTable old new blocked → AreCounted (insert_count old.table) waiting blocked
-    → IsDecoder settings received is_current waiting new
-still_decoder settings received is_current before waiting old new blocked k keeps counted =
+    → IsDecoder settings received below waiting new
+still_decoder settings received below waiting old new blocked are least fewer keeps counted =
     record {
-      settings_are = keeps.settings ∙ k.settings_are;
-      least = omega (arith, k.least, ap insert_count keeps.table);
-      told = λ t. k.told t ∙ ap insert_count (sym keeps.table);
+      settings_are = keeps.settings ∙ are;
+      least = omega (arith, least, ap insert_count keeps.table);
+      fewer = subst (λ (t : Table). IfSome below (λ n. insert_count t < n)) (sym keeps.table) fewer;
       counted = counted_at waiting old new blocked keeps counted;
     }
 
@@ -166,14 +167,14 @@ is_of_limit section.Memory read none tells = absurd (no_memory read tells)
 
 -- calls lead to it from the first one on, some of which sent the section that requires most. Its decoding end and its
 -- streams are what events and outcomes say. Nothing is in the table of its encoding end before an encode. And no more
--- streams wait than may
+-- streams are known to wait than may
 pub record Kept (settings : ConnectionSettings) (first : Connection) (h : SoFar) (c : Connection) : Type 0 where
   pub follows : Follows first c
   pub sent : IsSent first h.required c
-  pub decoder : IsDecoder settings h.received h.is_current h.waiting c.decoder
+  pub decoder : IsDecoder settings h.received h.below h.waiting c.decoder
   pub streams : AreStreams h.streams c.streams
   pub empty : h.has_encoded ≡ false → c.encoder.table.live ≡ []
-  pub few : length h.waiting ≤ settings.decoder.max_blocked
+  pub few : length (known_to_wait h.below h.waiting) ≤ settings.decoder.max_blocked
 
 pub shown : (settings : ConnectionSettings) (first : Connection) (h : SoFar) (old new : Connection)
     → Kept settings first h old → Shows new old → Kept settings first h new
@@ -181,7 +182,7 @@ shown settings first h old new k shows =
     record {
       follows = follows_shown first old new k.follows shows;
       sent = sent_shown first old new h.required k.sent shows;
-      decoder = subst (IsDecoder settings h.received h.is_current h.waiting) shows.decoder k.decoder;
+      decoder = subst (IsDecoder settings h.received h.below h.waiting) shows.decoder k.decoder;
       streams = λ s. subst (IsStream s (h.streams s)) (shows.streams s) (k.streams s);
       empty = λ none. ap (λ (e : EncodingEnd). e.table.live) (sym shows.encoder) ∙ k.empty none;
       few = k.few;

@@ -1,7 +1,8 @@
 -- What each call of a connection of two ends answers, by events and outcomes alone, and what is kept after it.
-use Rattle.std.proofs.Common.{◌≡◌, ◌<◌, ◌≤◌, ◌+◌, ◌^◌, ℕ, Bool, true, false, cond, List, [], ◌∷◌, ◌++◌, drop, None}
+use Rattle.std.proofs.Common.{◌≡◌, ◌<◌, ◌≤◌, ◌+◌, ◌^◌, ℕ, Bool, true, false, cond, List, [], ◌∷◌, ◌++◌, drop, Option, None, Some}
 use Rattle.std.proofs.Common.{Result, Ok, Err, refl, sym, ap, subst, ◌∙◌, arith, inl, inr, ◌⊎◌}
 use Rattle.std.specs.Global.{Vec}
+use Rattle.std.specs.Option.{IfSome}
 use Rattle.std.specs.Prelude.{⊤, nat_lt, IsOk}
 use Rattle.qpack_spec.specs.Field.{FieldLine, fields_of_lines, total_size}
 use Rattle.qpack_rules.specs.Session.{stream_at}
@@ -36,14 +37,14 @@ use Rattle.qpack_connection.specs.declared.connection.fields.OwnedFieldLine.{Own
 use Rattle.qpack_connection.specs.ConnectionEvents.{BeginsWith, cancel_skip}
 use Rattle.qpack_connection.specs.Connections.{SentSection, Connection, Call, Encode, SetCapacity, Hear, Receive}
 use Rattle.qpack_connection.specs.Connections.{Decode, Cancel, Step, next_of}
-use Rattle.qpack_connection.specs.Headline.{SoFar, others, after, Answers, AnswersCapacity, AnswersDelivery}
+use Rattle.qpack_connection.specs.Headline.{SoFar, least_of, others, after, Answers, AnswersCapacity, AnswersDelivery}
 use Rattle.qpack_connection.specs.Headline.{AnswersSection}
 use Rattle.qpack_connection.specs.OwnedLines.{lines_of}
 use Rattle.qpack_connection.specs.RefinedConnections.{received_of}
 use Rattle.qpack_connection.specs.RefinedStreams.{IsOpen}
 use Rattle.qpack_connection.specs.TwoEndsHeadline.{Fits}
 use Rattle.qpack_connection.specs.TwoEndsHeadline as calls
-use Rattle.qpack_connection.proofs.CountedWaits.{AreCounted, none_counted, within_counted, others_counted, told_counted}
+use Rattle.qpack_connection.proofs.CountedWaits.{AreCounted, within_counted, others_counted, later_counted, told_counted}
 use Rattle.qpack_connection.proofs.CountedWaits.{one_counted}
 use Rattle.qpack_connection.proofs.EmptyTables.{live_heard, live_resized, none_held}
 use Rattle.qpack_connection.proofs.FollowedRuns.{Follows, IsSent, follows_call, follows_kept, sent_call, sent_more}
@@ -106,7 +107,7 @@ module _ (settings : ConnectionSettings) (first : Connection) (begins : BeginsWi
   -- what is kept after a call
   stepped : (h : SoFar) (call : Call) (old new : Connection) (step : Step call old new) → Follows first old
       → Fits call old new step → blocked_streams new.decoder ≤ settings.decoder.max_blocked
-      → IsSent first h.required new → IsDecoder settings h.received h.is_current h.waiting new.decoder
+      → IsSent first h.required new → IsDecoder settings h.received h.below h.waiting new.decoder
       → AreStreams h.streams new.streams → (h.has_encoded ≡ false → new.encoder.table.live ≡ [])
       → Kept settings first h new
   stepped h call old new step follows fits blocked sent decoder streams empty =
@@ -118,7 +119,8 @@ module _ (settings : ConnectionSettings) (first : Connection) (begins : BeginsWi
         empty = empty;
         few = omega (
           arith,
-          within_counted (insert_count new.decoder.table) h.waiting new.decoder.blocked decoder.counted,
+          within_counted (insert_count new.decoder.table) h.below h.waiting new.decoder.blocked decoder.fewer
+              decoder.counted,
           blocked,
         );
       }
@@ -131,7 +133,7 @@ module _ (settings : ConnectionSettings) (first : Connection) (begins : BeginsWi
   encoder_stepped h has_encoded call old new step fits k decoder streams empty =
       stepped (record h { has_encoded = has_encoded }) call old new step k.follows fits
       (done h call old new step fits k).blocked (sent_call first old new h.required call k.sent step fits)
-      (subst (IsDecoder settings h.received h.is_current h.waiting) (sym decoder) k.decoder)
+      (subst (IsDecoder settings h.received h.below h.waiting) (sym decoder) k.decoder)
       (subst (AreStreams h.streams) (sym streams) k.streams) empty
 
   -- a call that leaves the encoding end
@@ -152,7 +154,7 @@ module _ (settings : ConnectionSettings) (first : Connection) (begins : BeginsWi
         step.call.0.1,
         stepped next call old new step k.follows fits d.blocked
             (sent_more first old new s (lines_of fields.items) h.required required k.sent k.follows step fits)
-            (subst (IsDecoder settings h.received h.is_current h.waiting)
+            (subst (IsDecoder settings h.received h.below h.waiting)
             (sym (ap (λ (c : Connection). c.decoder) step.new_is)) k.decoder)
             (subst (AreStreams next.streams) (sym (ap (λ (c : Connection). c.streams) step.new_is))
             (one_changed h.streams old.streams s
@@ -283,7 +285,7 @@ module _ (settings : ConnectionSettings) (first : Connection) (begins : BeginsWi
             (record {
               settings_are = keeps.0 ∙ k.decoder.settings_are;
               least = omega (arith, told);
-              told = λ t. told;
+              fewer = omega (arith, told);
               counted = subst (λ (bs : List BlockedStream). AreCounted (insert_count new.decoder.table) next.waiting bs)
                   (sym keeps.1)
                   (subst (λ (n : ℕ). AreCounted n next.waiting old.decoder.blocked) told
@@ -303,8 +305,10 @@ module _ (settings : ConnectionSettings) (first : Connection) (begins : BeginsWi
             (record {
               settings_are = keeps.0 ∙ k.decoder.settings_are;
               least = omega (arith, k.decoder.least, d.grows);
-              told = λ t. absurd (let x = t in cc);
-              counted = none_counted (insert_count new.decoder.table) new.decoder.blocked;
+              fewer = tt;
+              counted = subst (AreCounted (insert_count new.decoder.table) h.waiting) (sym keeps.1)
+                  (later_counted (insert_count old.decoder.table) (insert_count new.decoder.table) h.waiting
+                  old.decoder.blocked d.grows k.decoder.counted);
             })
             (subst (AreStreams h.streams) (sym (ap (λ (c : Connection). c.streams) step.new_is)) k.streams)
             (still_empty h old new k (ap (λ (c : Connection). c.encoder) step.new_is)),
@@ -322,19 +326,32 @@ module _ (settings : ConnectionSettings) (first : Connection) (begins : BeginsWi
       decode_answers limit h s (h.streams s) (stream_at old.streams s) step.section r shown step.live step.is_next
       (k.streams s) a
 
+  -- a section that is decoded requires fewer insertions than are known not to be received
+  may_be_decoded : (below : Option ℕ) (n required : ℕ) → required ≤ n → IfSome below (λ m. n < m)
+      → IfSome below (λ m. required < m)
+  may_be_decoded None n required within fewer = tt
+  may_be_decoded (Some m) n required within fewer = omega (arith, within, fewer)
+
+  -- as many are known not to be received as a section that waits requires, and as were known before
+  fewer_than_least : (below : Option ℕ) (n required : ℕ) → n < required → IfSome below (λ m. n < m)
+      → n < least_of required below
+  fewer_than_least None n required more fewer = more
+  fewer_than_least (Some m) n required more fewer = omega (arith, more, fewer)
+
   -- one that leaves the streams
-  decode_stepped : (h : SoFar) (waiting : List BlockedStream) (old new : Connection) (s : ℕ) (fields : List FieldLine)
-      (r : Result Reading DecodingError) (step : Step (Decode s fields r) old new) (blocked : List BlockedStream)
-      → Fits (Decode s fields r) old new step → Kept settings first h old
+  decode_stepped : (h : SoFar) (below : Option ℕ) (waiting : List BlockedStream) (old new : Connection) (s : ℕ)
+      (fields : List FieldLine) (r : Result Reading DecodingError) (step : Step (Decode s fields r) old new)
+      (blocked : List BlockedStream) → IfSome below (λ n. insert_count old.decoder.table < n) → Fits (Decode s fields r) old new step → Kept settings first h old
       → new.decoder ≡ record step.decoder { unsent = [] } → new.streams ≡ old.streams → new.encoder ≡ old.encoder
       → KeepsTable old.decoder step.decoder blocked
       → AreCounted (insert_count old.decoder.table) waiting blocked
-      → Kept settings first (record h { waiting = waiting }) new
-  decode_stepped h waiting old new s fields r step blocked fits k is streams encoder keeps counted =
-      stepped (record h { waiting = waiting }) (Decode s fields r) old new step k.follows fits
+      → Kept settings first (record h { below = below; waiting = waiting }) new
+  decode_stepped h below waiting old new s fields r step blocked fewer fits k is streams encoder keeps counted =
+      stepped (record h { below = below; waiting = waiting }) (Decode s fields r) old new step k.follows fits
       (done h (Decode s fields r) old new step fits k).blocked
       (sent_call first old new h.required (Decode s fields r) k.sent step fits)
-      (still_decoder settings h.received h.is_current h.waiting waiting old.decoder new.decoder blocked k.decoder
+      (still_decoder settings h.received below waiting old.decoder new.decoder blocked k.decoder.settings_are
+      k.decoder.least fewer
       (record {
         settings = ap (λ (d : DecodingEnd). d.settings) is ∙ keeps.settings;
         table = ap (λ (d : DecodingEnd). d.table) is ∙ keeps.table;
@@ -365,13 +382,14 @@ module _ (settings : ConnectionSettings) (first : Connection) (begins : BeginsWi
         decode_right h old new s shown (Ok (reading.Fields required)) step k (
           a.0,
           a.1,
-          λ told. omega (arith, a.2, k.decoder.told told),
+          may_be_decoded h.below (insert_count old.decoder.table) step.section.required a.2 k.decoder.fewer,
           within_limit h old new s shown.fields required step k a.0,
         ),
         stepped next call old new step k.follows fits d.blocked
             (sent_call first old new h.required call k.sent step fits)
-            (still_decoder settings h.received h.is_current h.waiting next.waiting old.decoder new.decoder
-            (without s old.decoder.blocked) k.decoder
+            (still_decoder settings next.received h.below next.waiting old.decoder new.decoder
+            (without s old.decoder.blocked) k.decoder.settings_are (omega (arith, k.decoder.least, a.1, a.2))
+            k.decoder.fewer
             (record {
               settings = ap (λ (c : Connection). c.decoder.settings) step.new_is ∙ keeps.settings;
               table = ap (λ (c : Connection). c.decoder.table) step.new_is ∙ keeps.table;
@@ -394,7 +412,10 @@ module _ (settings : ConnectionSettings) (first : Connection) (begins : BeginsWi
       let b : BlockedStream = record { stream = s; required = required } in
       let is = step.call.1.3 in (
         decode_right h old new s shown r step k (a.0, a.1, omega (arith, a.2, k.decoder.least)),
-        decode_stepped h (b ∷ others s h.waiting) old new s shown.fields r step (with_blocked b old.decoder.blocked) fits k
+        decode_stepped h (Some (least_of required h.below)) (b ∷ others s h.waiting) old new s shown.fields r step
+            (with_blocked b old.decoder.blocked)
+            (fewer_than_least h.below (insert_count old.decoder.table) required (omega (arith, a.1, a.2))
+            k.decoder.fewer) fits k
             (ap (λ (c : Connection). c.decoder) step.new_is) (ap (λ (c : Connection). c.streams) step.new_is)
             (ap (λ (c : Connection). c.encoder) step.new_is)
             (record {
@@ -402,8 +423,7 @@ module _ (settings : ConnectionSettings) (first : Connection) (begins : BeginsWi
               table = ap (λ (d : DecodingEnd). d.table) is;
               blocked_are = ap (λ (d : DecodingEnd). d.blocked) is;
             })
-            (one_counted (insert_count old.decoder.table) s required h.waiting old.decoder.blocked
-            (omega (arith, a.1, a.2)) k.decoder.counted),
+            (one_counted (insert_count old.decoder.table) s required h.waiting old.decoder.blocked k.decoder.counted),
       )
   decoded h old new s shown (Err (decoding.Section q e)) step fits k =
       let r : Result Reading DecodingError = Err (decoding.Section q e) in
@@ -416,7 +436,8 @@ module _ (settings : ConnectionSettings) (first : Connection) (begins : BeginsWi
           is_of_limit e _ a.2 keeps.1,
           omega (arith, a.3, ap (λ (x : DecoderSettings). x.max_section_size) k.decoder.settings_are),
         ),
-        decode_stepped h (others s h.waiting) old new s shown.fields r step (without s old.decoder.blocked) fits k
+        decode_stepped h h.below (others s h.waiting) old new s shown.fields r step (without s old.decoder.blocked)
+            k.decoder.fewer fits k
             (ap (λ (c : Connection). c.decoder) step.new_is) (ap (λ (c : Connection). c.streams) step.new_is)
             (ap (λ (c : Connection). c.encoder) step.new_is) keeps.0
             (others_counted (insert_count old.decoder.table) s h.waiting old.decoder.blocked k.decoder.counted),
@@ -425,7 +446,7 @@ module _ (settings : ConnectionSettings) (first : Connection) (begins : BeginsWi
       let r : Result Reading DecodingError = Err decoding.Memory in
       let d = done h (Decode s shown.fields r) old new step fits k in (
         decode_right h old new s shown r step k d.answers.0,
-        decode_stepped h h.waiting old new s shown.fields r step old.decoder.blocked fits k
+        decode_stepped h h.below h.waiting old new s shown.fields r step old.decoder.blocked k.decoder.fewer fits k
             (ap (λ (c : Connection). c.decoder) step.new_is) (ap (λ (c : Connection). c.streams) step.new_is)
             (ap (λ (c : Connection). c.encoder) step.new_is)
             (memory_keeps old.decoder step.decoder s _ d.alive.decoder step.call.1) k.decoder.counted,
@@ -454,8 +475,8 @@ module _ (settings : ConnectionSettings) (first : Connection) (begins : BeginsWi
             (outcome.Cancelled (Ok it)) live (k.streams s) step.call.0.1,
         stepped next (Cancel s (Ok it)) old new step k.follows fits d.blocked
             (sent_call first old new h.required (Cancel s (Ok it)) k.sent step fits)
-            (still_decoder settings h.received h.is_current h.waiting next.waiting old.decoder new.decoder
-            (without s old.decoder.blocked) k.decoder
+            (still_decoder settings h.received h.below next.waiting old.decoder new.decoder
+            (without s old.decoder.blocked) k.decoder.settings_are k.decoder.least k.decoder.fewer
             (record {
               settings = ap (λ (c : Connection). c.decoder.settings) step.new_is
                   ∙ ap (λ (d : DecodingEnd). d.settings) is;
@@ -477,8 +498,8 @@ module _ (settings : ConnectionSettings) (first : Connection) (begins : BeginsWi
             (outcome.Cancelled (Err e)) live (k.streams s) (cancel_stops settings.decoder.max_capacity s e is.0),
         stepped h (Cancel s (Err e)) old new step k.follows fits d.blocked
             (sent_call first old new h.required (Cancel s (Err e)) k.sent step fits)
-            (still_decoder settings h.received h.is_current h.waiting h.waiting old.decoder new.decoder
-            old.decoder.blocked k.decoder
+            (still_decoder settings h.received h.below h.waiting old.decoder new.decoder old.decoder.blocked
+            k.decoder.settings_are k.decoder.least k.decoder.fewer
             (record {
               settings = ap (λ (c : Connection). c.decoder.settings) step.new_is
                   ∙ ap (λ (d : DecodingEnd). d.settings) is.1;

@@ -67,7 +67,7 @@ read_spelled form_of bytes (l ∷ ls) e =
     let k = form_takes form_of bytes l e.0 e.1 in
     (k.encoding, e.0, k.parts, k.spells, read_spelled form_of e.0 ls e.2)
 
-first_spelled : SpellsAll SpellsEncoderInstruction bytes_first sent_first
+pub first_spelled : SpellsAll SpellsEncoderInstruction bytes_first sent_first
 unfolding rows
 first_spelled =
     read_spelled encoder_instruction_form bytes_first sent_first (_, refl, (_, refl, (_, refl, refl)))
@@ -94,7 +94,7 @@ begun_lawful : IsLawfulEncoder 220 0 encoder_begun.sent encoder_begun.made
 unfolding rows
 begun_lawful = record { taken = refl; makes = refl; evicted = lit≤ tt }
 
-first_lawful : IsLawfulEncoder 220 0 encoder_first.sent encoder_first.made
+pub first_lawful : IsLawfulEncoder 220 0 encoder_first.sent encoder_first.made
 unfolding rows
 first_lawful =
     record {
@@ -155,7 +155,7 @@ evicting_lawful =
     }
 
 -- whichever front of the bytes comes
-cut_anywhere : (p : Encoder) (d : DecodingEnd) (many : ℕ)
+pub cut_anywhere : (p : Encoder) (d : DecodingEnd) (many : ℕ)
     → IsLawfulEncoder d.settings.max_capacity p.known p.sent p.made
     → SpellsAll SpellsEncoderInstruction p.bytes p.sent → p.known ≤ d.reported → IsLawful p d (take many p.bytes)
 cut_anywhere p d many encoder spelled told =
@@ -512,7 +512,7 @@ marked_section =
     (0x71 ∷ 0x0b ∷ codes "/index.html") (lit≤ tt) (lit≤ tt) (lit≤ tt) tells_none
     (0x71 ∷ 0x0b ∷ codes "/index.html", [], refl, marked_line, refl) (lit≤ tt) (λ e. absurd (omega (arith, e)))
 
-post_base_section : IsLawfulSection 220 encoder_first.made 2 fields_post_base section_post_base
+pub post_base_section : IsLawfulSection 220 encoder_first.made 2 fields_post_base section_post_base
 unfolding rows
 post_base_section =
     section 220 encoder_first.made 2 0 0x03 0x81 fields_post_base (0x10 ∷ 0x11 ∷ []) (lit≤ tt) (lit≤ tt) (lit≤ tt)
@@ -607,7 +607,7 @@ names_section =
 -- ---- the limit
 
 -- of an encoder with one section under way no two streams that differ are at risk
-limit_of_one : (p : Encoder) (d : DecodingEnd) (u : UnderWay) → p.sections ≡ u ∷ [] → 0 < d.settings.max_blocked
+pub limit_of_one : (p : Encoder) (d : DecodingEnd) (u : UnderWay) → p.sections ≡ u ∷ [] → 0 < d.settings.max_blocked
     → AllByRecursion (λ (b : BlockedStream). IsUnderWay p b.stream b.required) d.blocked
     → KeepsToLimit p d u.stream u.required
 unfolding rows

@@ -13,9 +13,9 @@ use Rattle.qpack_spec.specs.Field.{Field, FieldLine, fields_of_lines}
 use Rattle.qpack_spec.specs.History.{History, window_of, initial_history, history_after, Leads}
 use Rattle.qpack_spec.specs.Instruction.{EncoderInstruction, SetCapacity, SpellsEncoderInstruction}
 use Rattle.qpack_spec.specs.Instruction.{DecoderInstruction, Acknowledgment, Cancellation, Increment}
-use Rattle.qpack_spec.specs.Instruction.{written_encoder_instruction, written_encoder_instructions}
+use Rattle.qpack_spec.specs.Instruction.{coded_encoder_instruction, written_encoder_instruction, coded_encoder_instructions}
 use Rattle.qpack_rules.specs.LawfulEncoders.{IsLawfulEncoder, IsLawfulSection}
-use Rattle.qpack_spec.specs.Marked.{stateless_block_marked, written_marked_block}
+use Rattle.qpack_spec.specs.Marked.{stateless_block_marked, coded_marked_block}
 use Rattle.qpack_spec.specs.Reading.{greatest_of}
 use Rattle.qpack_spec.specs.Rule.{block_of, required_insert_count, committed_table}
 use Rattle.qpack_spec.specs.Stream.{SpellsAll}
@@ -30,6 +30,7 @@ use Rattle.qpack_spec.specs.Window.{Window, TableRefusal, greatest_capacity, Doe
 use Rattle.qpack_spec.specs.Window.{window_after, apply}
 use Rattle.qpack_spec.specs.Window.{UnknownStream, or_refusal}
 use Rattle.qpack_spec.specs.WrittenLaws.{IsByteField, IsSmall}
+use Rattle.qpack_spec.specs.Text.{WhereShorter}
 use Rattle.qpack_rules.proofs.ChosenWritten.{chosen_written, chosen_inserts}
 use Rattle.qpack_spec.proofs.Cuttings.{joined_append}
 use Rattle.qpack_spec.proofs.Drafts.{IsLive, KeepsTable, count_inserted, keeps_unnamed}
@@ -210,12 +211,12 @@ record Leading (maximum : ℕ) (bytes : List ℕ) (sections : List Section) (t :
   pub leads : Leads (initial_history 0 maximum) (k.sent ++ is) later
   pub none : NoneAtZero 0 (k.sent ++ is)
   pub capacity_is : capacity_after 0 (k.sent ++ is) ≡ capacity
-  pub spelled : SpellsAll SpellsEncoderInstruction (bytes ++ written_encoder_instructions is) (k.sent ++ is)
+  pub spelled : SpellsAll SpellsEncoderInstruction (bytes ++ coded_encoder_instructions WhereShorter is) (k.sent ++ is)
 
 leading : (maximum : ℕ) (bytes : List ℕ) (sections : List Section) (t : Table)
     (k : WritesLawfully maximum bytes sections t) (fields : List FieldLine) (cs : List Chosen) (later : History)
     → Leads k.made (chosen_rule t fields cs).instructions later → AllByRecursion IsByteField (fields_of_lines fields)
-    → length (written_encoder_instructions (chosen_rule t fields cs).instructions) < 2 ^ 63
+    → length (coded_encoder_instructions WhereShorter (chosen_rule t fields cs).instructions) < 2 ^ 63
     → Leading maximum bytes sections t k (chosen_rule t fields cs).instructions later
     (chosen_rule t fields cs).table.capacity
 leading maximum bytes sections t k fields cs later leads are short =
@@ -230,33 +231,33 @@ leading maximum bytes sections t k fields cs later leads are short =
           (subst (λ (n : ℕ). NoneAtZero n d.instructions) (sym k.capacity) lawful.0);
       capacity_is = capacity_append 0 k.sent d.instructions
           ∙ ap (λ (n : ℕ). capacity_after n d.instructions) k.capacity ∙ lawful.1 ∙ sym inserted.0;
-      spelled = joined_append SpellsEncoderInstruction bytes (written_encoder_instructions d.instructions) k.sent
+      spelled = joined_append SpellsEncoderInstruction bytes (coded_encoder_instructions WhereShorter d.instructions) k.sent
           d.instructions k.spelled
-          (instructions_joined d.instructions
-          (instructions_fit d.instructions (chosen_written t fields cs few are).instructions short));
+          (instructions_joined WhereShorter d.instructions
+          (instructions_fit WhereShorter d.instructions (chosen_written t fields cs few are).instructions short));
     }
 
 -- a section was written
 pub writes_section : (maximum : ℕ) (bytes : List ℕ) (sections : List Section) (t : Table) (s : ℕ)
     (fields : List FieldLine) (cs : List Chosen) → WritesLawfully maximum bytes sections t
     → AllByRecursion IsByteField (fields_of_lines fields)
-    → length (written_encoder_instructions (chosen_rule t fields cs).instructions) < 2 ^ 63
-    → length (written_marked_block fields (block_of t (chosen_rule t fields cs))) < 2 ^ 63
+    → length (coded_encoder_instructions WhereShorter (chosen_rule t fields cs).instructions) < 2 ^ 63
+    → length (coded_marked_block WhereShorter fields (block_of t (chosen_rule t fields cs))) < 2 ^ 63
     → (let d = chosen_rule t fields cs in
     let w : Section = record {
       stream = s;
       required = required_insert_count d;
       fields = fields;
-      bytes = written_marked_block fields (block_of t d);
+      bytes = coded_marked_block WhereShorter fields (block_of t d);
     } in
-    (new : WritesLawfully maximum (bytes ++ written_encoder_instructions d.instructions)
+    (new : WritesLawfully maximum (bytes ++ coded_encoder_instructions WhereShorter d.instructions)
     (sections ++ if_required (required_insert_count d) w) (committed_table d s))
-    × IsLawfulSection maximum new.made (required_insert_count d) fields (written_marked_block fields (block_of t d)))
+    × IsLawfulSection maximum new.made (required_insert_count d) fields (coded_marked_block WhereShorter fields (block_of t d)))
 unfolding commit window
 writes_section maximum bytes sections t s fields cs k are short small =
     let d = chosen_rule t fields cs in
     let required = required_insert_count d in
-    let section = written_marked_block fields (block_of t d) in
+    let section = coded_marked_block WhereShorter fields (block_of t d) in
     let w : Section = record { stream = s; required = required; fields = fields; bytes = section } in
     let p = drafted maximum k.made t fields cs k.sound k.agreed k.kept in
     let l = leading maximum bytes sections t k fields cs p.history p.leads are short in
@@ -289,8 +290,8 @@ writes_section maximum bytes sections t s fields cs k are short small =
 -- a section was given up
 pub writes_given_up : (maximum : ℕ) (bytes : List ℕ) (sections : List Section) (t : Table) (fields : List FieldLine)
     (cs : List Chosen) → WritesLawfully maximum bytes sections t → AllByRecursion IsByteField (fields_of_lines fields)
-    → length (written_encoder_instructions (chosen_rule t fields cs).instructions) < 2 ^ 63
-    → WritesLawfully maximum (bytes ++ written_encoder_instructions (chosen_rule t fields cs).instructions) sections
+    → length (coded_encoder_instructions WhereShorter (chosen_rule t fields cs).instructions) < 2 ^ 63
+    → WritesLawfully maximum (bytes ++ coded_encoder_instructions WhereShorter (chosen_rule t fields cs).instructions) sections
     (without_references (chosen_rule t fields cs).table)
 unfolding without_references
 writes_given_up maximum bytes sections t fields cs k are short =
@@ -316,11 +317,11 @@ writes_given_up maximum bytes sections t fields cs k are short =
 -- a section that references no entry is lawful too
 pub alone_lawful : (maximum : ℕ) (made : History) (fields : List FieldLine)
     → AllByRecursion IsByteField (fields_of_lines fields)
-    → length (written_marked_block fields (stateless_block_marked fields)) < 2 ^ 63
-    → IsLawfulSection maximum made 0 fields (written_marked_block fields (stateless_block_marked fields))
+    → length (coded_marked_block WhereShorter fields (stateless_block_marked fields)) < 2 ^ 63
+    → IsLawfulSection maximum made 0 fields (coded_marked_block WhereShorter fields (stateless_block_marked fields))
 unfolding greatest_of
 alone_lawful maximum made fields are small =
-    within_lawful maximum made [] fields (written_marked_block fields (stateless_block_marked fields)) tt
+    within_lawful maximum made [] fields (coded_marked_block WhereShorter fields (stateless_block_marked fields)) tt
     (alone_within maximum made fields are small)
 
 small_capacity : (t : Table) (n : ℕ) → CanResize t n → IsSmall n
@@ -334,7 +335,7 @@ small_capacity t n can = by t.agreed_max can.within
 pub writes_capacity : (maximum : ℕ) (bytes : List ℕ) (sections : List Section) (t u : Table) (n : ℕ)
     → WritesLawfully maximum bytes sections t → with_capacity t n ≡ Ok u
     → WritesLawfully maximum (bytes ++ written_encoder_instruction (SetCapacity n)) sections u
-unfolding written_encoder_instructions history_after
+unfolding coded_encoder_instructions coded_encoder_instruction history_after
 writes_capacity maximum bytes sections t u n k e =
     elim (resized_cases t n) [
       | inl can ↦ subst (WritesLawfully maximum (bytes ++ written_encoder_instruction (SetCapacity n)) sections)
@@ -365,9 +366,9 @@ writes_capacity maximum bytes sections t u n k e =
           spelled =
               subst (λ (b : List ℕ). SpellsAll SpellsEncoderInstruction (bytes ++ b) (k.sent ++ SetCapacity n ∷ []))
               (append-nil (written_encoder_instruction (SetCapacity n)))
-              (joined_append SpellsEncoderInstruction bytes (written_encoder_instructions (SetCapacity n ∷ [])) k.sent
+              (joined_append SpellsEncoderInstruction bytes (coded_encoder_instructions WhereShorter (SetCapacity n ∷ [])) k.sent
               (SetCapacity n ∷ []) k.spelled
-              (instructions_joined (SetCapacity n ∷ []) (small_capacity t n can, tt)));
+              (instructions_joined WhereShorter (SetCapacity n ∷ []) (small_capacity t n can, tt)));
           open_are = subst (Agrees (IsOpen maximum later) sections) (sym z.z_opened)
               (all_stay maximum k.made later sections t.unacknowledged
               (leads_grows k.made (SetCapacity n ∷ []) later one) k.open_are);

@@ -10,15 +10,16 @@ use Rattle.qpack_spec.specs.Chosen.{chosen_rule}
 use Rattle.qpack_spec.specs.Field.{FieldLine, fields_of_lines}
 use Rattle.qpack_spec.specs.History.{History}
 use Rattle.qpack_spec.specs.Instruction.{EncoderInstruction, DecoderInstruction, SetCapacity}
-use Rattle.qpack_spec.specs.Instruction.{written_encoder_instruction, written_encoder_instructions}
+use Rattle.qpack_spec.specs.Instruction.{written_encoder_instruction, coded_encoder_instructions}
 use Rattle.qpack_rules.specs.LawfulEncoders.{IsLawfulEncoder, IsLawfulSection}
-use Rattle.qpack_spec.specs.Marked.{written_marked_block}
+use Rattle.qpack_spec.specs.Marked.{coded_marked_block}
 use Rattle.qpack_spec.specs.Reading.{greatest_of}
 use Rattle.qpack_spec.specs.Rule.{block_of, required_insert_count, committed_table}
 use Rattle.qpack_rules.specs.StrictInstructions.{HearingRefusal, required_by, hear_in_turn}
 use Rattle.qpack_spec.specs.Table.{Table, UnacknowledgedBlock, empty_table, has_number}
 use Rattle.qpack_spec.specs.Table.{with_unacknowledged}
 use Rattle.qpack_spec.specs.WrittenLaws.{IsByteField}
+use Rattle.qpack_spec.specs.Text.{WhereShorter}
 use Rattle.qpack_spec.proofs.Drafts.{IsLive}
 use Rattle.qpack_spec.proofs.Lists.{get_append_end}
 use Rattle.qpack_codec.specs.declared.encoder.choices.Wish.{Wish}
@@ -226,8 +227,8 @@ adds_chosen maximum d new sent sections s fields section required k are fits sma
     let x = writes.section in
     let cs = x.choices in
     let draft = chosen_rule d.table fields cs in
-    let instructions = written_encoder_instructions draft.instructions in
-    let block = written_marked_block fields (block_of d.table draft) in
+    let instructions = coded_encoder_instructions WhereShorter draft.instructions in
+    let block = coded_marked_block WhereShorter fields (block_of d.table draft) in
     let count = required_insert_count draft in
     let r =
     writes_section maximum (sent ++ d.unsent) sections d.table s fields cs k are
@@ -273,7 +274,7 @@ gives_up : (maximum : ℕ) (d new : EncodingEnd) (sent : List ℕ) (sections : L
     → GivesUpSection d new fields → WritesLawfully maximum (sent ++ new.unsent) sections new.table
 gives_up maximum d new sent sections fields k are fits g =
     let some = take g.lines.many fields in
-    let instructions = written_encoder_instructions (chosen_rule d.table some g.lines.choices).instructions in
+    let instructions = coded_encoder_instructions WhereShorter (chosen_rule d.table some g.lines.choices).instructions in
     let r =
     writes_given_up maximum (sent ++ d.unsent) sections d.table some g.lines.choices k
     (first_bytes g.lines.many fields are)

@@ -16,6 +16,9 @@ pub mod KeptDecoderCalls
 pub mod TwoEndsHeadline
 pub mod LawfulEncoders
 pub mod UnderstoodEncoders
+pub mod ComingSections
+pub mod UnderstoodPieces
+pub mod UnderstoodCalls
 pub mod UnderstoodDecoders
 pub mod FramedEncoderCalls
 pub mod FramedDecoderCalls
@@ -35,9 +38,14 @@ pub mod HeadlineEvents
 pub mod Headline
 pub mod HeadlineRows
 pub mod CancellationRows
+pub mod KeptRows
+pub mod KindRows
 pub mod PromiseRows
+pub mod UnderstoodRows
+pub mod CarefulRows
 pub mod SettledSections
 pub mod LawfulRows
+pub mod PieceRows
 pub mod WrittenSections
 pub mod LawfulTables
 pub mod LawfulWriters

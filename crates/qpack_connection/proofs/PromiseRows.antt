@@ -1,5 +1,6 @@
 -- What the laws of each end with any peer promise, on calls that break it: each promise refuses such a call, whatever the
 -- end is before it and after it.
+use Rattle.std.proofs.Common.{Bool, true, length-append}
 use Rattle.std.proofs.Common.{◌≡◌, ◌+◌, ◌<◌, ◌≤◌, ◌^◌, ℕ, false, List, [], ◌∷◌, length, Option, Some, None, Ok, Err, ap, sym, ◌∙◌, arith}
 use Rattle.std.proofs.lemmas.Option.{none-some}
 use Rattle.qpack_spec.specs.Field.{FieldLine}
@@ -14,7 +15,10 @@ use Rattle.qpack_ends.specs.declared.decoder.DecodingError.TheVariants as decodi
 use Rattle.qpack_ends.specs.declared.encoder.EncoderSettings.{EncoderSettings}
 use Rattle.qpack_ends.specs.declared.encoder.EncodingError.{EncodingError}
 use Rattle.qpack_ends.specs.declared.encoder.EncodingError.TheVariants as encoding
+use Rattle.qpack_ends.specs.Decoders.{DecodingEnd}
 use Rattle.qpack_ends.specs.declared.section.Reading.TheVariants.{Fields, Blocked}
+use Rattle.qpack_ends.specs.declared.section.SectionError.{SectionError}
+use Rattle.qpack_ends.specs.declared.section.reader.Progress.TheVariants.{Waits, Prefix, Field, Ends}
 use Rattle.qpack_connection.specs.Connections.{SentSection}
 use Rattle.qpack_connection.specs.LawfulDecoders as decoders
 use Rattle.qpack_connection.specs.LawfulEncoders as encoders
@@ -22,7 +26,7 @@ use Rattle.qpack_connection.specs.LawfulEncoders as encoders
 -- ---- a decoding end, with a lawful encoder
 
 -- what is promised refuses a call with such a result
-abbrev Breaks : encoders.Call → Type 0
+abbrev pub Breaks : encoders.Call → Type 0
 Breaks call =
     (old new : encoders.Decoder) (run : encoders.Run (call ∷ []) old new)
     (asked : encoders.AreLawful (call ∷ []) old new run) → encoders.AllAnswer (call ∷ []) old new run asked → ⊥
@@ -67,6 +71,64 @@ one_too_many s k old new run asked r = grind (r, arith)
 
 cancel_refused : (s : ℕ) → Breaks (encoders.Cancel s (Err (decoding.TooManyBlocked s)))
 cancel_refused s old new run asked r = grind (r, arith)
+
+-- a piece of a section gives two fields; or another than the next, as one that was given already
+two_fields : (s : ℕ) (bytes left : List ℕ) (last : Bool) (f g : FieldLine)
+    → Breaks (encoders.Read s bytes left last (f ∷ g ∷ []) (Ok Field))
+two_fields s bytes left last f g old new run asked r = omega (arith, ap length r.0.2)
+
+given_again : (s : ℕ) (bytes left : List ℕ) (last : Bool) (f g : FieldLine) (others : List FieldLine)
+    (old new : encoders.Decoder) (run : encoders.Run (encoders.Read s bytes left last (f ∷ []) (Ok Field) ∷ []) old new)
+    (asked : encoders.AreLawful (encoders.Read s bytes left last (f ∷ []) (Ok Field) ∷ []) old new run)
+    → asked.0.coming.fields ≡ g ∷ others → (f ≡ g → ⊥)
+    → encoders.AllAnswer (encoders.Read s bytes left last (f ∷ []) (Ok Field) ∷ []) old new run asked → ⊥
+given_again s bytes left last f g others old new run asked next other r =
+    let given : (f ∷ []) ≡ (r.0.0 ∷ []) = r.0.2 in
+    let is : (g ∷ others) ≡ (r.0.0 ∷ r.0.1) = sym next ∙ r.0.3 in
+    other (let same : f ≡ g = cc in same)
+
+-- bytes of a line that is cut are left; more is waited for, though these are the last
+cut_line_left : (s b : ℕ) (bytes left : List ℕ) (last : Bool) → Breaks (encoders.Read s bytes (b ∷ left) last [] (Ok Waits))
+cut_line_left s b bytes left last old new run asked r = omega (arith, ap length r.0.1)
+
+waits_for_more : (s : ℕ) (bytes left : List ℕ) → Breaks (encoders.Read s bytes left true [] (Ok Waits))
+waits_for_more s bytes left old new run asked r = absurd (let e = r.0.2 in cc)
+
+-- a section ends, and so is acknowledged, before its last field was given, or before its last byte has come
+ends_before_a_field : (s required : ℕ) (bytes left : List ℕ) (last : Bool) (f : FieldLine) (others : List FieldLine)
+    (old new : encoders.Decoder)
+    (run : encoders.Run (encoders.Read s bytes left last [] (Ok (Ends required)) ∷ []) old new)
+    (asked : encoders.AreLawful (encoders.Read s bytes left last [] (Ok (Ends required)) ∷ []) old new run)
+    → asked.0.coming.fields ≡ f ∷ others
+    → encoders.AllAnswer (encoders.Read s bytes left last [] (Ok (Ends required)) ∷ []) old new run asked → ⊥
+ends_before_a_field s required bytes left last f others old new run asked next r =
+    omega (arith, ap length (sym next ∙ r.0.1))
+
+ends_before_a_byte : (s required b : ℕ) (bytes left behind : List ℕ) (last : Bool) (old new : encoders.Decoder)
+    (run : encoders.Run (encoders.Read s bytes left last [] (Ok (Ends required)) ∷ []) old new)
+    (asked : encoders.AreLawful (encoders.Read s bytes left last [] (Ok (Ends required)) ∷ []) old new run)
+    → asked.0.more ≡ b ∷ behind
+    → encoders.AllAnswer (encoders.Read s bytes left last [] (Ok (Ends required)) ∷ []) old new run asked → ⊥
+ends_before_a_byte s required b bytes left behind last old new run asked next r =
+    omega (arith, ap length r.0.2, length-append left asked.0.more, ap length next)
+
+-- no call acknowledges a section at its prefix, or with a field
+acknowledges_a_prefix : (s required : ℕ) (bytes left : List ℕ) (last : Bool) (old new : encoders.Decoder)
+    (run : encoders.Run (encoders.Read s bytes left last [] (Ok (Prefix required)) ∷ []) old new)
+    → length old.end.unsent < length run.0.end.unsent → ⊥
+acknowledges_a_prefix s required bytes left last old new run more =
+    omega (arith, more, ap (λ (d : DecodingEnd). length d.unsent) run.1.0.reads.1.2)
+
+acknowledges_a_field : (s : ℕ) (bytes left : List ℕ) (last : Bool) (fields : List FieldLine) (old new : encoders.Decoder)
+    (run : encoders.Run (encoders.Read s bytes left last fields (Ok Field) ∷ []) old new)
+    → length old.end.unsent < length run.0.end.unsent → ⊥
+acknowledges_a_field s bytes left last fields old new run more =
+    omega (arith, more, ap (λ (d : DecodingEnd). length d.unsent) run.1.0.reads.1.2)
+
+-- a piece is refused
+piece_refused : (s : ℕ) (bytes left : List ℕ) (last : Bool) (e : SectionError)
+    → Breaks (encoders.Read s bytes left last [] (Err (decoding.Section s e)))
+piece_refused s bytes left last e old new run asked r = r.0
 
 -- an error ends the connection, whatever the call returns
 ended : (call : encoders.Call) (e : DecodingError) (old new : encoders.Decoder)

@@ -5,12 +5,13 @@ use Rattle.std.specs.Prelude.{nat_le}
 use Rattle.std.proofs.lemmas.Bool.{leb-true}
 use Rattle.std.proofs.lemmas.List.{append-nil}
 use Rattle.qpack_spec.specs.History.{initial_history, window_of}
-use Rattle.qpack_spec.specs.Instruction.{EncoderInstruction, SetCapacity, written_encoder_instruction}
+use Rattle.qpack_spec.specs.Instruction.{EncoderInstruction, SetCapacity, coded_encoder_instruction, written_encoder_instruction}
 use Rattle.qpack_spec.specs.Instruction.{SpellsEncoderInstruction, encoder_instruction_form}
-use Rattle.qpack_spec.specs.Instruction.{written_encoder_instructions}
+use Rattle.qpack_spec.specs.Instruction.{coded_encoder_instructions}
 use Rattle.qpack_spec.specs.Stream.{SpellsAll}
 use Rattle.qpack_spec.specs.Table.{Table, with_capacity, empty_table, table_of, insert_count}
 use Rattle.qpack_spec.specs.Window.{TableRefusal, AboveMaximum, greatest_capacity}
+use Rattle.qpack_spec.specs.Text.{WhereShorter}
 use Rattle.qpack_spec.proofs.Cuttings.{wire, nil_append}
 use Rattle.qpack_spec.proofs.Results.{chosen}
 use Rattle.qpack_safety.specs.AbstractSession.{AbstractSession, abstract_start, after_resize}
@@ -94,7 +95,7 @@ capacity_small t u n h =
 told_refined : (maximum : ℕ) (c : Connection) (w : AbstractSession) (e : EncodingEnd) (n : ℕ)
     → RefinesSession maximum c w → TellsCapacity c.encoder e n (Ok tt)
     → RefinesSession maximum (with_encoder e c) (after_resize w n (with_capacity w.encoder n))
-unfolding written_encoder_instructions
+unfolding coded_encoder_instructions coded_encoder_instruction
 told_refined maximum c w e n r tells =
     let takes : with_capacity w.encoder n ≡ Ok e.table =
     ap (λ (t : Table). with_capacity t n) (sym r.encoder_is) ∙ tells.0 in
@@ -110,7 +111,7 @@ told_refined maximum c w e n r tells =
 -- nothing is done
 pub same_refined : (maximum : ℕ) (c : Connection) (w : AbstractSession) (e : EncodingEnd) → RefinesSession maximum c w
     → e ≡ c.encoder → RefinesSession maximum (with_encoder e c) w
-unfolding written_encoder_instructions
+unfolding coded_encoder_instructions coded_encoder_instruction
 same_refined maximum c w e r same =
     written_more maximum c w e w.encoder [] w.in_flight c.streams w.streams r
     (ap (λ (x : EncodingEnd). x.table) same ∙ r.encoder_is) (ap (λ (x : EncodingEnd). x.stream) same)

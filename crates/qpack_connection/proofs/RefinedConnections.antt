@@ -8,15 +8,16 @@ use Rattle.std.proofs.lemmas.List.{append_assoc, append-nil, take-append-le}
 use Rattle.qpack_spec.specs.Chosen.{chosen_rule}
 use Rattle.qpack_spec.specs.Field.{FieldLine, fields_of_lines}
 use Rattle.qpack_spec.specs.Instruction.{EncoderInstruction, SetCapacity, SpellsEncoderInstruction}
-use Rattle.qpack_spec.specs.Instruction.{written_encoder_instruction, written_encoder_instructions}
-use Rattle.qpack_spec.specs.Marked.{written_marked_block}
+use Rattle.qpack_spec.specs.Instruction.{coded_encoder_instruction, written_encoder_instruction, coded_encoder_instructions}
+use Rattle.qpack_spec.specs.Marked.{coded_marked_block}
 use Rattle.qpack_spec.specs.Reading.{greatest_of}
 use Rattle.qpack_spec.specs.Rule.{block_of, committed_table}
 use Rattle.qpack_rules.specs.Session.{RequestStream, stream_at, with_stream}
 use Rattle.qpack_spec.specs.Stream.{SpellsAll}
 use Rattle.qpack_spec.specs.Table.{Table, with_capacity, empty_table}
 use Rattle.qpack_spec.specs.Window.{TableRefusal}
-use Rattle.qpack_spec.specs.WrittenLaws.{IsByteField, IsWritableEncoderInstruction}
+use Rattle.qpack_spec.specs.WrittenLaws.{IsByteField, IsWritableInstructionUnder}
+use Rattle.qpack_spec.specs.Text.{WhereShorter}
 use Rattle.qpack_rules.proofs.ChosenWritten.{chosen_written}
 use Rattle.qpack_spec.proofs.Cuttings.{joined_append}
 use Rattle.qpack_spec.proofs.WrittenDrafts.{instructions_fit}
@@ -42,7 +43,7 @@ use Rattle.qpack_ends.proofs.Encoders.{takes_capacity}
 pub written_more : (maximum : ℕ) (c : Connection) (w : AbstractSession) (e : EncodingEnd) (t : Table)
     (is flight : List EncoderInstruction) (ps : List (ℕ × RequestStream SentSection)) (qs : List (ℕ × AbstractStream))
     → RefinesSession maximum c w → e.table ≡ t → e.stream ≡ c.encoder.stream
-    → e.unsent ≡ written_encoder_instructions is → AllByRecursion IsWritableEncoderInstruction is
+    → e.unsent ≡ coded_encoder_instructions WhereShorter is → AllByRecursion (IsWritableInstructionUnder WhereShorter) is
     → flight ≡ w.in_flight ++ is → ((s : ℕ) → RefinesStream (stream_at ps s) (stream_at qs s))
     → RefinesSession maximum (record (with_encoder e c) { streams = ps })
     (record w { encoder = t; in_flight = flight; streams = qs })
@@ -61,10 +62,10 @@ written_more maximum c w e t is flight ps qs k table stream unsent are more stre
       encoder_stream =
           subst (λ (b : List ℕ). SpellsAll SpellsEncoderInstruction (c.encoder_stream.written ++ b) (w.taken ++ flight))
           (sym unsent)
-          (subst (SpellsAll SpellsEncoderInstruction (c.encoder_stream.written ++ written_encoder_instructions is))
+          (subst (SpellsAll SpellsEncoderInstruction (c.encoder_stream.written ++ coded_encoder_instructions WhereShorter is))
           (append_assoc w.taken w.in_flight is ∙ ap (λ (x : List EncoderInstruction). w.taken ++ x) (sym more))
-          (joined_append SpellsEncoderInstruction c.encoder_stream.written (written_encoder_instructions is)
-          (w.taken ++ w.in_flight) is k.encoder_stream (instructions_joined is are)));
+          (joined_append SpellsEncoderInstruction c.encoder_stream.written (coded_encoder_instructions WhereShorter is)
+          (w.taken ++ w.in_flight) is k.encoder_stream (instructions_joined WhereShorter is are)));
       encoder_stream_order = omega (
         arith,
         k.encoder_stream_order,
@@ -118,21 +119,21 @@ section_refined maximum limit c w e s fields section required k r are short smal
     let d = chosen_rule w.encoder fields cs in
     let table : e.table ≡ committed_table d s =
     x.table ∙ ap (λ (t : Table). committed_table (chosen_rule t fields cs) s) r.encoder_is in
-    let unsent : e.unsent ≡ written_encoder_instructions d.instructions =
+    let unsent : e.unsent ≡ coded_encoder_instructions WhereShorter d.instructions =
     x.written
-    ∙ ap (λ (b : List ℕ). b ++ written_encoder_instructions (chosen_rule c.encoder.table fields cs).instructions)
+    ∙ ap (λ (b : List ℕ). b ++ coded_encoder_instructions WhereShorter (chosen_rule c.encoder.table fields cs).instructions)
     r.encoder_sent
-    ∙ ap (λ (t : Table). written_encoder_instructions (chosen_rule t fields cs).instructions) r.encoder_is in
-    let fits : length (written_encoder_instructions d.instructions) < 2 ^ 63 =
+    ∙ ap (λ (t : Table). coded_encoder_instructions WhereShorter (chosen_rule t fields cs).instructions) r.encoder_is in
+    let fits : length (coded_encoder_instructions WhereShorter d.instructions) < 2 ^ 63 =
     omega (arith, short, length-append c.encoder_stream.written e.unsent, ap length unsent) in
     let wd = chosen_written w.encoder fields cs (few_insertions 0 maximum limit w k) are in
     written_more maximum c w e (committed_table d s) d.instructions (w.in_flight ++ d.instructions) _ _ r table
     (ap (λ (y : EncodingEnd). y.stream) writes.new_is) unsent
-    (instructions_fit d.instructions wd.instructions fits) refl
+    (instructions_fit WhereShorter d.instructions wd.instructions fits) refl
     (section_more s (record { fields = fields; bytes = section; required = required }) _ c.streams w.streams
     (record {
       bytes_are = x.block
-          ∙ ap (λ (t : Table). written_marked_block fields (block_of t (chosen_rule t fields cs))) r.encoder_is;
+          ∙ ap (λ (t : Table). coded_marked_block WhereShorter fields (block_of t (chosen_rule t fields cs))) r.encoder_is;
       required_is = x.required_is
           ∙ ap (λ (t : Table). greatest_of (chosen_rule t fields cs).table.referenced) r.encoder_is;
       block_is = chosen_block 0 maximum limit w s fields cs k _ refl refl;
@@ -147,7 +148,7 @@ alone_refined : (maximum : ℕ) (c : Connection) (w : AbstractSession) (e : Enco
     → WritesAlone c.encoder e fields [] section required
     → RefinesSession maximum (with_section s fields section (Ok required) (with_encoder e c))
     (after_end_step w (EncodeAlone s fields))
-unfolding written_encoder_instructions greatest_of
+unfolding coded_encoder_instructions coded_encoder_instruction greatest_of
 alone_refined maximum c w e s fields section required r are small writes =
     written_more maximum c w e w.encoder [] w.in_flight _ _ r
     (ap (λ (y : EncodingEnd). y.table) writes.new_is ∙ r.encoder_is)
@@ -169,7 +170,7 @@ pub told_refined : (maximum : ℕ) (c : Connection) (w : AbstractSession) (o : O
     → IfSome o (λ n. IsToBeTold c.encoder n) → RefinesSession maximum c w
     → (steps : List EndStep) × RefinesSession maximum (with_encoder (begun_with o c.encoder) c)
     (after_end_steps steps w)
-unfolding written_encoder_instructions
+unfolding coded_encoder_instructions coded_encoder_instruction
 told_refined maximum c w None k r = (
   [],
   written_more maximum c w c.encoder w.encoder [] w.in_flight c.streams w.streams r r.encoder_is refl r.encoder_sent tt
@@ -226,7 +227,7 @@ chosen_behind : (c : Connection) (e : EncodingEnd) (s : ℕ) (fields : List Fiel
     required
 chosen_behind c e s fields section required writes =
     let cs = writes.section.choices in
-    let written = written_encoder_instructions (chosen_rule (begun c.encoder).table fields cs).instructions in (
+    let written = coded_encoder_instructions WhereShorter (chosen_rule (begun c.encoder).table fields cs).instructions in (
       written,
       writes.section.written,
       record {

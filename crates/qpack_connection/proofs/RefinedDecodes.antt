@@ -15,6 +15,7 @@ use Rattle.qpack_spec.specs.StrictReading as strict
 use Rattle.qpack_spec.specs.Table.{window, insert_count}
 use Rattle.qpack_spec.specs.Window.{Window, window_insert_count}
 use Rattle.qpack_spec.specs.WrittenLaws.{IsWritableDecoderInstruction}
+use Rattle.qpack_spec.specs.Text.{WhereShorter}
 use Rattle.qpack_spec.proofs.Lists.{every_append}
 use Rattle.qpack_rules.proofs.Pieces.{pieces_small}
 use Rattle.qpack_rules.proofs.PutTables.{window_put, count_put}
@@ -98,25 +99,25 @@ is_read_as maximum limit c w s k r h live n =
     count : insert_count c.decoder.table ≡ window_insert_count w.decoder
     count = ap insert_count r.decoder_is ∙ count_put w.decoder
 
-    exactly : (big : ℕ) → total ≤ big → IsReadStrictly w.decoder big k.fields n.block
+    exactly : (big : ℕ) → total ≤ big → IsReadStrictly WhereShorter w.decoder big k.fields n.block
     exactly big low =
-        block_read 0 maximum limit big w h.invariant s k.fields n.block
+        block_read WhereShorter 0 maximum limit big w h.invariant s k.fields n.block
         (sym (r.streams s).cancelled_is ∙ live) n.next n.refines.block_is n.refines.are_bytes
         (subst (λ (b : List ℕ). length b < 2 ^ 63) n.refines.bytes_are n.refines.short) low
 
     same : (big : ℕ) → strict_reading (window c.decoder.table) big k.bytes
-        ≡ strict_reading w.decoder big (section_of k.fields n.block)
+        ≡ strict_reading w.decoder big (section_of WhereShorter k.fields n.block)
     same big =
         ap (λ (x : Window). strict_reading x big k.bytes) (ap window r.decoder_is ∙ window_put w.decoder)
         ∙ ap (strict_reading w.decoder big) n.refines.bytes_are
 
     by_size : (a : StrictReading) → IsAnswer a
-        → ((big : ℕ) → total ≤ big → strict_reading w.decoder big (section_of k.fields n.block) ≡ a)
+        → ((big : ℕ) → total ≤ big → strict_reading w.decoder big (section_of WhereShorter k.fields n.block) ≡ a)
         → (strict_reading (window c.decoder.table) size k.bytes ≡ a)
         ⊎ (IsOverLimit (strict_reading (window c.decoder.table) size k.bytes) × (size < total))
     by_size a is reads = pick (cases_lt size total)
       where
-        limited : Limited (strict_reading w.decoder size (section_of k.fields n.block)) a → size < total
+        limited : Limited (strict_reading w.decoder size (section_of WhereShorter k.fields n.block)) a → size < total
             → (strict_reading (window c.decoder.table) size k.bytes ≡ a)
             ⊎ (IsOverLimit (strict_reading (window c.decoder.table) size k.bytes) × (size < total))
         limited (inl e) over = inl (same size ∙ e)
@@ -126,7 +127,7 @@ is_read_as maximum limit c w s k r h live n =
             → (strict_reading (window c.decoder.table) size k.bytes ≡ a)
             ⊎ (IsOverLimit (strict_reading (window c.decoder.table) size k.bytes) × (size < total))
         pick (inl over) =
-            limited (reading_limited w.decoder size total (section_of k.fields n.block) a is
+            limited (reading_limited w.decoder size total (section_of WhereShorter k.fields n.block) a is
             (reads total (omega arith))) over
         pick (inr low) = inl (same size ∙ reads size low)
 

@@ -5,9 +5,10 @@ use Rattle.std.specs.List.{AllByRecursion}
 use Rattle.std.proofs.lemmas.List.{append_assoc}
 use Rattle.qpack_spec.specs.Chosen.{chosen_rule}
 use Rattle.qpack_spec.specs.Field.{FieldLine, fields_of_lines}
-use Rattle.qpack_spec.specs.Instruction.{written_encoder_instructions}
+use Rattle.qpack_spec.specs.Instruction.{coded_encoder_instructions}
 use Rattle.qpack_spec.specs.Table.{Table, without_references}
 use Rattle.qpack_spec.specs.WrittenLaws.{IsByteField}
+use Rattle.qpack_spec.specs.Text.{WhereShorter}
 use Rattle.qpack_rules.proofs.ChosenWritten.{chosen_written}
 use Rattle.qpack_spec.proofs.WrittenDrafts.{instructions_fit}
 use Rattle.qpack_safety.specs.AbstractSession.{AbstractSession, abstract_start}
@@ -64,12 +65,12 @@ given_up maximum limit c w e fields k r are short g =
     let some = take g.lines.many fields in
     let cs = g.lines.choices in
     let d = chosen_rule w.encoder some cs in
-    let unsent : e.unsent ≡ written_encoder_instructions d.instructions =
+    let unsent : e.unsent ≡ coded_encoder_instructions WhereShorter d.instructions =
     g.lines.written
-    ∙ ap (λ (b : List ℕ). b ++ written_encoder_instructions (chosen_rule c.encoder.table some cs).instructions)
+    ∙ ap (λ (b : List ℕ). b ++ coded_encoder_instructions WhereShorter (chosen_rule c.encoder.table some cs).instructions)
     r.encoder_sent
-    ∙ ap (λ (t : Table). written_encoder_instructions (chosen_rule t some cs).instructions) r.encoder_is in
-    let fits : length (written_encoder_instructions d.instructions) < 2 ^ 63 =
+    ∙ ap (λ (t : Table). coded_encoder_instructions WhereShorter (chosen_rule t some cs).instructions) r.encoder_is in
+    let fits : length (coded_encoder_instructions WhereShorter d.instructions) < 2 ^ 63 =
     omega (arith, short, length-append c.encoder_stream.written e.unsent, ap length unsent) in
     let wd =
     chosen_written w.encoder some cs (few_insertions 0 maximum limit w k) (first_bytes g.lines.many fields are) in
@@ -77,7 +78,7 @@ given_up maximum limit c w e fields k r are short g =
     w.streams r
     (g.lines.table ∙ ap (λ (t : Table). without_references (chosen_rule t some cs).table) r.encoder_is)
     (ap (λ (y : EncodingEnd). y.stream) g.new_is) unsent
-    (instructions_fit d.instructions wd.instructions fits) refl r.streams
+    (instructions_fit WhereShorter d.instructions wd.instructions fits) refl r.streams
 
 begun_failure : (o : Option ℕ) (d : EncodingEnd) → (begun_with o d).failure ≡ d.failure
 begun_failure None d = refl
@@ -129,7 +130,7 @@ refused_encodes maximum limit c new steps s fields x r alive sound are short cal
         let some = take g.lines.many fields in
         let cs = g.lines.choices in
         let step = Abandon some cs in
-        let written = written_encoder_instructions (chosen_rule (begun c.encoder).table some cs).instructions in
+        let written = coded_encoder_instructions WhereShorter (chosen_rule (begun c.encoder).table some cs).instructions in
         let c1 = with_encoder (begun c.encoder) c in
         let w1 = after_end_steps first.0 w in
         let k = (holds_behind 0 maximum limit first.0 w (holds_behind 0 maximum limit steps start

@@ -136,10 +136,10 @@ first_goes_on t l more words (c ∷ cs) quiet is below few suit =
     let may : (below_limit d.table && has_room d.table l.field) ≡ true =
     rw (lt-ltb (length t.blocked) t.limit below, room) refl in
     let inserts = (wish is.indexable is.not_there).referenced may in
-    let same : c ≡ record { line = Inserts; unreferenced = c.unreferenced } =
-    ap (λ (x : Choice). let y : Chosen = record { line = x; unreferenced = c.unreferenced } in y) inserts in
+    let same : c ≡ record { line = Inserts; unreferenced = c.unreferenced; names = c.names } =
+    ap (λ (x : Choice). let y : Chosen = record { line = x; unreferenced = c.unreferenced; names = c.names } in y) inserts in
     subst (λ (x : Chosen). insert_count t < required_insert_count (chosen_rule t (l ∷ more) (x ∷ cs))) (sym same)
-    (go_on_chosen t l more c.unreferenced cs quiet is.indexable is.fits below few)
+    (go_on_chosen t l more c.unreferenced c.names cs quiet is.indexable is.fits below few)
 
 -- where nothing is under way, a section may be blocked
 quiet_may : (settings : EncoderSettings) (d : EncodingEnd) (s : ℕ) → IsQuiet d.table

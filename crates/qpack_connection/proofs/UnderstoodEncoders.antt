@@ -93,7 +93,7 @@ stays_same settings x y k failure same table stream come told once =
     }
 
 -- the same where the end is one that is known
-stays_as : (settings : DecoderSettings) (x y : Decoder) (d : DecodingEnd) → Stays settings x → y.end ≡ d
+pub stays_as : (settings : DecoderSettings) (x y : Decoder) (d : DecodingEnd) → Stays settings x → y.end ≡ d
     → y.come ≡ x.come → d.failure ≡ x.end.failure → d.settings ≡ x.end.settings → d.table ≡ x.end.table
     → d.stream ≡ x.end.stream → d.reported ≤ insert_count x.end.table → AreOfOneEach d.blocked → Stays settings y
 stays_as settings x y d k is come failure same table stream told once =
@@ -105,7 +105,7 @@ stays_as settings x y d k is come failure same table stream told once =
 
 -- ---- a section is decoded
 
-stays_acknowledged : (settings : DecoderSettings) (x y : Decoder) (s required : ℕ) → Stays settings x
+pub stays_acknowledged : (settings : DecoderSettings) (x y : Decoder) (s required : ℕ) → Stays settings x
     → y.come ≡ x.come → y.end ≡ acknowledged s required x.end → Stays settings y
 stays_acknowledged settings x y s zero k come is =
     stays_as settings x y (acknowledged s 0 x.end) k is come refl refl refl refl k.told
@@ -114,17 +114,17 @@ stays_acknowledged settings x y s (suc many) k come is =
     stays_as settings x y (acknowledged s (suc many) x.end) k is come refl refl refl refl (omega arith)
     (once_without s x.end.blocked k.once)
 
-stays_told : (settings : DecoderSettings) (x y : Decoder) → Stays settings x → y.come ≡ x.come
+pub stays_told : (settings : DecoderSettings) (x y : Decoder) → Stays settings x → y.come ≡ x.come
     → y.end ≡ with_report x.end → Stays settings y
 stays_told settings x y k come is =
     stays_as settings x y (with_report x.end) k is come refl refl refl refl (omega arith) k.once
 
-stays_still : (settings : DecoderSettings) (x y : Decoder) → Stays settings x → y.come ≡ x.come → y.end ≡ x.end
+pub stays_still : (settings : DecoderSettings) (x y : Decoder) → Stays settings x → y.come ≡ x.come → y.end ≡ x.end
     → Stays settings y
 stays_still settings x y k come is = stays_as settings x y x.end k is come refl refl refl refl k.told k.once
 
 -- a call that answers what a section means leaves the end so
-stays_decoded : (settings : DecoderSettings) (x y : Decoder) (s : ℕ) (k : SentSection) (fields : List FieldLine)
+pub stays_decoded : (settings : DecoderSettings) (x y : Decoder) (s : ℕ) (k : SentSection) (fields : List FieldLine)
     (answer : Result Reading DecodingError) (read : StrictReading) → Stays settings x → y.come ≡ x.come
     → AnswersSection x.end s k fields answer → Decodes x.end y.end s read fields answer → Stays settings y
 stays_decoded settings x y s k fields (Ok (reading.Fields required)) read h come answers call =
@@ -150,7 +150,7 @@ stays_decoded settings x y s k fields (Err e) read h come answers call = by_erro
 
 -- ---- a stream is cancelled
 
-cancel_answers : (settings : DecoderSettings) (x y : Decoder) (s : ℕ) (answer : Result ⊤ DecodingError)
+pub cancel_answers : (settings : DecoderSettings) (x y : Decoder) (s : ℕ) (answer : Result ⊤ DecodingError)
     → Stays settings x → Cancels x.end y.end s answer → y.come ≡ x.come
     → Answers (Cancel s answer) x y tt × Stays settings y
 cancel_answers settings x y s (Ok done) h call come = (
@@ -380,7 +380,7 @@ waiting_at_risk p n (b ∷ bs) known h = both (nat_lt n b.required) refl (waitin
     both true e rest = ((b.required, h.0, omega (arith, ltb-true n b.required e, known)), rest)
     both false e rest = rest
 
-may_wait : (p : Encoder) (d : DecodingEnd) (s : ℕ) (k : SentSection) → KeepsToLimit p d s k.required
+pub may_wait : (p : Encoder) (d : DecodingEnd) (s : ℕ) (k : SentSection) → KeepsToLimit p d s k.required
     → p.known ≤ insert_count d.table → AreOfOneEach d.blocked → MayWait d s k
 may_wait p d s k limit known once missing one =
     let n = insert_count d.table in
@@ -389,37 +389,3 @@ may_wait p d s k limit known once missing one =
     (refl, waiting_differ n (s ∷ []) d.blocked once (not_waiting n s d.blocked one.0 once))
     ((k.required, limit.this, omega (arith, missing, known)), waiting_at_risk p n d.blocked known limit.waiting) in
     omega (arith, few, one.1, length-map waiting (λ (b : BlockedStream). b.stream))
-
--- ---- all calls
-
-pub step_answers : (settings : DecoderSettings) (call : Call) (x y : Decoder) → Stays settings x → Step call x y
-    → (asked : IsLawfulCall call x) → Answers call x y asked × Stays settings y
-step_answers settings (Receive bytes left answer) x y k step asked =
-    let r = receive_answers settings x y bytes left answer asked.0 k asked.1 step in (r.0, r.1)
-step_answers settings (Decode s section fields answer) x y k step asked =
-    let p = asked.0 in
-    let stream = subst (λ (c : DecoderSettings). Receives (empty_table 0 (Some c.max_capacity) 0) x.end.table x.come
-    x.end.stream) (sym k.settings_are) k.stream in
-    let read = strict_reading (window x.end.table) x.end.settings.max_section_size section.bytes in
-    let answers = decode_answers x.end y.end s section fields answer read
-    (is_read_as p x.end x.come section asked.1 (taken p x.end x.come asked.1 stream) k.told asked.2)
-    (may_wait p x.end s section asked.3 (omega (arith, asked.1.told, k.told)) k.once) k.alive
-    step.0 in
-    (answers.0, stays_decoded settings x y s section fields answer read k step.1 answers.0 step.0)
-step_answers settings (Cancel s answer) x y k step asked = cancel_answers settings x y s answer k step.0 step.1
-step_answers settings (Sent bytes) x y k step asked = (
-  tt,
-  stays_as settings x y (record x.end { unsent = drop bytes x.end.unsent }) k step.0 step.1 refl refl refl refl
-      k.told k.once,
-)
-
-all_answer : (settings : DecoderSettings) (calls : List Call) (x last : Decoder) (run : Run calls x last)
-    → Stays settings x → (asked : AreLawful calls x last run) → AllAnswer calls x last run asked
-all_answer settings [] x last run k asked = tt
-all_answer settings (call ∷ calls) x last run k asked =
-    let one = step_answers settings call x run.0 k run.1 asked.0 in
-    (one.0, one.1.alive, all_answer settings calls run.0 last run.2 one.1 asked.1)
-
-pub encoders_understood : LawfulEncodersAreUnderstood
-encoders_understood settings calls first last b none run asked =
-    all_answer settings calls first last run (stays_first settings first b none) asked

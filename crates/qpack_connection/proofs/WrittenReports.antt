@@ -26,16 +26,22 @@ use Rattle.qpack_ends.specs.declared.decoder.DecodingError.TheVariants.{NoStream
 use Rattle.qpack_ends.specs.declared.encoder_stream.EncoderStreamError.{EncoderStreamError}
 use Rattle.qpack_ends.specs.declared.section.Reading.{Reading}
 use Rattle.qpack_ends.specs.declared.section.Reading.TheVariants as reading
-use Rattle.qpack_ends.specs.Decoders.{DecodingEnd, acknowledged, with_report, received, cancelled, Checks}
+use Rattle.qpack_ends.specs.declared.section.reader.Progress.{Progress}
+use Rattle.qpack_ends.specs.declared.section.reader.Progress.TheVariants as progress
+use Rattle.qpack_ends.specs.Decoders.{DecodingEnd, acknowledged, blocked_behind, with_report, received, cancelled, Checks}
 use Rattle.qpack_ends.specs.Decoders.{Decodes, Cancels, EndsReceiving, IsNotAnswered, StopsDecoding}
+use Rattle.qpack_ends.specs.PieceDecoders.{ReadsPiece, StopsPiece, Follows, unblocked}
+use Rattle.qpack_ends.specs.Pieces.{ReaderView}
 use Rattle.qpack_connection.specs.Connections.{SentSection}
-use Rattle.qpack_connection.specs.LawfulEncoders.{Decoder, Call, Receive, Decode, Cancel, Sent, Step, Run}
+use Rattle.qpack_connection.specs.LawfulEncoders.{Decoder, Coming, Call, Receive, Decode, Begin, Read as ReadPiece}
+use Rattle.qpack_connection.specs.LawfulEncoders.{Cancel, Sent, Step, Run, AnswersPiece}
 use Rattle.qpack_connection.specs.LawfulEncoders.{IsLawfulCall, AreLawful}
 use Rattle.qpack_connection.specs.LawfulEnds.{sends, all_sent, Releases, AreInOrder}
 use Rattle.qpack_connection.specs.LawfulEnds.{DecodersWriteWhatTheyMay}
 use Rattle.qpack_connection.specs.RefinedDecodes.{AnswersSection}
 use Rattle.qpack_connection.proofs.RefinedDecodes.{refusal_is, stops_for_memory}
-use Rattle.qpack_connection.proofs.UnderstoodEncoders.{Stays, stays_first, receive_answers, step_answers}
+use Rattle.qpack_connection.proofs.UnderstoodCalls.{Holds, holds_first, some_is, step_answers}
+use Rattle.qpack_connection.proofs.UnderstoodEncoders.{receive_answers}
 
 -- ---- increments
 
@@ -286,48 +292,146 @@ cancel_counts x y s (Ok done) call = omega (arith, ap (λ (d : DecodingEnd). ins
 cancel_counts x y s (Err e) (inl stopped) = omega (arith, ap (λ (d : DecodingEnd). insert_count d.table) stopped.1)
 cancel_counts x y s (Err e) (inr stopped) = omega (arith, ap (λ (d : DecodingEnd). insert_count d.table) stopped.3)
 
+-- nothing is written for a piece, but at the end of its section the acknowledgment
+piece_writes : (x y : DecodingEnd) (s : ℕ) (c : Coming) (reader : ReaderView) (bytes left more : List ℕ) (last : Bool)
+    (fields : List FieldLine) (answer : Result Progress DecodingError) (sections others : List UnacknowledgedBlock)
+    (maximum : ℕ) → x.reported ≤ insert_count x.table → c.reader.stream ≡ s
+    → AnswersPiece x s c more left last fields answer → ReadsPiece x y last c.reader reader bytes left fields answer
+    → Releases maximum (ReadPiece s bytes left last fields answer) sections others
+    → WritesMore (ReadPiece s bytes left last fields answer) x y sections others
+    × (insert_count x.table ≤ insert_count y.table)
+piece_writes x y s c reader bytes left more last fields answer sections others maximum told of answers call released =
+    by_answer answer answers call released
+  where
+    -- the end has the same to send, and has received as much
+    none : (a : Result Progress DecodingError) (d : DecodingEnd) → y ≡ d → d.unsent ≡ x.unsent → d.reported ≡ x.reported
+        → d.table ≡ x.table → others ≡ sections
+        → WritesMore (ReadPiece s bytes left last fields a) x y sections others
+        × (insert_count x.table ≤ insert_count y.table)
+    none a d is unsent reported table same = (
+      writes_none (ReadPiece s bytes left last fields a) x y sections others (ap (λ (e : DecodingEnd). e.unsent) is ∙ unsent)
+          (ap (λ (e : DecodingEnd). e.reported) is ∙ reported) same,
+      omega (arith, ap (λ (e : DecodingEnd). insert_count e.table) is, ap insert_count table),
+    )
+
+    report : y ≡ with_report x → others ≡ sections
+        → WritesMore (ReadPiece s bytes left last fields (Err Memory)) x y sections others
+        × (insert_count x.table ≤ insert_count y.table)
+    report is same = (
+      writes_report (ReadPiece s bytes left last fields (Err Memory)) x x y sections others refl refl told is same,
+      omega (arith, ap (λ (e : DecodingEnd). insert_count e.table) is),
+    )
+
+    stopped : (p : Progress) → Follows x y c.reader.stream p (Err Memory) → others ≡ sections
+        → WritesMore (ReadPiece s bytes left last fields (Err Memory)) x y sections others
+        × (insert_count x.table ≤ insert_count y.table)
+    stopped progress.Waits f same = absurd f
+    stopped (progress.Prefix required) f same = absurd f
+    stopped progress.Field f same = absurd f
+    stopped (progress.Blocked required) f same = none (Err Memory) x f.0 refl refl refl same
+    stopped (progress.Ends required) f same = elim f.2 [
+      | inl is ↦ none (Err Memory) x is refl refl refl same
+      | inr is ↦ report is same
+    ]
+
+    by_error : (e : DecodingError) → AnswersPiece x s c more left last fields (Err e)
+        → StopsPiece x y last c.reader reader bytes left fields e → others ≡ sections
+        → WritesMore (ReadPiece s bytes left last fields (Err e)) x y sections others
+        × (insert_count x.table ≤ insert_count y.table)
+    by_error Memory h (inl same) is = none (Err Memory) x same.0 refl refl refl is
+    by_error Memory h (inr u) is = stopped u.progress u.follows is
+    by_error (Section q f) h stops is = absurd h
+    by_error (TooManyBlocked q) h stops is = absurd h
+    by_error (EncoderStream place f) h stops is = absurd h
+    by_error (NoStream q) h u is = no_stream u.progress u.follows
+      where
+        no_stream : (p : Progress) → Follows x y c.reader.stream p (Err (NoStream q))
+            → WritesMore (ReadPiece s bytes left last fields (Err (NoStream q))) x y sections others
+            × (insert_count x.table ≤ insert_count y.table)
+        no_stream progress.Waits f = absurd f
+        no_stream (progress.Prefix required) f = absurd f
+        no_stream progress.Field f = absurd f
+        no_stream (progress.Blocked required) f = absurd f
+        no_stream (progress.Ends required) f = absurd (let e = f.0 in cc)
+
+    by_answer : (a : Result Progress DecodingError) → AnswersPiece x s c more left last fields a
+        → ReadsPiece x y last c.reader reader bytes left fields a
+        → Releases maximum (ReadPiece s bytes left last fields a) sections others
+        → WritesMore (ReadPiece s bytes left last fields a) x y sections others
+        × (insert_count x.table ≤ insert_count y.table)
+    by_answer (Ok progress.Waits) h r same = none (Ok progress.Waits) (unblocked c.reader.stream x) r.1.2 refl refl refl same
+    by_answer (Ok (progress.Prefix n)) h r same =
+        none (Ok (progress.Prefix n)) (unblocked c.reader.stream x) r.1.2 refl refl refl same
+    by_answer (Ok progress.Field) h r same = none (Ok progress.Field) (unblocked c.reader.stream x) r.1.2 refl refl refl same
+    by_answer (Ok (progress.Blocked n)) h r same =
+        none (Ok (progress.Blocked n)) (blocked_behind c.reader.stream n x) r.1.2.1 refl refl refl same
+    by_answer (Ok (progress.Ends zero)) h r same =
+        none (Ok (progress.Ends zero)) (acknowledged c.reader.stream 0 x) r.1.2 refl refl refl same
+    by_answer (Ok (progress.Ends (suc n))) h r released = (
+      writes_acknowledgment (ReadPiece s bytes left last fields (Ok (progress.Ends (suc n)))) x y s n (suc n) sections others
+          refl (omega (arith, r.0.1, of)) told (r.1.2 ∙ ap (λ (q : ℕ). acknowledged q (suc n) x) of) released.0 released.1
+          (omega (arith, h.3, h.4)),
+      omega (arith, ap (λ (e : DecodingEnd). insert_count e.table) r.1.2),
+    )
+    by_answer (Err e) h (inl not) same = none (Err e) x not.0.1 refl refl refl same
+    by_answer (Err e) h (inr stopped) same = by_error e h stopped.1 same
+
 -- what holds after a call: it wrote what it may, no fewer insertions were received, and what holds between calls
 record StepWrites (settings : DecoderSettings) (call : Call) (x y : Decoder)
     (sections others : List UnacknowledgedBlock) : Type 0 where
   pub writes : WritesMore call x.end y.end sections others
   pub counts : insert_count x.end.table ≤ insert_count y.end.table
-  pub stays : Stays settings y
+  pub holds : Holds settings y
 
 step_writes : (settings : DecoderSettings) (call : Call) (x y : Decoder) (sections others : List UnacknowledgedBlock)
-    → Stays settings x → Step call x y → IsLawfulCall call x → Releases settings.max_capacity call sections others
+    → Holds settings x → Step call x y → IsLawfulCall call x → Releases settings.max_capacity call sections others
     → StepWrites settings call x y sections others
 step_writes settings (Receive bytes left answer) x y sections others k step asked released =
-    let r = receive_answers settings x y bytes left answer asked.0 k asked.1 step in
-    let call = step.0 k.alive _ x.come k.stream in
+    let r = receive_answers settings x y bytes left answer asked.0 k.stays asked.1 step in
+    let call = step.0 k.stays.alive _ x.come k.stays.stream in
     record {
       writes = receive_writes (Receive bytes left answer) x.end y.end sections others call.taken answer refl
-          (omega (arith, k.told, r.2)) call.ends released;
+          (omega (arith, k.stays.told, r.2)) call.ends released;
       counts = r.2;
-      stays = r.1;
+      holds = (step_answers settings (Receive bytes left answer) x y k step asked).1;
     }
 step_writes settings (Decode s section fields answer) x y sections others k step asked released =
     let r = step_answers settings (Decode s section fields answer) x y k step asked in
     record {
       writes = decode_writes x.end y.end s section fields answer
           (strict_reading (window x.end.table) x.end.settings.max_section_size section.bytes) sections others
-          settings.max_capacity k.told r.0 step.0 released;
+          settings.max_capacity k.stays.told r.0 step.0 released;
       counts = decode_counts x.end y.end s section fields answer
           (strict_reading (window x.end.table) x.end.settings.max_section_size section.bytes) r.0 step.0;
-      stays = r.1;
+      holds = r.1;
     }
+step_writes settings (Begin s section) x y sections others k step asked released =
+    record {
+      writes = writes_none (Begin s section) x.end y.end sections others (ap (λ (d : DecodingEnd). d.unsent) step.0)
+          (ap (λ (d : DecodingEnd). d.reported) step.0) released;
+      counts = omega (arith, ap (λ (d : DecodingEnd). insert_count d.table) step.0);
+      holds = (step_answers settings (Begin s section) x y k step asked).1;
+    }
+step_writes settings (ReadPiece s bytes left last fields answer) x y sections others k step asked released =
+    let r = step_answers settings (ReadPiece s bytes left last fields answer) x y k step asked in
+    let w = piece_writes x.end y.end s step.0.coming step.0.reader bytes left asked.more last fields answer sections others
+    settings.max_capacity k.stays.told (k.goes s step.0.coming step.0.is).of_stream
+    (subst (λ (c : Coming). AnswersPiece x.end s c asked.more left last fields answer)
+    (some_is asked.coming step.0.coming (x.coming s) asked.is step.0.is) r.0) step.0.reads released in
+    record { writes = w.0; counts = w.1; holds = r.1 }
 step_writes settings (Cancel s answer) x y sections others k step asked released =
     let r = step_answers settings (Cancel s answer) x y k step asked in
     record {
-      writes = cancel_writes settings x.end y.end s answer sections others k.settings_are step.0 released;
+      writes = cancel_writes settings x.end y.end s answer sections others k.stays.settings_are step.0 released;
       counts = cancel_counts x.end y.end s answer step.0;
-      stays = r.1;
+      holds = r.1;
     }
 step_writes settings (Sent many) x y sections others k step asked released =
     record {
       writes = writes_none (Sent many) x.end y.end sections others (ap (λ (d : DecodingEnd). d.unsent) step.0)
           (ap (λ (d : DecodingEnd). d.reported) step.0) released;
       counts = omega (arith, ap (λ (d : DecodingEnd). insert_count d.table) step.0);
-      stays = (step_answers settings (Sent many) x y k step asked).1;
+      holds = (step_answers settings (Sent many) x y k step asked).1;
     }
 
 -- ---- all calls
@@ -345,11 +449,13 @@ record AllWrite (x last : DecodingEnd) (sections : List UnacknowledgedBlock) (al
 sent_and_left : (call : Call) (d : DecodingEnd) → sends call d ++ left_of call d.unsent ≡ d.unsent
 sent_and_left (Receive bytes left answer) d = refl
 sent_and_left (Decode s section fields answer) d = refl
+sent_and_left (Begin s section) d = refl
+sent_and_left (ReadPiece s bytes left last fields answer) d = refl
 sent_and_left (Cancel s answer) d = refl
 sent_and_left (Sent many) d = take-append-drop many d.unsent
 
 all_write : (settings : DecoderSettings) (calls : List Call) (x last : Decoder) (sections : List UnacknowledgedBlock)
-    (run : Run calls x last) → Stays settings x → AreLawful calls x last run
+    (run : Run calls x last) → Holds settings x → AreLawful calls x last run
     → AreInOrder settings.max_capacity calls sections
     → AllWrite x.end last.end sections (all_sent calls x last run ++ last.end.unsent)
 all_write settings [] x last sections run k asked order =
@@ -365,7 +471,7 @@ all_write settings (call ∷ calls) x last sections run k asked order =
     let y = run.0 in
     let one = step_writes settings call x y sections order.0 k run.1 asked.0 order.1 in
     let w = one.writes in
-    let rest = all_write settings calls y last order.0 run.2 one.stays asked.1 order.2 in
+    let rest = all_write settings calls y last order.0 run.2 one.holds asked.1 order.2 in
     let sent = sends call x.end in
     let left = left_of call x.end.unsent in
     record {
@@ -383,8 +489,8 @@ all_write settings (call ∷ calls) x last sections run k asked order =
     }
 
 pub decoders_may : DecodersWriteWhatTheyMay
-decoders_may settings calls first last sections begins none run asked order =
-    let all = all_write settings calls first last sections run (stays_first settings first begins none) asked order in
+decoders_may settings calls first last sections begins none no_section run asked order =
+    let all = all_write settings calls first last sections run (holds_first settings first begins none no_section) asked order in
     record {
       instructions = all.instructions;
       spelled = subst (λ (b : List ℕ). SpellsAll SpellsDecoderInstruction b all.instructions)

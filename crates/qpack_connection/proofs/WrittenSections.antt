@@ -13,9 +13,9 @@ use Rattle.qpack_spec.specs.History.{History, window_of, whole_window, Leads}
 use Rattle.qpack_rules.specs.LawfulEncoders.{IsInsertion, MeansLine, MayBeReferenced, SpellsField}
 use Rattle.qpack_rules.specs.LawfulEncoders.{TellsPrefix, IsLawfulSection}
 use Rattle.qpack_spec.specs.Line.{Line, IndexedStatic, IndexedDynamic, IndexedPostBase, NamedStatic, NamedDynamic}
-use Rattle.qpack_spec.specs.Line.{NamedPostBase, Literal, SpellsLine, written_lines, written_marked_line}
-use Rattle.qpack_spec.specs.Marked.{stateless_block_marked, stateless_line_marked, written_marked_lines}
-use Rattle.qpack_spec.specs.Marked.{written_marked_block}
+use Rattle.qpack_spec.specs.Line.{NamedPostBase, Literal, SpellsLine, coded_lines, coded_marked_line}
+use Rattle.qpack_spec.specs.Marked.{stateless_block_marked, stateless_line_marked, coded_marked_lines}
+use Rattle.qpack_spec.specs.Marked.{coded_marked_block}
 use Rattle.qpack_spec.specs.MarkedLaws.{AreLiteralsWhereMarked}
 use Rattle.qpack_spec.specs.Prefix.{Prefix, SpellsPrefix, most_entries, prefix_for, written_prefix}
 use Rattle.qpack_spec.specs.Reading.{Fault, or_fault, static_field, relative_field, post_base_field, field_with_value}
@@ -26,7 +26,8 @@ use Rattle.qpack_spec.specs.Stream.{SpellsAll}
 use Rattle.qpack_spec.specs.StrictReading.{is_never_indexed}
 use Rattle.qpack_spec.specs.Table.{Table, insert_count, has_number, window}
 use Rattle.qpack_spec.specs.Window.{Window, with_value, maximum_capacity}
-use Rattle.qpack_spec.specs.WrittenLaws.{IsByteField, IsByteLine, IsWritableLine}
+use Rattle.qpack_spec.specs.WrittenLaws.{IsByteField, IsByteLine, IsWritableLineUnder}
+use Rattle.qpack_spec.specs.Text.{WhereShorter}
 use Rattle.qpack_rules.proofs.AloneSections.{lines_alone, none_referenced, literals_alone, written_alone}
 use Rattle.qpack_spec.proofs.BlockReadings.{prefix_spelled}
 use Rattle.qpack_rules.proofs.ChosenDrafts.{chosen_drafts}
@@ -215,11 +216,11 @@ line_is made base (Literal n v) f h = sym (ok_is (record { name = n; value = v }
 -- ---- what is written of lines
 
 lines_within : (made : History) (entries : List ℕ) (base : ℕ) (ls : List Line) (fs : List FieldLine)
-    → AllByRecursion IsWritableLine ls → AreLiteralsWhereMarked fs ls
+    → AllByRecursion (IsWritableLineUnder WhereShorter) ls → AreLiteralsWhereMarked fs ls
     → AllByRecursion (λ a. has_number a entries ≡ true) (references_of base ls)
     → fields_of (whole_window made) base ls ≡ Ok (fields_of_lines fs)
-    → SpellsAll (SpellsWithin made.inserted entries base) (written_marked_lines fs ls) fs
-unfolding written_marked_lines written_lines references_of fields_of
+    → SpellsAll (SpellsWithin made.inserted entries base) (coded_marked_lines WhereShorter fs ls) fs
+unfolding coded_marked_lines coded_lines references_of fields_of
 lines_within made entries base [] [] w literal within means = refl
 lines_within made entries base [] (f ∷ fs) w literal within means = absurd cc
 lines_within made entries base (l ∷ ls) [] w literal within means =
@@ -230,15 +231,15 @@ lines_within made entries base (l ∷ ls) (f ∷ fs) w literal within means =
     (f.field ∷ fields_of_lines fs) means in
     let one : p.0 ≡ f.field = let e = p.4 in cc in
     let others : p.1 ≡ fields_of_lines fs = let e = p.4 in cc in
-    let s = marked_lines_spelled f.never_indexed l w.0 literal.0 in (
-      written_marked_line f.never_indexed l,
-      written_marked_lines fs ls,
+    let s = marked_lines_spelled WhereShorter f.never_indexed l w.0 literal.0 in (
+      coded_marked_line WhereShorter f.never_indexed l,
+      coded_marked_lines WhereShorter fs ls,
       refl,
       record {
         line = l;
         spelled = s;
         means = line_is made base l f.field (p.2 ∙ ap (λ (x : Field). Ok x) one);
-        marked = line_tells f.never_indexed l w.0 literal.0 s.first s.more s.begins;
+        marked = line_tells WhereShorter f.never_indexed l w.0 literal.0 s.first s.more s.begins;
         references = every_left (λ a. has_number a entries ≡ true) (references_of_line base l) (references_of base ls)
             within;
       },
@@ -318,9 +319,9 @@ lines_section : (maximum : ℕ) (made : History) (entries : List ℕ) (base : �
     → fields_of (whole_window made) base ls ≡ Ok (fields_of_lines fs)
     → (0 < greatest_of entries → 0 < maximum) → greatest_of entries ≤ 2 ^ 62 → base ≤ 2 ^ 62
     → (greatest_of entries ≡ 0 → entries ≡ [])
-    → length (written_prefix (prefix_for maximum (greatest_of entries) base) ++ written_marked_lines fs ls) < 2 ^ 63
+    → length (written_prefix (prefix_for maximum (greatest_of entries) base) ++ coded_marked_lines WhereShorter fs ls) < 2 ^ 63
     → IsWithin maximum made.inserted entries fs
-    (written_prefix (prefix_for maximum (greatest_of entries) base) ++ written_marked_lines fs ls)
+    (written_prefix (prefix_for maximum (greatest_of entries) base) ++ coded_marked_lines WhereShorter fs ls)
 lines_section maximum made entries base ls fs bytes literal within means some few low nothing short =
     by (greatest_of entries) refl
   where
@@ -330,22 +331,22 @@ lines_section maximum made entries base ls fs bytes literal within means some fe
     tells : TellsPrefix maximum (greatest_of entries) (base_of (greatest_of entries) base) p
     tells = tells_written maximum (greatest_of entries) base some
 
-    writable : AllByRecursion IsWritableLine ls
+    writable : AllByRecursion (IsWritableLineUnder WhereShorter) ls
     writable =
-        lines_fit ls bytes
-        (omega (arith, short, length-append (written_prefix p) (written_marked_lines fs ls), lines_length fs ls))
+        lines_fit WhereShorter ls bytes
+        (omega (arith, short, length-append (written_prefix p) (coded_marked_lines WhereShorter fs ls), lines_length WhereShorter fs ls))
 
     from : (at : ℕ) → at ≤ 2 ^ 62 → TellsPrefix maximum (greatest_of entries) at p
         → AllByRecursion (λ a. has_number a entries ≡ true) (references_of at ls)
         → fields_of (whole_window made) at ls ≡ Ok (fields_of_lines fs)
-        → IsWithin maximum made.inserted entries fs (written_prefix p ++ written_marked_lines fs ls)
+        → IsWithin maximum made.inserted entries fs (written_prefix p ++ coded_marked_lines WhereShorter fs ls)
     from at small told among all =
         record {
           base = at;
           small = omega (arith, small);
           prefix = p;
           head = written_prefix p;
-          tail = written_marked_lines fs ls;
+          tail = coded_marked_lines WhereShorter fs ls;
           cut = refl;
           prefix_spelled = prefix_spelled p (prefix_small maximum (greatest_of entries) base few low);
           tells = told;
@@ -353,7 +354,7 @@ lines_section maximum made entries base ls fs bytes literal within means some fe
         }
 
     by : (required : ℕ) → greatest_of entries ≡ required
-        → IsWithin maximum made.inserted entries fs (written_prefix p ++ written_marked_lines fs ls)
+        → IsWithin maximum made.inserted entries fs (written_prefix p ++ coded_marked_lines WhereShorter fs ls)
     by zero e =
         let none : references_of base ls ≡ [] =
         none_among (references_of base ls)
@@ -401,13 +402,13 @@ pub record Drafted (maximum : ℕ) (made : History) (t : Table) (fields : List F
   pub references : KeepsReferences t (chosen_rule t fields cs)
   pub referenced : AllByRecursion (IsLive (chosen_rule t fields cs).table) (chosen_rule t fields cs).table.referenced
   pub section : AllByRecursion IsByteField (fields_of_lines fields)
-      → length (written_marked_block fields (block_of t (chosen_rule t fields cs))) < 2 ^ 63
+      → length (coded_marked_block WhereShorter fields (block_of t (chosen_rule t fields cs))) < 2 ^ 63
       → IsWithin maximum history.inserted (chosen_rule t fields cs).table.referenced fields
-      (written_marked_block fields (block_of t (chosen_rule t fields cs)))
+      (coded_marked_block WhereShorter fields (block_of t (chosen_rule t fields cs)))
 
 pub drafted : (maximum : ℕ) (made : History) (t : Table) (fields : List FieldLine) (cs : List Chosen) → Sound made
     → Agreed maximum made → KeepsTable made t → Drafted maximum made t fields cs
-unfolding written_marked_block
+unfolding coded_marked_block
 drafted maximum made t fields cs sound agreed kept =
     record {
       history = p.history;
@@ -419,7 +420,7 @@ drafted maximum made t fields cs sound agreed kept =
       section = λ are short.
           let w = chosen_written t fields cs few are in
           subst (λ (n : ℕ). IsWithin maximum p.history.inserted entries fields
-          (written_prefix (prefix_for n (greatest_of entries) (insert_count t)) ++ written_marked_lines fields d.lines))
+          (written_prefix (prefix_for n (greatest_of entries) (insert_count t)) ++ coded_marked_lines WhereShorter fields d.lines))
           (sym most)
           (lines_section maximum p.history entries (insert_count t) d.lines fields w.lines
           (chosen_have_lines t fields cs).0
@@ -427,7 +428,7 @@ drafted maximum made t fields cs sound agreed kept =
           (subst (AllByRecursion (λ a. has_number a entries ≡ true)) (sym p.references.refs) (has_each entries))).1
           p.means some (omega (arith, w.few, bound)) few (none_live d.table entries p.referenced)
           (subst (λ (n : ℕ). length (written_prefix (prefix_for n (greatest_of entries) (insert_count t))
-          ++ written_marked_lines fields d.lines) < 2 ^ 63) most short));
+          ++ coded_marked_lines WhereShorter fields d.lines) < 2 ^ 63) most short));
     }
   where
     d : Draft
@@ -463,9 +464,9 @@ drafted maximum made t fields cs sound agreed kept =
 
 pub alone_within : (maximum : ℕ) (made : History) (fields : List FieldLine)
     → AllByRecursion IsByteField (fields_of_lines fields)
-    → length (written_marked_block fields (stateless_block_marked fields)) < 2 ^ 63
-    → IsWithin maximum made.inserted [] fields (written_marked_block fields (stateless_block_marked fields))
-unfolding written_marked_block greatest_of prefix_for
+    → length (coded_marked_block WhereShorter fields (stateless_block_marked fields)) < 2 ^ 63
+    → IsWithin maximum made.inserted [] fields (coded_marked_block WhereShorter fields (stateless_block_marked fields))
+unfolding coded_marked_block greatest_of prefix_for
 alone_within maximum made fields are short =
     lines_section maximum made [] 0 (map (λ l. stateless_line_marked l) fields) fields
     (written_alone (whole_window made) fields are) (literals_alone (whole_window made) fields)

@@ -5,13 +5,16 @@
 -- code. What they say up to some event is kept in one record, `SoFar`:
 --   * of each stream the sections that were passed to encodes and not decoded yet, in order, each with its fields,
 --     their marks, and the required insert count that its encode returned; and whether the stream was cancelled;
---   * how many insertions the decoding end last returned that it received, whether its last delivery returned that, and
---     the greatest required insert count that an encode returned; and whether an encode was done;
---   * which streams wait.
+--   * how many insertions the decoding end is known to have received, and how many it is known not to have; the greatest
+--     required insert count that an encode returned; and whether an encode was done;
+--   * which streams may wait.
 -- `Answers` says what the outcome of an event may be, by what was kept before it. `after` is what is kept after it.
--- `EventsAnswerWhatWasHanded`, at the end, asks that of each event in turn, and that no more streams wait than may.
-use Rattle.std.specs.Prelude.{◌≡◌, ◌<◌, ◌≤◌, ◌^◌, ℕ, max, ⊤, Bool, true, false, not, if◌then◌else◌, nat_eq, nat_lt}
-use Rattle.std.specs.Prelude.{List, [], ◌∷◌, ◌++◌, length, drop, filter, Result, Ok, Err}
+-- `EventsAnswerWhatWasHanded`, at the end, asks that of each event in turn, and that no more streams are known to wait
+-- than may.
+use Rattle.std.specs.Prelude.{◌≡◌, ◌<◌, ◌≤◌, ◌^◌, ℕ, suc, min, max, ⊤, Bool, true, false, not, if◌then◌else◌, nat_eq}
+use Rattle.std.specs.Prelude.{nat_le, nat_lt, List, [], ◌∷◌, ◌++◌, length, drop, filter, Option, None, Some, Result, Ok}
+use Rattle.std.specs.Prelude.{Err}
+use Rattle.std.specs.Option.{IfSome}
 use Rattle.qpack_spec.specs.Field.{FieldLine, fields_of_lines, total_size}
 use Rattle.qpack_spec.specs.Stateless.{saturated_size}
 use Rattle.qpack_ends.specs.declared.blocked.BlockedStream.{BlockedStream}
@@ -44,13 +47,13 @@ pub record HandedStream : Type 0 where
   pub sections : List HandedSection
   pub cancelled : Bool
 
--- each stream; how many insertions the decoding end last returned that it received; whether the last delivery returned
--- that number; the greatest required insert count that an encode returned; whether an encode was done; and the streams
--- that wait, each with the required insert count of its section
+-- each stream; how many insertions the decoding end has received at least; a number that it has not received, if one is
+-- known; the greatest required insert count that an encode returned; whether an encode was done; and the streams that may
+-- wait, each with the required insert count of its section
 pub record SoFar : Type 0 where
   pub streams : ℕ → HandedStream
   pub received : ℕ
-  pub is_current : Bool
+  pub below : Option ℕ
   pub required : ℕ
   pub has_encoded : Bool
   pub waiting : List BlockedStream
@@ -61,7 +64,7 @@ nothing_yet =
     record {
       streams = λ s. record { sections = []; cancelled = false };
       received = 0;
-      is_current = true;
+      below = Some 1;
       required = 0;
       has_encoded = false;
       waiting = [];
@@ -75,9 +78,20 @@ with_handed s stream streams q = if nat_eq s q then stream else streams q
 abbrev pub others : ℕ → List BlockedStream → List BlockedStream
 others s waiting = filter (λ w. not (nat_eq w.stream s)) waiting
 
+-- those that wait for certain: their sections require a number of insertions that was not received
+abbrev pub known_to_wait : Option ℕ → List BlockedStream → List BlockedStream
+known_to_wait None waiting = []
+known_to_wait (Some n) waiting = filter (λ w. nat_le n w.required) waiting
+
+-- a number, or another one if it is less
+abbrev pub least_of : ℕ → Option ℕ → ℕ
+least_of n None = n
+least_of n (Some m) = min n m
+
 -- what is kept after an event with this outcome. A section is added at the end, and goes from the front once it is
--- decoded. A stream waits from the outcome that says so until enough insertions are returned, or its section is decoded
--- or refused, or the stream is cancelled. After a delivery for which memory was refused no stream is known to wait
+-- decoded. A stream may wait from the outcome that says so until enough insertions are returned, or its section is decoded
+-- or refused, or the stream is cancelled. A delivery for which memory was refused may have received any number more; a
+-- section that waits after it shows a number that was not received
 abbrev pub after : Event → Outcome → SoFar → SoFar
 after (event.Encode s fields) (outcome.Encoded (Ok required)) h =
     record h {
@@ -89,15 +103,19 @@ after (event.Encode s fields) (outcome.Encoded (Ok required)) h =
     }
 after (event.Encode s fields) (outcome.Encoded (Err e)) h = record h { has_encoded = true }
 after (event.ToDecoder many) (outcome.Delivered (Ok total)) h =
-    record h { received = total; is_current = true; waiting = filter (λ w. nat_lt total w.required) h.waiting }
-after (event.ToDecoder many) (outcome.Delivered (Err e)) h = record h { is_current = false; waiting = [] }
+    record h { received = total; below = Some (suc total); waiting = filter (λ w. nat_lt total w.required) h.waiting }
+after (event.ToDecoder many) (outcome.Delivered (Err e)) h = record h { below = None }
 after (event.Decode s) (outcome.Decoded (Ok (reading.Fields required)) fields) h =
     record h {
       streams = with_handed s (record (h.streams s) { sections = drop 1 (h.streams s).sections }) h.streams;
+      received = max h.received required;
       waiting = others s h.waiting;
     }
 after (event.Decode s) (outcome.Decoded (Ok (reading.Blocked required)) fields) h =
-    record h { waiting = record { stream = s; required = required } ∷ others s h.waiting }
+    record h {
+      below = Some (least_of required h.below);
+      waiting = record { stream = s; required = required } ∷ others s h.waiting;
+    }
 after (event.Decode s) (outcome.Decoded (Err (decoding.Section q e)) fields) h =
     record h { waiting = others s h.waiting }
 after (event.Cancel s) (outcome.Cancelled (Ok done)) h =
@@ -140,12 +158,12 @@ IsOfLimit section.TooLong = Unit {0}
 IsOfLimit (section.Line number offset (line.TooLarge sum)) = Unit {0}
 IsOfLimit e = ⊥
 
--- the next section of a stream returns exactly the fields that were passed, with their marks. It waits exactly while
--- fewer insertions were received than it requires. Or the sizes of its fields are past the decoding end's own limit, or
+-- the next section of a stream returns exactly the fields that were passed, with their marks, unless it requires a number
+-- of insertions that was not received. It waits only if it requires more than are known to be received. Or the sizes of its fields are past the decoding end's own limit, or
 -- memory was refused. No field is given unless fields are returned. A sum of sizes saturates at 2^64 - 1
 abbrev pub AnswersSection : ℕ → SoFar → ℕ → HandedSection → Result Reading DecodingError → List FieldLine → Type 0
 AnswersSection limit h s next (Ok (reading.Fields required)) fields =
-    (fields ≡ next.fields) × (required ≡ next.required) × (h.is_current ≡ true → next.required ≤ h.received)
+    (fields ≡ next.fields) × (required ≡ next.required) × IfSome h.below (λ n. next.required < n)
     × (saturated_size (total_size (fields_of_lines next.fields)) ≤ limit)
 AnswersSection limit h s next (Ok (reading.Blocked required)) fields =
     (fields ≡ []) × (required ≡ next.required) × (h.received < next.required)
@@ -193,11 +211,12 @@ Answers settings h e o = ⊥
 
 -- ---- the headline
 
--- each event in turn has such an outcome, and after it no more streams wait than may
+-- each event in turn has such an outcome, and after it no more streams are known to wait than may
 abbrev pub AllAnswer : ConnectionSettings → SoFar → List Event → List Outcome → Type 0
 AllAnswer settings h [] [] = Unit {0}
 AllAnswer settings h (e ∷ es) (o ∷ os) =
-    Answers settings h e o × (length (after e o h).waiting ≤ settings.decoder.max_blocked)
+    Answers settings h e o
+    × (length (known_to_wait (after e o h).below (after e o h).waiting) ≤ settings.decoder.max_blocked)
     × AllAnswer settings (after e o h) es os
 AllAnswer settings h es os = ⊥
 

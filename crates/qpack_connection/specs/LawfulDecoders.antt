@@ -6,10 +6,11 @@ use Rattle.std.specs.Option.{IfSome}
 use Rattle.qpack_spec.specs.Field.{FieldLine}
 use Rattle.qpack_spec.specs.Instruction.{DecoderInstruction, SpellsDecoderInstruction}
 use Rattle.qpack_rules.specs.LawfulDecoders.{MayWrite, KeepsNeeded, IsQuiet, IsToBeInserted}
-use Rattle.qpack_spec.specs.Marked.{written_marked_block}
+use Rattle.qpack_spec.specs.Marked.{coded_marked_block}
 use Rattle.qpack_spec.specs.Reading.{Block, references_of}
 use Rattle.qpack_spec.specs.Stream.{SpellsAll}
 use Rattle.qpack_spec.specs.Table.{insert_count, with_numbers, with_unacknowledged}
+use Rattle.qpack_spec.specs.Text.{WhereShorter}
 use Rattle.qpack_ends.specs.declared.encoder.EncoderSettings.{EncoderSettings}
 use Rattle.qpack_ends.specs.declared.encoder.EncodingError.{EncodingError}
 use Rattle.qpack_ends.specs.Encoders.{EncodingEnd, IsUnused, begun, is_full, Encodes, SetsCapacity, StopsTelling}
@@ -61,7 +62,7 @@ pub record IsCareful (settings : EncoderSettings) (e : EncodingEnd) : Type 0 whe
 pub record CountsSection (old new : EncodingEnd) (stream : ℕ) (fields : List FieldLine) (section : List ℕ) :
     Type 0 where
   pub block : Block
-  pub written : section ≡ written_marked_block fields block
+  pub written : section ≡ coded_marked_block WhereShorter fields block
   pub counted : new.table.unacknowledged
       ≡ with_unacknowledged old.table.unacknowledged stream
       (with_numbers [] (references_of (insert_count old.table) block.lines))

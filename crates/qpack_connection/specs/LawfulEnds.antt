@@ -2,7 +2,7 @@
 -- 2.2, 3.2 and 4.3 to 4.5). All that an encoding end wrote is lawful, whatever its peer writes. A decoding end writes
 -- what it may.
 use Rattle.std.specs.Prelude.{◌≡◌, ◌<◌, ◌≤◌, ◌^◌, ℕ, zero, suc, if◌then◌else◌, not, nat_eq, List, [], ◌∷◌, ◌++◌}
-use Rattle.std.specs.Prelude.{length, map, take, Some, Ok}
+use Rattle.std.specs.Prelude.{length, map, take, None, Some, Ok}
 use Rattle.std.specs.List.{AllByRecursion, filter}
 use Rattle.qpack_spec.specs.Field.{FieldLine, fields_of_lines}
 use Rattle.qpack_spec.specs.History.{History}
@@ -18,6 +18,7 @@ use Rattle.qpack_safety.specs.Refines.{Agrees}
 use Rattle.qpack_ends.specs.declared.encoder.EncoderSettings.{EncoderSettings}
 use Rattle.qpack_ends.specs.declared.decoder.DecoderSettings.{DecoderSettings}
 use Rattle.qpack_ends.specs.declared.section.Reading.TheVariants as reading
+use Rattle.qpack_ends.specs.declared.section.reader.Progress.TheVariants as progress
 use Rattle.qpack_ends.specs.Decoders.{DecodingEnd, Begins}
 use Rattle.qpack_ends.specs.Encoders.{EncodingEnd, IsUnused}
 use Rattle.qpack_connection.specs.LawfulDecoders.{Call, Encode, Receive, Sent, Step, Run}
@@ -188,11 +189,13 @@ all_sent [] old new run = []
 all_sent (call ∷ calls) old new run = sends call old.end ++ all_sent calls run.0 new run.2
 
 -- of the sections of its peer that are neither acknowledged nor cancelled, those that are so after a call (sections
--- 2.2.2.1 and 2.2.2.2). A section that is decoded and requires insertions is the oldest of its stream. A stream that is
--- cancelled has none; at a maximum of 0 no cancellation is written
+-- 2.2.2.1 and 2.2.2.2). A section that is decoded, or ends in pieces, and requires insertions is the oldest of its stream.
+-- A stream that is cancelled has none; at a maximum of 0 no cancellation is written
 abbrev pub Releases : ℕ → decoding.Call → List UnacknowledgedBlock → List UnacknowledgedBlock → Type 0
 Releases maximum (decoding.Decode s section fields (Ok (reading.Fields (suc n)))) sections others =
     (oldest_required s sections ≡ Some section.required) × (without_oldest s sections ≡ Some others)
+Releases maximum (decoding.Read s bytes left last fields (Ok (progress.Ends (suc n)))) sections others =
+    (oldest_required s sections ≡ Some (suc n)) × (without_oldest s sections ≡ Some others)
 Releases maximum (decoding.Cancel s (Ok done)) sections others =
     others ≡ (if nat_eq maximum 0 then sections else without_stream s sections)
 Releases maximum call sections others = others ≡ sections
@@ -216,7 +219,7 @@ abbrev pub DecodersWriteWhatTheyMay : Type 0
 DecodersWriteWhatTheyMay =
     (settings : DecoderSettings) (calls : List decoding.Call) (first last : Decoder)
     (sections : List UnacknowledgedBlock) → Begins settings first.end → first.come ≡ []
-    → (run : decoding.Run calls first last) → decoding.AreLawful calls first last run
+    → ((s : ℕ) → first.coming s ≡ None) → (run : decoding.Run calls first last) → decoding.AreLawful calls first last run
     → AreInOrder settings.max_capacity calls sections
     → WritesWhatItMay (insert_count last.end.table) sections (all_sent calls first last run ++ last.end.unsent)
 

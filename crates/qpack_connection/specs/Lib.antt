@@ -24,6 +24,7 @@ pub mod Headline
 pub mod ArrivedSections
 pub mod SettledSections
 pub mod LawfulRows
+pub mod PieceRows
 pub mod LawfulEnds
 pub mod LateSettings
 pub mod RecordedRows

@@ -7,6 +7,7 @@ use Rattle.qpack_rules.specs.Session.{RequestStream, stream_at}
 use Rattle.qpack_spec.specs.Stream.{SpellsAll}
 use Rattle.qpack_spec.specs.Table.{empty_table, table_of, insert_count}
 use Rattle.qpack_spec.specs.WrittenLaws.{IsByteField}
+use Rattle.qpack_spec.specs.Text.{WhereShorter}
 use Rattle.qpack_safety.specs.AbstractSession.{AbstractBlock, required_count, AbstractStream, AbstractSession}
 use Rattle.qpack_safety.specs.AbstractSession.{abstract_start}
 use Rattle.qpack_safety.specs.HandedSections.{IsBlockOf, section_of}
@@ -25,7 +26,7 @@ received_of w = take w.received w.written
 -- a section's bytes are those of its block, and so is its count; the block is of its fields, which are bytes, and it
 -- takes fewer than 2^63
 pub record RefinesSection (k : SentSection) (b : AbstractBlock) : Type 0 where
-  pub bytes_are : k.bytes ≡ section_of k.fields b
+  pub bytes_are : k.bytes ≡ section_of WhereShorter k.fields b
   pub required_is : k.required ≡ required_count b
   pub block_is : IsBlockOf k.fields b
   pub are_bytes : AllByRecursion IsByteField (fields_of_lines k.fields)

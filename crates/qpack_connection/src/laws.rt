@@ -14,6 +14,7 @@ ghost use Rattle.qpack_connection.specs.LawfulEnds.{EncodersAreWriters, HeardFro
 ghost use Rattle.qpack_connection.specs.LawfulRows.{AppendixEncoderIsLawful, AppendixSectionsAreLawful};
 ghost use Rattle.qpack_connection.specs.LawfulRows.{AppendixDecoderIsLawful, AppendixSectionsAreInOrder};
 ghost use Rattle.qpack_connection.specs.LawfulRows.{AppendixDecoderIsPeer};
+ghost use Rattle.qpack_connection.specs.PieceRows.{AppendixPiecesAreLawful};
 ghost use Rattle.qpack_connection.specs.LawfulPieces.{EncoderStreamsAreNeverRefused, DecoderStreamsAreNeverRefused};
 ghost use Rattle.qpack_connection.specs.RefinedConnections.{NewConnectionsAreRefined, EncodesAreRefined};
 ghost use Rattle.qpack_connection.specs.RefinedConnections.{CapacitiesAreRefined, CancellationsAreRefined};
@@ -61,7 +62,8 @@ pub fn two_ends_answer_what_was_handed()
 /// spelling, with any cuts of its stream, and any refusals of memory (RFC 9204, sections 2.1, 2.2, 3.2 and 4.3 to 4.5).
 /// Nothing of the encoder stream is refused. Each section that is not acknowledged is decoded to exactly the fields
 /// that it means by the insertions that the encoder made, with their marks, or waits for as many insertions as it
-/// requires, while fewer were received. No error ends the connection.
+/// requires, while fewer were received. A section that comes in pieces, with any cuts, gives these fields in turn, and
+/// then its end, if their sizes are within the decoder's limit. No error ends the connection.
 pub fn lawful_encoders_are_understood()
     ensures { LawfulEncodersAreUnderstood }
 {}
@@ -108,11 +110,12 @@ pub fn sections_settle()
 
 /// What the laws ask of a peer is met by the ends of RFC 9204, appendix B, at each of its moments: its encoder stream,
 /// however it is cut; its sections, also marked ones, those with a base above, at and below their count, and those that
-/// wait; and its decoder stream, also if more than one insertion is reported at once. Its sections are decoded in
-/// order, and its decoder is a peer of its encoder.
+/// wait; the pieces of a section, byte for byte; and its decoder stream, also if more than one insertion is reported at
+/// once. Its sections are decoded in order, and its decoder is a peer of its encoder.
 pub fn ends_of_the_standard_are_lawful()
     ensures encoder_stream { AppendixEncoderIsLawful }
     ensures sections { AppendixSectionsAreLawful }
+    ensures pieces { AppendixPiecesAreLawful }
     ensures decoder_stream { AppendixDecoderIsLawful }
     ensures order { AppendixSectionsAreInOrder }
     ensures peers { AppendixDecoderIsPeer }
@@ -153,10 +156,10 @@ pub fn encoders_keep_to_the_standard()
 {}
 
 /// What [`ConnectionDecoder`](crate::ConnectionDecoder) writes is what the laws of an encoder ask of its peer. That
-/// holds with any encoder that follows the standard, whose sections are decoded in order on each stream. After any
-/// calls all that was written is acknowledgments of sections that were decoded, each once, cancellations, and
-/// increments of no more insertions than were received. Once a front of it was heard, the rest is still what may be
-/// written (RFC 9204, sections 2.1.4, 2.2.2 and 4.4).
+/// holds with any encoder that follows the standard, whose sections are decoded in order on each stream, whole or in
+/// pieces. After any calls all that was written is acknowledgments of sections that were decoded, each once,
+/// cancellations, and increments of no more insertions than were received. Once a front of it was heard, the rest is
+/// still what may be written (RFC 9204, sections 2.1.4, 2.2.2 and 4.4).
 pub fn decoders_write_what_they_may()
     ensures written { DecodersWriteWhatTheyMay }
     ensures rest { HeardFrontsLeaveTheRest }

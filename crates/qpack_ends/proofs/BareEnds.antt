@@ -6,13 +6,14 @@ use Rattle.std.proofs.lemmas.Bool.{cond_both, eq-eqb, leb-true, ltb-false}
 use Rattle.qpack_spec.specs.Chosen.{Chosen, chosen_rule}
 use Rattle.qpack_spec.specs.Field.{Field, FieldLine, fields_of_lines, has_name, is_field}
 use Rattle.qpack_spec.specs.Instruction.{EncoderInstruction, DecoderInstruction, Acknowledgment, Cancellation, Increment}
-use Rattle.qpack_spec.specs.Instruction.{written_encoder_instructions}
+use Rattle.qpack_spec.specs.Instruction.{coded_encoder_instructions}
 use Rattle.qpack_spec.specs.Reading.{greatest_of}
 use Rattle.qpack_spec.specs.Rule.{Draft, empty_draft, committed_table}
 use Rattle.qpack_rules.specs.StrictInstructions.{strict_hear, hear_in_turn}
 use Rattle.qpack_spec.specs.Table.{Table, empty_table, insert_count, commit, without_references, with_capacity}
 use Rattle.qpack_spec.specs.Table.{without_oldest, without_stream, apply_decoder_instruction}
 use Rattle.qpack_spec.specs.Window.{greatest_capacity}
+use Rattle.qpack_spec.specs.Text.{WhereShorter}
 use Rattle.qpack_rules.proofs.ChosenSteps.{IsKept, every_kept, kept_chosen_fields}
 use Rattle.qpack_spec.proofs.Positions.{FoundEntry}
 use Rattle.qpack_spec.proofs.Results.{bind_ok, ok_is}
@@ -46,8 +47,8 @@ bare_kept base f =
       literal = λ d k. k;
       entry = λ d a at may k. absurd (no_entry d.table (is_field f) a k.0 at);
       name = λ d a at may k. absurd (no_entry d.table (has_name f.name) a k.0 at);
-      insertion = λ d below r k. absurd (let none = no_room d.table f (ap (λ (x : Table). x.capacity) k.0) in cc);
-      unreferenced = λ d r k. absurd (let none = no_room d.table f (ap (λ (x : Table). x.capacity) k.0) in cc);
+      insertion = λ d names below r k. absurd (let none = no_room d.table f (ap (λ (x : Table). x.capacity) k.0) in cc);
+      unreferenced = λ d names r k. absurd (let none = no_room d.table f (ap (λ (x : Table). x.capacity) k.0) in cc);
     }
 
 chosen_bare : (t : Table) (ls : List FieldLine) (cs : List Chosen) → t ≡ bare → IsBareDraft (chosen_rule t ls cs)
@@ -66,14 +67,14 @@ unfolding without_references
 unnamed_bare t is = ap (λ (x : Table). without_references x) is
 
 nothing_written : (written : List ℕ) (is : List EncoderInstruction) → is ≡ []
-    → written ++ written_encoder_instructions is ≡ written
-unfolding written_encoder_instructions
+    → written ++ coded_encoder_instructions WhereShorter is ≡ written
+unfolding coded_encoder_instructions
 nothing_written written is none =
-    ap (λ (l : List EncoderInstruction). written ++ written_encoder_instructions l) none ∙ append-nil written
+    ap (λ (l : List EncoderInstruction). written ++ coded_encoder_instructions WhereShorter l) none ∙ append-nil written
 
 -- a section leaves the table as it began, and writes nothing on the encoder stream
 pub encoded_bare : (stream : ℕ) (fields : List FieldLine) (t u : Table) (before after written more : List ℕ)
-    (required : ℕ) → EncodesChosen stream fields t u before after written more required → t ≡ bare
+    (required : ℕ) → EncodesChosen WhereShorter stream fields t u before after written more required → t ≡ bare
     → (u ≡ bare) × (more ≡ written)
 encoded_bare stream fields t u before after written more required k is =
     let d = chosen_bare t fields k.choices is in (
@@ -83,7 +84,7 @@ encoded_bare stream fields t u before after written more required k is =
 
 -- and so does one that is given up
 pub given_up_bare : (fields : List FieldLine) (t u : Table) (written more : List ℕ)
-    → GivesUpChosen fields t u written more → t ≡ bare → (u ≡ bare) × (more ≡ written)
+    → GivesUpChosen WhereShorter fields t u written more → t ≡ bare → (u ≡ bare) × (more ≡ written)
 given_up_bare fields t u written more k is =
     let d = chosen_bare t (take k.many fields) k.choices is in (
       k.table ∙ unnamed_bare (chosen_rule t (take k.many fields) k.choices).table d.0,

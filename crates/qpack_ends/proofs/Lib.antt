@@ -10,6 +10,7 @@ pub mod BlockedStreams
 pub mod Risk
 pub mod LimitedChoices
 pub mod RiskRows
+pub mod WishRows
 pub mod StrictCounts
 pub mod Decoders
 pub mod LimitedSections
@@ -28,6 +29,7 @@ pub mod MissingCode
 pub mod MissingBytes
 pub mod MissingParts
 pub mod PieceParts
+pub mod PieceMemory
 pub mod PieceAnswers
 pub mod PieceSteps
 pub mod OneField

@@ -3,12 +3,13 @@ use Rattle.std.proofs.Common.{ℕ, suc, ◌^◌, take, ◌⊎◌, inl, inr, ◌�
 use Rattle.std.proofs.Common.{subst, arith, length, Ok, ◌+◌, unwrap_or}
 use Rattle.std.specs.Prelude.{nat_eq, nat_lt, nat_le, ◌&&◌, ◌||◌}
 use Rattle.std.proofs.lemmas.Bool.{cond_both, leb-true, le-ltb}
-use Rattle.qpack_spec.specs.Chosen.{Choice, Alone, References, Names, Inserts, Chosen, alone_chosen, passes_at, literal_alone}
-use Rattle.qpack_spec.specs.Chosen.{line_alone, named_or, literal_chosen, line_chosen, unreferenced_chosen, chosen_field}
+use Rattle.qpack_spec.specs.Chosen.{Choice, Alone, References, Names, Inserts, Naming, Chosen, alone_chosen, passes_at}
+use Rattle.qpack_spec.specs.Chosen.{literal_alone, line_alone, named_or, literal_chosen, line_chosen, chosen_field}
+use Rattle.qpack_spec.specs.Chosen.{unreferenced_chosen, instruction_naming}
 use Rattle.qpack_spec.specs.Chosen.{chosen_fields, chosen_rule, entry_reference_line, with_unreferenced_entry}
 use Rattle.qpack_spec.specs.Field.{Field, FieldLine, field_size, has_name, is_field}
 use Rattle.qpack_spec.specs.Reading.{greatest_of}
-use Rattle.qpack_spec.specs.Rule.{Draft, empty_draft, with_referencing_line, with_new_entry, name_reference_line}
+use Rattle.qpack_spec.specs.Rule.{Draft, empty_draft, with_referencing_line, with_inserted, name_reference_line}
 use Rattle.qpack_spec.specs.StaticTable.{static_index, static_name_index}
 use Rattle.qpack_spec.specs.Table.{Table, UnacknowledgedBlock, below_limit, may_reference, has_room, with_reference, with_entry}
 use Rattle.qpack_spec.specs.Table.{insert_count, without_references, Entry, all_evictable, is_evictable}
@@ -17,7 +18,8 @@ use Rattle.qpack_spec.specs.Line.{Line}
 use Rattle.qpack_spec.specs.Table.{commit, with_unacknowledged, with_capacity, can_evict, fields_in, with_increment}
 use Rattle.qpack_spec.specs.Table.{without_oldest, apply_decoder_instruction}
 use Rattle.qpack_spec.specs.Bytes.{◌>>=◌}
-use Rattle.qpack_spec.specs.Instruction.{DecoderInstruction, Acknowledgment, Cancellation, Increment}
+use Rattle.qpack_spec.specs.Instruction.{EncoderInstruction, DecoderInstruction, Acknowledgment, Cancellation}
+use Rattle.qpack_spec.specs.Instruction.{Increment}
 use Rattle.qpack_spec.specs.Rule.{committed_table}
 use Rattle.qpack_rules.specs.StrictInstructions.{strict_hear, hear_in_turn, or_unknown, known_at_least, oldest_required}
 use Rattle.qpack_spec.specs.Window.{or_refusal, UnknownStream, greatest_capacity, eviction_count}
@@ -59,13 +61,15 @@ keeps_referenced : (t : Table) (a : ℕ) → Keeps t (with_reference t a)
 unfolding with_reference
 keeps_referenced t a = record { known = refl; unacknowledged = refl; limit = refl }
 
-keeps_inserted : (d : Draft) (base : ℕ) (f : Field) → Keeps d.table (with_new_entry base d f).table
+keeps_inserted : (d : Draft) (base : ℕ) (f : Field) (i : EncoderInstruction)
+    → Keeps d.table (with_inserted base d f i).table
 unfolding with_reference with_entry
-keeps_inserted d base f = record { known = refl; unacknowledged = refl; limit = refl }
+keeps_inserted d base f i = record { known = refl; unacknowledged = refl; limit = refl }
 
-keeps_unreferenced : (d : Draft) (f : Field) → Keeps d.table (with_unreferenced_entry d f).table
+keeps_unreferenced : (names : Naming) (d : Draft) (f : Field)
+    → Keeps d.table (with_unreferenced_entry names d f).table
 unfolding with_entry
-keeps_unreferenced d f = record { known = refl; unacknowledged = refl; limit = refl }
+keeps_unreferenced names d f = record { known = refl; unacknowledged = refl; limit = refl }
 
 keeps_named : (base : ℕ) (d : Draft) (f : Field) (a : ℕ) (other : Draft) → other.table ≡ d.table
     → Keeps d.table (named_or base d f a other).table
@@ -80,31 +84,34 @@ keeps_literal base d f Alone = keeps_as _ _ (literal_table d f (static_name_inde
 keeps_literal base d f (References a) = keeps_as _ _ (literal_table d f (static_name_index f.name))
 keeps_literal base d f Inserts = keeps_as _ _ (literal_table d f (static_name_index f.name))
 
-keeps_line : (base : ℕ) (d : Draft) (f : Field) (c : Choice) → Keeps d.table (line_chosen base d f c).table
-keeps_line base d f Alone = keeps_as _ _ (stays_alone d f (static_index f))
-keeps_line base d f (References a) =
+keeps_line : (names : Naming) (base : ℕ) (d : Draft) (f : Field) (c : Choice)
+    → Keeps d.table (line_chosen names base d f c).table
+keeps_line names base d f Alone = keeps_as _ _ (stays_alone d f (static_index f))
+keeps_line names base d f (References a) =
     cond_both (passes_at d.table (is_field f) a && may_reference d.table a) _ (line_alone d f (static_index f))
     (λ (x : Draft). Keeps d.table x.table) (λ _. keeps_referenced d.table a)
     (λ _. keeps_as _ _ (stays_alone d f (static_index f)))
-keeps_line base d f (Names a) =
+keeps_line names base d f (Names a) =
     keeps_named base d f a (line_alone d f (static_index f)) (stays_alone d f (static_index f))
-keeps_line base d f Inserts =
+keeps_line names base d f Inserts =
     cond_both (below_limit d.table && has_room d.table f) _ (line_alone d f (static_index f))
-    (λ (x : Draft). Keeps d.table x.table) (λ _. keeps_inserted d base f)
+    (λ (x : Draft). Keeps d.table x.table) (λ _. keeps_inserted d base f (instruction_naming names d.table f))
     (λ _. keeps_as _ _ (stays_alone d f (static_index f)))
 
-keeps_after : (b : Bool) (d : Draft) (f : Field) → Keeps d.table (unreferenced_chosen b d f).table
-keeps_after b d f =
-    cond_both (b && has_room d.table f) _ d (λ (x : Draft). Keeps d.table x.table) (λ _. keeps_unreferenced d f)
+keeps_after : (names : Naming) (b : Bool) (d : Draft) (f : Field)
+    → Keeps d.table (unreferenced_chosen names b d f).table
+keeps_after names b d f =
+    cond_both (b && has_room d.table f) _ d (λ (x : Draft). Keeps d.table x.table) (λ _. keeps_unreferenced names d f)
     (λ _. keeps_as d.table d.table refl)
 
 keeps_field : (base : ℕ) (d : Draft) (l : FieldLine) (c : Chosen) → Keeps d.table (chosen_field base d l c).table
 keeps_field base d l c =
     cond_both l.never_indexed (literal_chosen base d l.field c.line)
-    (unreferenced_chosen c.unreferenced (line_chosen base d l.field c.line) l.field)
+    (unreferenced_chosen c.names c.unreferenced (line_chosen c.names base d l.field c.line) l.field)
     (λ (x : Draft). Keeps d.table x.table) (λ _. keeps_literal base d l.field c.line)
-    (λ _. keeps_then d.table (line_chosen base d l.field c.line).table _ (keeps_line base d l.field c.line)
-    (keeps_after c.unreferenced (line_chosen base d l.field c.line) l.field))
+    (λ _. keeps_then d.table (line_chosen c.names base d l.field c.line).table _
+    (keeps_line c.names base d l.field c.line)
+    (keeps_after c.names c.unreferenced (line_chosen c.names base d l.field c.line) l.field))
 
 keeps_fields : (base : ℕ) (d : Draft) (ls : List FieldLine) (cs : List Chosen)
     → Keeps d.table (chosen_fields base d ls cs).table
@@ -168,16 +175,16 @@ known_literal base d f Alone none k = known_as _ _ (literal_table d f (static_na
 known_literal base d f (References a) none k = known_as _ _ (literal_table d f (static_name_index f.name)) k
 known_literal base d f Inserts none k = known_as _ _ (literal_table d f (static_name_index f.name)) k
 
-known_line : (base : ℕ) (d : Draft) (f : Field) (c : Choice) → d.table.limit ≡ 0 → IsKnown d.table
-    → IsKnown (line_chosen base d f c).table
-known_line base d f Alone none k = known_as _ _ (stays_alone d f (static_index f)) k
-known_line base d f (References a) none k =
+known_line : (names : Naming) (base : ℕ) (d : Draft) (f : Field) (c : Choice) → d.table.limit ≡ 0 → IsKnown d.table
+    → IsKnown (line_chosen names base d f c).table
+known_line names base d f Alone none k = known_as _ _ (stays_alone d f (static_index f)) k
+known_line names base d f (References a) none k =
     cond_both (passes_at d.table (is_field f) a && may_reference d.table a) _ (line_alone d f (static_index f))
     (λ (x : Draft). IsKnown x.table) (λ e. known_referenced d.table _ a none e k)
     (λ _. known_as _ _ (stays_alone d f (static_index f)) k)
-known_line base d f (Names a) none k =
+known_line names base d f (Names a) none k =
     known_named base d f a (line_alone d f (static_index f)) none (stays_alone d f (static_index f)) k
-known_line base d f Inserts none k =
+known_line names base d f Inserts none k =
     cond_both (below_limit d.table && has_room d.table f) _ (line_alone d f (static_index f))
     (λ (x : Draft). IsKnown x.table) (λ e. absurd (not_below e)) (λ _. known_as _ _ (stays_alone d f (static_index f)) k)
   where
@@ -186,18 +193,20 @@ known_line base d f Inserts none k =
         let x : (false && has_room d.table f) ≡ true = subst (λ b. (b && has_room d.table f) ≡ true) (below_none d.table none) e in
         cc
 
-known_after : (b : Bool) (d : Draft) (f : Field) → IsKnown d.table → IsKnown (unreferenced_chosen b d f).table
+known_after : (names : Naming) (b : Bool) (d : Draft) (f : Field) → IsKnown d.table
+    → IsKnown (unreferenced_chosen names b d f).table
 unfolding with_entry
-known_after b d f k =
+known_after names b d f k =
     cond_both (b && has_room d.table f) _ d (λ (x : Draft). IsKnown x.table) (λ _. k) (λ _. k)
 
 known_field : (base : ℕ) (d : Draft) (l : FieldLine) (c : Chosen) → d.table.limit ≡ 0 → IsKnown d.table
     → IsKnown (chosen_field base d l c).table
 known_field base d l c none k =
     cond_both l.never_indexed (literal_chosen base d l.field c.line)
-    (unreferenced_chosen c.unreferenced (line_chosen base d l.field c.line) l.field)
+    (unreferenced_chosen c.names c.unreferenced (line_chosen c.names base d l.field c.line) l.field)
     (λ (x : Draft). IsKnown x.table) (λ _. known_literal base d l.field c.line none k)
-    (λ _. known_after c.unreferenced (line_chosen base d l.field c.line) l.field (known_line base d l.field c.line none k))
+    (λ _. known_after c.names c.unreferenced (line_chosen c.names base d l.field c.line) l.field
+    (known_line c.names base d l.field c.line none k))
 
 known_fields : (base : ℕ) (d : Draft) (ls : List FieldLine) (cs : List Chosen) → d.table.limit ≡ 0 → IsKnown d.table
     → IsKnown (chosen_fields base d ls cs).table
@@ -271,24 +280,25 @@ matches_reference d p a l other same = by (p && may_reference (lowered d).table 
         inl (ap (λ b. cond b (with_referencing_line d a l) (other d)) (may_still d.table p a e), referenced_lowered d a l)
     by false e = inr same
 
-matches_line : (base : ℕ) (f : Field) (d : Draft) (c : Choice) → Matches d (λ x y. line_chosen base x f y) c
-matches_line base f d Alone = (Alone, alone_lowered d f (static_index f))
-matches_line base f d (References a) =
+matches_line : (names : Naming) (base : ℕ) (f : Field) (d : Draft) (c : Choice)
+    → Matches d (λ x y. line_chosen names base x f y) c
+matches_line names base f d Alone = (Alone, alone_lowered d f (static_index f))
+matches_line names base f d (References a) =
     elim (matches_reference d (passes_at d.table (is_field f) a) a (entry_reference_line base a)
     (λ x. line_alone x f (static_index f)) (alone_lowered d f (static_index f))) [
       | inl k ↦ (References a, k.1 ∙ ap lowered (sym k.0))
       | inr k ↦ (Alone, k)
     ]
-matches_line base f d (Names a) =
+matches_line names base f d (Names a) =
     elim (matches_reference d (passes_at d.table (has_name f.name) a) a (name_reference_line base a f)
     (λ x. line_alone x f (static_index f)) (alone_lowered d f (static_index f))) [
       | inl k ↦ (Names a, k.1 ∙ ap lowered (sym k.0))
       | inr k ↦ (Alone, k)
     ]
-matches_line base f d Inserts = (
+matches_line names base f d Inserts = (
   Alone,
-  ap (λ b. cond (b && has_room (lowered d).table f) (with_new_entry base (lowered d) f)
-      (line_alone (lowered d) f (static_index f))) (below_none (lowered d).table refl)
+  ap (λ b. cond (b && has_room (lowered d).table f)
+      (with_inserted base (lowered d) f (instruction_naming names (lowered d).table f)) (line_alone (lowered d) f (static_index f))) (below_none (lowered d).table refl)
       ∙ alone_lowered d f (static_index f),
 )
 
@@ -315,37 +325,38 @@ room_lowered t f =
     ap (λ b. nat_le (field_size f) t.capacity && (nat_lt (insert_count t) (2 ^ 62) && b))
     (evictable_lowered t (suc t.dropped) (take (eviction_count_for t f) t.live))
 
-after_lowered : (b : Bool) (d : Draft) (f : Field)
-    → unreferenced_chosen b (lowered d) f ≡ lowered (unreferenced_chosen b d f)
+after_lowered : (names : Naming) (b : Bool) (d : Draft) (f : Field)
+    → unreferenced_chosen names b (lowered d) f ≡ lowered (unreferenced_chosen names b d f)
 unfolding with_entry
-after_lowered b d f =
-    ap (λ r. cond (b && r) (with_unreferenced_entry (lowered d) f) (lowered d)) (room_lowered d.table f)
+after_lowered names b d f =
+    ap (λ r. cond (b && r) (with_unreferenced_entry names (lowered d) f) (lowered d)) (room_lowered d.table f)
     ∙ by (b && has_room d.table f)
   where
-    by : (x : Bool) → cond x (with_unreferenced_entry (lowered d) f) (lowered d)
-        ≡ lowered (cond x (with_unreferenced_entry d f) d)
+    by : (x : Bool) → cond x (with_unreferenced_entry names (lowered d) f) (lowered d)
+        ≡ lowered (cond x (with_unreferenced_entry names d f) d)
     by true = refl
     by false = refl
 
 matches_field : (base : ℕ) (l : FieldLine) (d : Draft) (c : Chosen) → Matches d (λ x y. chosen_field base x l y) c
 matches_field base l d c = by l.never_indexed
   where
-    line : Matches d (λ x y. line_chosen base x l.field y) c.line
-    line = matches_line base l.field d c.line
+    line : Matches d (λ x y. line_chosen c.names base x l.field y) c.line
+    line = matches_line c.names base l.field d c.line
 
     literal : Matches d (λ x y. literal_chosen base x l.field y) c.line
     literal = matches_literal base l.field d c.line
 
     by : (b : Bool) → (other : Chosen)
         × (cond b (literal_chosen base (lowered d) l.field c.line)
-        (unreferenced_chosen c.unreferenced (line_chosen base (lowered d) l.field c.line) l.field)
+        (unreferenced_chosen c.names c.unreferenced (line_chosen c.names base (lowered d) l.field c.line) l.field)
         ≡ lowered (cond b (literal_chosen base d l.field other.line)
-        (unreferenced_chosen other.unreferenced (line_chosen base d l.field other.line) l.field)))
-    by true = (record { line = literal.0; unreferenced = c.unreferenced }, literal.1)
+        (unreferenced_chosen other.names other.unreferenced (line_chosen other.names base d l.field other.line)
+        l.field)))
+    by true = (record { line = literal.0; unreferenced = c.unreferenced; names = c.names }, literal.1)
     by false = (
-      record { line = line.0; unreferenced = c.unreferenced },
-      ap (λ (x : Draft). unreferenced_chosen c.unreferenced x l.field) line.1
-          ∙ after_lowered c.unreferenced (line_chosen base d l.field line.0) l.field,
+      record { line = line.0; unreferenced = c.unreferenced; names = c.names },
+      ap (λ (x : Draft). unreferenced_chosen c.names c.unreferenced x l.field) line.1
+          ∙ after_lowered c.names c.unreferenced (line_chosen c.names base d l.field line.0) l.field,
     )
 
 matches_fields : (base : ℕ) (d : Draft) (ls : List FieldLine) (cs : List Chosen)

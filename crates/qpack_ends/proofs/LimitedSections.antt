@@ -2,8 +2,8 @@
 use Rattle.std.proofs.Common.{ℕ, ◌≡◌, ◌≤◌, ◌<◌, ◌^◌, Bool, true, false, List, ◌++◌, length, take, refl, sym, ap, ◌∙◌, subst, arith}
 use Rattle.qpack_spec.specs.Chosen.{chosen_rule}
 use Rattle.qpack_spec.specs.Field.{FieldLine}
-use Rattle.qpack_spec.specs.Instruction.{written_encoder_instructions}
-use Rattle.qpack_spec.specs.Marked.{written_marked_block}
+use Rattle.qpack_spec.specs.Instruction.{coded_encoder_instructions}
+use Rattle.qpack_spec.specs.Marked.{coded_marked_block}
 use Rattle.qpack_spec.specs.Rule.{Draft, required_insert_count, block_of, committed_table}
 use Rattle.qpack_spec.specs.Table.{Table, commit, without_references}
 use Rattle.std.specs.List.{list_any}
@@ -13,6 +13,7 @@ use Rattle.std.specs.Prelude.{OnOk, is_err}
 use Rattle.qpack_spec.specs.Instruction.{DecoderInstruction}
 use Rattle.qpack_rules.specs.StrictInstructions.{hear_in_turn}
 use Rattle.qpack_spec.specs.Table.{has_number, with_capacity}
+use Rattle.qpack_spec.specs.Text.{WhereShorter}
 use Rattle.qpack_codec.specs.ChosenSections.{EncodesChosen, GivesUpChosen}
 use Rattle.qpack_ends.specs.declared.blocked.BlockedStream.{BlockedStream}
 use Rattle.qpack_ends.specs.Encoders.{EncodingEnd, may_block}
@@ -39,8 +40,8 @@ lifted_given_up d n = refl
 -- under some choices it is one of the table as it was
 pub encodes_lifted : (may : Bool) (stream : ℕ) (fields : List FieldLine) (t v : Table)
     (before after written more : List ℕ) (required : ℕ) → t.limit ≡ 4096
-    → EncodesChosen stream fields (with_limit (limit_for may) t) v before after written more required
-    → EncodesChosen stream fields t (with_limit 4096 v) before after written more required
+    → EncodesChosen WhereShorter stream fields (with_limit (limit_for may) t) v before after written more required
+    → EncodesChosen WhereShorter stream fields t (with_limit 4096 v) before after written more required
 encodes_lifted true stream fields t v before after written more required is k =
     let same = limit_is 4096 t is in
     let table : v ≡ committed_table (chosen_rule t fields k.choices) stream =
@@ -53,9 +54,9 @@ encodes_lifted true stream fields t v before after written more required is k =
           ∙ ap (λ (x : Table). required_insert_count (chosen_rule x fields k.choices)) same;
       table = limit_is 4096 v limit ∙ table;
       block = k.block
-          ∙ ap (λ (x : Table). before ++ written_marked_block fields (block_of x (chosen_rule x fields k.choices))) same;
+          ∙ ap (λ (x : Table). before ++ coded_marked_block WhereShorter fields (block_of x (chosen_rule x fields k.choices))) same;
       written = k.written
-          ∙ ap (λ (x : Table). written ++ written_encoder_instructions (chosen_rule x fields k.choices).instructions) same;
+          ∙ ap (λ (x : Table). written ++ coded_encoder_instructions WhereShorter (chosen_rule x fields k.choices).instructions) same;
     }
 encodes_lifted false stream fields t v before after written more required is k =
     let m = matches_chosen t fields k.choices in
@@ -68,15 +69,15 @@ encodes_lifted false stream fields t v before after written more required is k =
       required_is = k.required_is ∙ ap required_insert_count m.1;
       table = table ∙ limit_is 4096 (committed_table d stream) (committed_limit t fields m.0 stream ∙ is);
       block = k.block
-          ∙ ap (λ (x : Draft). before ++ written_marked_block fields (block_of (with_limit 0 t) x)) m.1;
+          ∙ ap (λ (x : Draft). before ++ coded_marked_block WhereShorter fields (block_of (with_limit 0 t) x)) m.1;
       written = k.written
-          ∙ ap (λ (x : Draft). written ++ written_encoder_instructions x.instructions) m.1;
+          ∙ ap (λ (x : Draft). written ++ coded_encoder_instructions WhereShorter x.instructions) m.1;
     }
 
 -- so is one that is given up
 pub gives_up_lifted : (may : Bool) (fields : List FieldLine) (t v : Table) (written more : List ℕ) → t.limit ≡ 4096
-    → GivesUpChosen fields (with_limit (limit_for may) t) v written more
-    → GivesUpChosen fields t (with_limit 4096 v) written more
+    → GivesUpChosen WhereShorter fields (with_limit (limit_for may) t) v written more
+    → GivesUpChosen WhereShorter fields t (with_limit 4096 v) written more
 gives_up_lifted true fields t v written more is k =
     let some = take k.many fields in
     let same = limit_is 4096 t is in
@@ -89,7 +90,7 @@ gives_up_lifted true fields t v written more is k =
       choices = k.choices;
       table = limit_is 4096 v limit ∙ table;
       written = k.written
-          ∙ ap (λ (x : Table). written ++ written_encoder_instructions (chosen_rule x some k.choices).instructions) same;
+          ∙ ap (λ (x : Table). written ++ coded_encoder_instructions WhereShorter (chosen_rule x some k.choices).instructions) same;
     }
 gives_up_lifted false fields t v written more is k =
     let some = take k.many fields in
@@ -102,13 +103,13 @@ gives_up_lifted false fields t v written more is k =
           ∙ lifted_given_up d 4096
           ∙ limit_is 4096 (without_references d.table) ((given_up_keeps t some m.0).limit ∙ is);
       written = k.written
-          ∙ ap (λ (x : Draft). written ++ written_encoder_instructions x.instructions) m.1;
+          ∙ ap (λ (x : Draft). written ++ coded_encoder_instructions WhereShorter x.instructions) m.1;
     }
 
 -- where the limit is lowered it requires nothing that is not known to be received
 pub lowered_known : (may : Bool) (stream : ℕ) (fields : List FieldLine) (t v : Table)
     (before after written more : List ℕ) (required : ℕ) → may ≡ false
-    → EncodesChosen stream fields (with_limit (limit_for may) t) v before after written more required
+    → EncodesChosen WhereShorter stream fields (with_limit (limit_for may) t) v before after written more required
     → required ≤ t.known_received_count
 lowered_known true stream fields t v before after written more required none k = absurd cc
 lowered_known false stream fields t v before after written more required none k =
@@ -119,7 +120,7 @@ lowered_known false stream fields t v before after written more required none k 
 -- a section that requires more than is known puts its stream at risk
 pub tracks_put : (rs : List BlockedStream) (stream : ℕ) (fields : List FieldLine) (t u : Table)
     (before after written more : List ℕ) (required : ℕ)
-    → EncodesChosen stream fields t u before after written more required → t.known_received_count < required
+    → EncodesChosen WhereShorter stream fields t u before after written more required → t.known_received_count < required
     → required < 2 ^ 64 → TracksRisk rs t
     → TracksRisk (with_stream (record { required = required; stream = stream }) rs) u
 tracks_put rs stream fields t u before after written more required k above small tracks =
@@ -134,7 +135,7 @@ tracks_put rs stream fields t u before after written more required k above small
 -- one that does not puts none
 pub tracks_known : (rs : List BlockedStream) (stream : ℕ) (fields : List FieldLine) (t u : Table)
     (before after written more : List ℕ) (required : ℕ)
-    → EncodesChosen stream fields t u before after written more required → required ≤ t.known_received_count
+    → EncodesChosen WhereShorter stream fields t u before after written more required → required ≤ t.known_received_count
     → TracksRisk rs t → TracksRisk rs u
 tracks_known rs stream fields t u before after written more required k low tracks =
     record {
@@ -147,7 +148,7 @@ tracks_known rs stream fields t u before after written more required k low track
 
 -- neither does one that is given up
 pub tracks_given_up : (rs : List BlockedStream) (fields : List FieldLine) (t u : Table) (written more : List ℕ)
-    → GivesUpChosen fields t u written more → TracksRisk rs t → TracksRisk rs u
+    → GivesUpChosen WhereShorter fields t u written more → TracksRisk rs t → TracksRisk rs u
 tracks_given_up rs fields t u written more k tracks =
     let keeps = given_up_keeps t (take k.many fields) k.choices in
     record {
@@ -225,14 +226,14 @@ sound_with d t b none k =
 
 -- the limit of a table in which a section was written is as it was
 pub limit_written : (stream : ℕ) (fields : List FieldLine) (t v : Table) (before after written more : List ℕ)
-    (required n : ℕ) → EncodesChosen stream fields (with_limit n t) v before after written more required
+    (required n : ℕ) → EncodesChosen WhereShorter stream fields (with_limit n t) v before after written more required
     → with_limit n (with_limit 4096 v) ≡ v
 limit_written stream fields t v before after written more required n k =
     limit_is n v
     (ap (λ (x : Table). x.limit) k.table ∙ committed_limit (with_limit n t) fields k.choices stream)
 
 pub written_known : (stream : ℕ) (fields : List FieldLine) (t u : Table) (before after written more : List ℕ)
-    (required : ℕ) → EncodesChosen stream fields t u before after written more required
+    (required : ℕ) → EncodesChosen WhereShorter stream fields t u before after written more required
     → u.known_received_count ≡ t.known_received_count
 written_known stream fields t u before after written more required k =
     ap (λ (x : Table). x.known_received_count) k.table ∙ committed_known t fields k.choices stream

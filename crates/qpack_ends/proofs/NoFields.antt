@@ -5,14 +5,15 @@ use Rattle.std.specs.declared.vec.Vec.{Vec}
 use Rattle.std.specs.Prelude.{IfErr, IsOk}
 use Rattle.qpack_spec.specs.Chosen.{Chosen, chosen_rule}
 use Rattle.qpack_spec.specs.Field.{FieldLine}
-use Rattle.qpack_spec.specs.Instruction.{written_encoder_instructions}
+use Rattle.qpack_spec.specs.Instruction.{coded_encoder_instructions}
 use Rattle.qpack_spec.specs.Integer.{written_integer}
-use Rattle.qpack_spec.specs.Line.{written_lines}
-use Rattle.qpack_spec.specs.Marked.{written_marked_block, written_marked_lines}
+use Rattle.qpack_spec.specs.Line.{coded_lines}
+use Rattle.qpack_spec.specs.Marked.{coded_marked_block, coded_marked_lines}
 use Rattle.qpack_spec.specs.Prefix.{Prefix, prefix_for, written_prefix}
 use Rattle.qpack_spec.specs.Reading.{Block}
 use Rattle.qpack_spec.specs.Rule.{Draft, empty_draft, block_of, required_insert_count, committed_table}
 use Rattle.qpack_spec.specs.Table.{Table, insert_count, without_references}
+use Rattle.qpack_spec.specs.Text.{WhereShorter}
 use Rattle.qpack_base.specs.Writes.{Writes}
 use Rattle.qpack_codec.specs.ChosenSections.{EncodesChosen}
 use Rattle.qpack_codec.specs.declared.error.EncoderError.TheVariants as codec
@@ -37,7 +38,7 @@ no_field (f ∷ fs) is = absurd (omega (arith, is))
 
 -- its bytes are those of a prefix in which nothing is required, and are two
 pub nothing_written : written_alone [] ≡ written_prefix (prefix_for 0 0 0)
-unfolding written_marked_block written_marked_lines written_lines prefix_for
+unfolding coded_marked_block coded_marked_lines coded_lines prefix_for
 nothing_written = append-nil _
 
 two_bytes : length (written_prefix (prefix_for 0 0 0)) ≡ 2
@@ -56,8 +57,8 @@ no_room old new e p is w =
 
 -- the section is written under no choices, and nothing is referenced behind it
 nothing_chosen : (stream : ℕ) (t : Table) (before after written : List ℕ) → after ≡ before ++ written_alone []
-    → (k : EncodesChosen stream [] t (without_references t) before after written written 0) × (k.choices ≡ [])
-unfolding written_encoder_instructions
+    → (k : EncodesChosen WhereShorter stream [] t (without_references t) before after written written 0) × (k.choices ≡ [])
+unfolding coded_encoder_instructions
 nothing_chosen stream t before after written is =
     let rule = empty_rule t in (
       record {
@@ -65,10 +66,10 @@ nothing_chosen stream t before after written is =
         required_is = sym (ap (λ (d : Draft). required_insert_count d) rule ∙ nothing_required t []);
         table = table_is t [] stream ∙ sym (ap (λ (d : Draft). committed_table d stream) rule);
         block = is
-            ∙ ap (λ (b : Block). before ++ written_marked_block [] b)
+            ∙ ap (λ (b : Block). before ++ coded_marked_block WhereShorter [] b)
             (sym (ap (λ (d : Draft). block_of t d) rule ∙ block_is t []));
         written = sym (append-nil written)
-            ∙ ap (λ (d : Draft). written ++ written_encoder_instructions d.instructions) (sym rule);
+            ∙ ap (λ (d : Draft). written ++ coded_encoder_instructions WhereShorter d.instructions) (sym rule);
       },
       refl,
     )
@@ -108,7 +109,7 @@ nothing_encoded old new stream before after r checks room is ok err =
         none.0,
         inr (inr (record {
           room = room;
-          lines = gives_up_chosen_alone [] (Err codec.Memory) d.table (without_references d.table) d.unsent refl;
+          lines = gives_up_chosen_alone WhereShorter [] (Err codec.Memory) d.table (without_references d.table) d.unsent refl;
           new_is = refl;
         })),
       ),
@@ -137,10 +138,10 @@ nothing_wished old new stream before after (Ok required) is k = λ room.
     t : Table
     t = with_limit (limit_for may) (begun old).table
 
-    section : (c : EncodesChosen stream [] t (with_limit (limit_for may) (without_references (begun old).table)) before
+    section : (c : EncodesChosen WhereShorter stream [] t (with_limit (limit_for may) (without_references (begun old).table)) before
         after (begun old).unsent (begun old).unsent 0) × (c.choices ≡ [])
     section =
-        subst (λ (u : Table). (c : EncodesChosen stream [] t u before after (begun old).unsent (begun old).unsent 0)
+        subst (λ (u : Table). (c : EncodesChosen WhereShorter stream [] t u before after (begun old).unsent (begun old).unsent 0)
         × (c.choices ≡ [])) (same_limit (limit_for may) (begun old).table)
         (nothing_chosen stream t before after (begun old).unsent k.1)
 

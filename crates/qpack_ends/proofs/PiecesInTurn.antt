@@ -121,7 +121,7 @@ behind_goes_on (Some p) w limit last r all more known placed fits = pick (nat_lt
     pick true = tt
     pick false = lines_go_on w limit last r p all more known placed fits
 
-next_goes_on : (w : Window) (limit : ℕ) (last : Bool) (r : ReaderView) (bytes more : List ℕ) → IsReading r
+pub next_goes_on : (w : Window) (limit : ℕ) (last : Bool) (r : ReaderView) (bytes more : List ℕ) → IsReading r
     → r.offset + length (r.pending ++ bytes ++ more) ≤ most_read limit
     → GoesOn limit r (r.pending ++ bytes) more (next_of w limit last r (r.pending ++ bytes))
 next_goes_on w limit last r bytes more k fits =
@@ -207,7 +207,7 @@ pieces_give limit required (c ∷ calls) r rest fields k fits reads =
 -- ---- from the start of a section
 
 -- what is read whole, or waits, is within the limit
-whole_is : (w : Window) (limit required : ℕ) (bytes : List ℕ) (fields : List FieldLine)
+pub whole_is : (w : Window) (limit required : ℕ) (bytes : List ℕ) (fields : List FieldLine)
     → ReadsOrWaits fields required (strict_reading w limit bytes)
     → (length bytes ≤ longest_section limit)
     × ReadsOrWaits fields required (strict_section_behind w limit (length bytes) (prefix_at bytes))

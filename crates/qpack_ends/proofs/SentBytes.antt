@@ -7,6 +7,7 @@ use Rattle.std.proofs.lemmas.Bool.{cases_lt}
 use Rattle.std.proofs.lemmas.List.{drop-append-le, length-drop}
 use Rattle.qpack_spec.specs.Field.{FieldLine}
 use Rattle.qpack_spec.specs.Table.{Table}
+use Rattle.qpack_spec.specs.Text.{Coding}
 use Rattle.qpack_base.specs.Writes.{Writes}
 use Rattle.qpack_codec.specs.ChoosesAlong.{Chooses}
 use Rattle.qpack_codec.specs.ChosenSections.{EncodesAlong}
@@ -19,13 +20,13 @@ appended : (sent : ℕ) (old new bytes : List ℕ) → sent + sent ≤ length ol
 appended sent old new bytes few is = ap (drop sent) is ∙ drop-append-le sent old bytes (omega (arith, few))
 
 -- so a section is written as it is behind all
-pub section_written : {K W : Type 0} (chooses : Chooses K W) (sent stream : ℕ) (fields : List FieldLine)
+pub section_written : (coding : Coding) {K W : Type 0} (chooses : Chooses K W) (sent stream : ℕ) (fields : List FieldLine)
     (wishes : List W) (old new : Table) (block_old block_new written_old written_new : List ℕ)
     (r : Result ℕ EncoderError) → sent + sent ≤ length written_old
-    → IfOk r (EncodesAlong chooses stream fields wishes old new block_old block_new written_old written_new)
-    → IfOk r (EncodesAlong chooses stream fields wishes old new block_old block_new (drop sent written_old)
+    → IfOk r (EncodesAlong coding chooses stream fields wishes old new block_old block_new written_old written_new)
+    → IfOk r (EncodesAlong coding chooses stream fields wishes old new block_old block_new (drop sent written_old)
     (drop sent written_new))
-section_written chooses sent stream fields wishes old new block_old block_new written_old written_new (Ok required)
+section_written coding chooses sent stream fields wishes old new block_old block_new written_old written_new (Ok required)
     few k =
     record {
       section = record {
@@ -37,7 +38,7 @@ section_written chooses sent stream fields wishes old new block_old block_new wr
       };
       along = k.along;
     }
-section_written chooses sent stream fields wishes old new block_old block_new written_old written_new (Err e) few k = k
+section_written coding chooses sent stream fields wishes old new block_old block_new written_old written_new (Err e) few k = k
 
 -- ---- room
 

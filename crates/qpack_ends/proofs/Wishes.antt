@@ -5,6 +5,7 @@ use Rattle.qpack_spec.specs.Field.{FieldLine}
 use Rattle.qpack_spec.specs.Rule.{Draft, empty_draft}
 use Rattle.qpack_spec.specs.StaticTable.{static_index}
 use Rattle.qpack_spec.specs.Table.{Table, insert_count}
+use Rattle.qpack_spec.specs.Text.{WhereShorter}
 use Rattle.qpack_codec.specs.ChoosesAlong.{ChoosesUnless, ChoosesField, ChoosesAlong}
 use Rattle.qpack_codec.specs.ChosenSections.{EncodesAlong}
 use Rattle.qpack_codec.specs.declared.encoder.choices.Wish.{Wish}
@@ -35,7 +36,7 @@ suit_along base d before after (l ∷ ls) (w ∷ ws) [] k = absurd k
 
 pub keeps_wishes : {K : Type 0} (d new : EncodingEnd) (stream : ℕ) (fields : List FieldLine) (wishes : List Wish)
     (before after : List ℕ) (required : ℕ)
-    → EncodesAlong (by_wish K) stream fields wishes d.table new.table before after d.unsent new.unsent required
+    → EncodesAlong WhereShorter (by_wish K) stream fields wishes d.table new.table before after d.unsent new.unsent required
     → KeepsWishes d new stream fields wishes before after required
 keeps_wishes d new stream fields wishes before after required k =
     record {

@@ -6,9 +6,10 @@ use Rattle.std.specs.declared.vec.Vec.{Vec}
 use Rattle.std.specs.Option.{IfSome, IsSome}
 use Rattle.qpack_spec.specs.Field.{FieldLine}
 use Rattle.qpack_spec.specs.Instruction.{DecoderInstruction, SetCapacity, written_encoder_instruction}
-use Rattle.qpack_spec.specs.Marked.{stateless_block_marked, written_marked_block}
+use Rattle.qpack_spec.specs.Marked.{stateless_block_marked, coded_marked_block}
 use Rattle.qpack_spec.specs.Table.{Table, empty_table, with_capacity, has_number}
 use Rattle.qpack_spec.specs.Window.{DoesNotFit, AboveMaximum}
+use Rattle.qpack_spec.specs.Text.{WhereShorter}
 use Rattle.qpack_table.specs.declared.dynamic.Error.TheVariants.{MaxTableSizeReached}
 use Rattle.qpack_codec.specs.ChosenSections.{EncodesChosen, GivesUpChosen}
 use Rattle.qpack_codec.specs.declared.error.EncoderError.{EncoderError}
@@ -243,7 +244,7 @@ may_block d stream =
 
 -- the section of fields that references no entry, which means them under every table
 abbrev pub written_alone : List FieldLine → List ℕ
-written_alone fields = written_marked_block fields (stateless_block_marked fields)
+written_alone fields = coded_marked_block WhereShorter fields (stateless_block_marked fields)
 
 -- the end with another table and other bytes that are to be sent
 abbrev pub with_section : Table → List ℕ → EncodingEnd → EncodingEnd
@@ -254,7 +255,7 @@ with_section t unsent d = record d { table = t; unsent = unsent }
 pub record WritesSection (d new : EncodingEnd) (stream : ℕ) (fields : List FieldLine) (before after : List ℕ)
     (required : ℕ) : Type 0 where
   pub room : is_full d ≡ false
-  pub section : EncodesChosen stream fields d.table new.table before after d.unsent new.unsent required
+  pub section : EncodesChosen WhereShorter stream fields d.table new.table before after d.unsent new.unsent required
   pub known : may_block d stream ≡ false → required ≤ d.table.known_received_count
   pub new_is : new ≡ with_section new.table new.unsent d
 
@@ -269,7 +270,7 @@ pub record WritesAlone (d new : EncodingEnd) (fields : List FieldLine) (before a
 -- memory ran out after some of the fields: their insertions stay and were written, and nothing is referenced
 pub record GivesUpSection (d new : EncodingEnd) (fields : List FieldLine) : Type 0 where
   pub room : is_full d ≡ false
-  pub lines : GivesUpChosen fields d.table new.table d.unsent new.unsent
+  pub lines : GivesUpChosen WhereShorter fields d.table new.table d.unsent new.unsent
   pub new_is : new ≡ with_section new.table new.unsent d
 
 -- before any field, memory is asked for the section at the limit of sections that wait, and for its stream if that may

@@ -5,11 +5,13 @@ use Rattle.qpack_spec.specs.Table.{window}
 use Rattle.qpack_ends.specs.Blocked.{IsCountedAnew, without}
 use Rattle.qpack_ends.specs.Decoders.{DecodingEnd, DecoderView, end_of, Checks, IsNotAnswered, MayBlock, BlocksStream}
 use Rattle.qpack_ends.specs.Decoders.{Acknowledges, acknowledgment_of, section_refused}
-use Rattle.qpack_ends.specs.Pieces.{ReaderView, ReadsOn, Next, Over, next_of, fresh}
+use Rattle.qpack_ends.specs.FieldSections.{SectionView}
+use Rattle.qpack_ends.specs.Pieces.{ReaderView, KeptReader, NeedsMemoryToReadOn, ReadsOn, Next, Stays, Over, next_of, fresh}
 use Rattle.qpack_ends.specs.Unsent.{LacksRoom}
 use Rattle.qpack_ends.specs.declared.decoder.DecodingError.{DecodingError}
 use Rattle.qpack_ends.specs.declared.decoder.DecodingError.TheVariants.{Section, Memory}
 use Rattle.qpack_ends.specs.declared.section.SectionError.{SectionError}
+use Rattle.qpack_ends.specs.declared.section.SectionError.TheVariants as section
 use Rattle.qpack_ends.specs.declared.section.reader.Progress.{Progress}
 use Rattle.qpack_ends.specs.declared.section.reader.Progress.TheVariants as progress
 
@@ -48,7 +50,7 @@ abbrev pub StopsPiece : DecodingEnd → DecodingEnd → Bool → ReaderView → 
     → DecodingError → Type 0
 StopsPiece old new last was reader bytes left fields (Section stream e) =
     (stream ≡ was.stream) × ReadsAs old last was reader bytes left fields (Err e)
-    × (new ≡ section_refused was.stream e old)
+    × (new ≡ section_refused was.stream e old) × (e ≡ section.Memory → ⊥)
 StopsPiece old new last was reader bytes left fields Memory =
     ((new ≡ old) × (reader ≡ was) × (left ≡ bytes) × (fields ≡ []))
     ⊎ Unfollowed old new last was reader bytes left fields Memory
@@ -87,3 +89,15 @@ NeedsMemoryToFollow d stream p = ⊥
 abbrev pub answer_to_next : ℕ → Next → DecodingEnd → List ℕ
 answer_to_next stream (Over required) d = acknowledgment_of stream required d
 answer_to_next stream next d = []
+
+-- memory is needed after what comes next was read: for a section that waits, or for the end of one
+abbrev pub NeedsMemoryBehindNext : DecoderView → ℕ → Next → Type 0
+NeedsMemoryBehindNext d stream (Stays required) = NeedsMemoryToFollow d stream (progress.Blocked required)
+NeedsMemoryBehindNext d stream (Over required) = NeedsMemoryToFollow d stream (progress.Ends required)
+NeedsMemoryBehindNext d stream next = ⊥
+
+-- memory is needed for the bytes that come next: to read on, or after that
+abbrev pub NeedsMemoryForPiece : DecoderView → Bool → KeptReader → List ℕ → SectionView → Type 0
+NeedsMemoryForPiece d last r bytes fields =
+    NeedsMemoryToReadOn (window d.table) d.settings.max_section_size last r bytes fields
+    ⊎ NeedsMemoryBehindNext d r.section.stream (next_here (end_of d) last r.section bytes)

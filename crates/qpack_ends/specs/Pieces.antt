@@ -1,7 +1,8 @@
 -- What a section gives whose bytes come in pieces: its prefix, then one field after the other, each as soon as its line
 -- is whole (RFC 9204, sections 2.2.1 and 4.5).
-use Rattle.std.specs.Prelude.{◌≡◌, ℕ, suc, ◌+◌, ◌-◌, ◌^◌, ◌<◌, ◌≤◌, min, Bool, true, false, not, ◌&&◌, if◌then◌else◌}
+use Rattle.std.specs.Prelude.{◌≡◌, ℕ, suc, ◌+◌, ◌-◌, ◌^◌, ◌<◌, ◌≤◌, min, max, Bool, true, false, not, ◌&&◌, if◌then◌else◌}
 use Rattle.std.specs.Prelude.{◌⊎◌, ⊤, nat_lt, List, [], ◌∷◌, ◌++◌, length, drop, Option, None, Some, Result, Ok, Err}
+use Rattle.qpack_spec.specs.Bytes.{Begins}
 use Rattle.qpack_spec.specs.Field.{Field, FieldLine, field_size}
 use Rattle.qpack_spec.specs.Form.{BadInteger}
 use Rattle.qpack_spec.specs.Integer.{UnexpectedEnd}
@@ -14,6 +15,8 @@ use Rattle.qpack_spec.specs.StrictReading as strict
 use Rattle.qpack_spec.specs.Window.{Window, window_insert_count}
 use Rattle.qpack_base.specs.Cursor.{CursorView}
 use Rattle.qpack_base.specs.declared.coding.NoMemory.{NoMemory}
+use Rattle.qpack_wire.specs.Memory.{AsksLine}
+use Rattle.qpack_ends.specs.FieldSections.{SectionView, LacksRoomWithin}
 use Rattle.qpack_ends.specs.SectionPrefixes.{strict_prefix}
 use Rattle.qpack_ends.specs.Lines.{FailsLine, Extends}
 use Rattle.qpack_ends.specs.Missing.{line_missing, prefix_missing}
@@ -92,6 +95,20 @@ behind_line len f r =
       sum = saturated_size (r.sum + field_size f);
     }
 
+-- ---- the room of a reader
+
+-- what was read of a section, and for how many bytes that wait there is memory
+pub record KeptReader : Type 0 where
+  pub section : ReaderView
+  pub room : ℕ
+
+-- what waits is not whole, and once nothing waits there is room for at most 64 bytes; an error that is kept is not out of
+-- memory
+pub record IsKept (r : KeptReader) : Type 0 where
+  pub reading : IsReading r.section
+  pub little : r.section.pending ≡ [] → r.room ≤ 64
+  pub told : r.section.failure ≡ Some Memory → ⊥
+
 -- what the lines are read under, of a section of this many bytes
 abbrev pub lines_under : Window → ℕ → SectionPrefix → ℕ → LinesUnder
 lines_under w limit p section =
@@ -155,6 +172,49 @@ unfoldable pub next_of : Window → ℕ → Bool → ReaderView → List ℕ →
 next_of w limit last r bytes =
     if nat_lt (most_read limit) (r.offset + length bytes) then Fails strict.TooLong
     else next_behind w limit last r r.prefix bytes
+
+-- no more bytes wait than before, or than a section within a limit can have behind what was read, and there is memory for
+-- no more
+pub record KeepsWithin (limit : ℕ) (old new : KeptReader) : Type 0 where
+  pub bytes : new.section.offset + length new.section.pending
+      ≤ max (old.section.offset + length old.section.pending) (most_read limit)
+  pub room : new.room ≤ max old.room (most_read limit)
+
+-- bytes are appended to those that wait, since some do or since more must come; and there is no room for all of them
+pub record LacksRoomToWait (more : Bool) (room : ℕ) (old bytes : List ℕ) : Type 0 where
+  pub kept : (more ≡ true) ⊎ (0 < length old)
+  pub lacks : room < length old + length bytes
+
+-- a line asks for memory, and there is less room for its field than one within the limit can use
+pub record NeedsMemoryForLine (limit : ℕ) (r : ReaderView) (bytes : List ℕ) (fields : SectionView) : Type 0 where
+  pub behind : part_behind r.prefix ≡ part.Line
+  pub asks : Begins AsksLine (r.pending ++ bytes)
+  pub lacks : LacksRoomWithin limit fields
+
+-- memory is needed to find a line in bytes after those that wait: for bytes that wait, or for a line that is read
+abbrev pub NeedsMemoryToFind : Bool → ℕ → ℕ → List ℕ → List ℕ → SectionView → Type 0
+NeedsMemoryToFind last limit room old bytes fields =
+    LacksRoomToWait (goes_on last (line_missing (old ++ bytes))) room old bytes
+    ⊎ ((goes_on last (line_missing (old ++ bytes)) ≡ false) × Begins AsksLine (old ++ bytes)
+    × LacksRoomWithin limit fields)
+
+-- memory is needed for what comes next: for bytes that wait, or for a line
+abbrev pub NeedsMemoryForNext : Next → ℕ → KeptReader → List ℕ → SectionView → Type 0
+NeedsMemoryForNext (Stays required) limit r bytes fields = ⊥
+NeedsMemoryForNext (Over required) limit r bytes fields = ⊥
+NeedsMemoryForNext More limit r bytes fields = LacksRoomToWait true r.room r.section.pending bytes
+NeedsMemoryForNext (Opens p) limit r bytes fields = LacksRoomToWait false r.room r.section.pending bytes
+NeedsMemoryForNext (Gives f left) limit r bytes fields =
+    LacksRoomToWait false r.room r.section.pending bytes ⊎ NeedsMemoryForLine limit r.section bytes fields
+NeedsMemoryForNext (Fails fault) limit r bytes fields =
+    LacksRoomToWait false r.room r.section.pending bytes ⊎ NeedsMemoryForLine limit r.section bytes fields
+
+-- memory is needed to read on: the section was not refused and is not too long, and what comes next needs it
+pub record NeedsMemoryToReadOn (w : Window) (limit : ℕ) (last : Bool) (r : KeptReader) (bytes : List ℕ)
+    (fields : SectionView) : Type 0 where
+  pub live : r.section.failure ≡ None
+  pub within : r.section.offset + length r.section.pending + length bytes ≤ most_read limit
+  pub next : NeedsMemoryForNext (next_of w limit last r.section (r.section.pending ++ bytes)) limit r bytes fields
 
 -- the error reports why the section is refused, or out of memory
 abbrev pub FailsNext : SectionError → Next → Type 0

@@ -5,6 +5,7 @@ use Rattle.qpack_spec.specs.Field.{Field, FieldLine, is_field}
 use Rattle.qpack_spec.specs.Rule.{Draft, empty_draft}
 use Rattle.qpack_spec.specs.StaticTable.{static_index}
 use Rattle.qpack_spec.specs.Table.{Table, insert_count, newest_index, has_room, below_limit, may_reference}
+use Rattle.qpack_spec.specs.Text.{WhereShorter}
 use Rattle.qpack_codec.specs.Choices.{inserts_after}
 use Rattle.qpack_codec.specs.ChoosesAlong.{Chooses}
 use Rattle.qpack_codec.specs.ChosenSections.{EncodesChosen}
@@ -27,6 +28,11 @@ pub record InsertsNothing (c : Chosen) : Type 0 where
   pub line : c.line ≡ Inserts → ⊥
   pub unreferenced : c.unreferenced ≡ false
 
+-- nothing is inserted for a field, and no equal entry is referenced (section 7.1.3)
+pub record KeepsOut (c : Chosen) : Type 0 where
+  pub nothing : InsertsNothing c
+  pub equal : (entry : ℕ) → c.line ≡ References entry → ⊥
+
 -- nothing is inserted for a field, and the newest equal entry is referenced if it may be (section 2.1.2)
 pub record ReusesField (t : Table) (f : Field) (c : Chosen) : Type 0 where
   pub nothing : InsertsNothing c
@@ -47,11 +53,11 @@ KeepsWish t f w newest c = Unit {0}
 
 -- what the wish asks of a choice at a table, for a field that no static field equals: `Insert`, that it is inserted
 -- unless an entry equals it; `Reuse`, that an equal entry is referenced and nothing inserted; `Never`, that nothing is
--- inserted. The line of a field with the wish `Never` is marked, so it is a literal (section 7.1.3).
+-- inserted and no equal entry referenced. The line of a field with the wish `Never` is marked, so it is a literal (section 7.1.3).
 abbrev pub SuitsWish : Table → FieldLine → Wish → Chosen → Type 0
 SuitsWish t l Insert c = l.never_indexed ≡ false → newest_index t (is_field l.field) ≡ None → InsertsField t l.field c
 SuitsWish t l Reuse c = l.never_indexed ≡ false → ReusesField t l.field c
-SuitsWish t l Never c = InsertsNothing c
+SuitsWish t l Never c = KeepsOut c
 SuitsWish t l w c = Unit {0}
 
 -- a chooser that follows the caller's wishes, and may follow anything else
@@ -77,7 +83,7 @@ SuitAlong base d ls ws cs = ⊥
 -- nothing to choose
 pub record KeepsWishes (d new : EncodingEnd) (stream : ℕ) (fields : List FieldLine) (wishes : List Wish)
     (before after : List ℕ) (required : ℕ) : Type 0 where
-  pub section : EncodesChosen stream fields d.table new.table before after d.unsent new.unsent required
+  pub section : EncodesChosen WhereShorter stream fields d.table new.table before after d.unsent new.unsent required
   pub suit : (d.table.capacity ≡ 0 → ⊥)
       → SuitAlong (insert_count d.table) (empty_draft d.table) fields wishes section.choices
 

@@ -21,16 +21,19 @@
 //! 3. or if the score is not low, the limit is not reached, and at most half of a large table is used with it;
 //! 4. or for its name, within the credit, if no static field has it and no entry that stays.
 //!
-//! In a small table no insertion evicts what was referenced lately. Where there is no room below the limit, the table is
-//! *tight* from then on, for this section and 32 more. At the limit the new entry is not referenced, and the insertion is
-//! paid from the allowance.
+//! In a small table no insertion evicts what was referenced lately. Below the limit an entry that was not, before this line,
+//! may be inserted again in its own room. Where there is no room below the limit, the table is *tight* from then on, for
+//! this section and 32 more. At the limit the new entry is not referenced, and the insertion is paid from the allowance.
+//!
+//! **The instruction of an insertion** may name any live entry, also one that the insertion evicts (section 3.2.2).
 //!
 //! **A literal** has the name of the newest entry with it, if no static field has it and the entry is not let go.
 //!
 //! **A wish goes first.** `Insert` inserts a field that no entry equals, `Reuse` and `Never` insert nothing.
 
-ghost use Rattle.std.specs.Prelude.{◌≡◌, false, true, None, Some};
+ghost use Rattle.std.specs.Prelude.{◌≡◌, ℕ, Bool, false, true, None, Some};
 ghost use Rattle.qpack_base.specs.HeaderFields.{line_of};
+ghost use Rattle.qpack_spec.specs.Chosen.{Live};
 ghost use Rattle.qpack_spec.specs.Table.{may_reference};
 ghost use Rattle.qpack_table.specs.Handles.{AreHashesIn};
 ghost use Rattle.qpack_codec.specs.Choices.{inserts_after};
@@ -48,7 +51,7 @@ use crate::choosing::scores::{LIKELY, Scores, UNLIKELY, Values};
 use qpack_base::field::FieldLine;
 use qpack_base::stored_field::PackedField;
 use qpack_codec::encoder::{Choice, Chooses, Wish};
-use qpack_table::dynamic::{DynamicTableEncoder, Index, SoughtField};
+use qpack_table::dynamic::{DynamicTableEncoder, Index, Naming, SoughtField};
 
 mod copies;
 mod credit;
@@ -130,21 +133,24 @@ impl Chooser {
             && is_of_the_oldest(block, entry)
     }
 
-    /// Returns whether a field can be inserted. In a small table nothing is evicted for it that was referenced lately.
+    /// Returns whether a field can be inserted. In a small table nothing is evicted for it that was referenced lately,
+    /// except an entry that it replaces.
     fn can_insert(
         &self,
         block: &DynamicTableEncoder<'_, Index, PackedField>,
         field: &FieldLine<'_>,
+        replaced: Option<usize>,
     ) -> bool {
         block.has_room(field)
-            && (block.max_size() >= LARGE || self.spares_recent(block, field.mem_size()))
+            && (block.max_size() >= LARGE || self.spares_recent(block, field.mem_size(), replaced))
     }
 
-    /// Returns whether an insertion of this size evicts no entry that was referenced lately.
+    /// Returns whether an insertion of this size evicts no entry that was referenced lately, except this one.
     fn spares_recent(
         &self,
         block: &DynamicTableEncoder<'_, Index, PackedField>,
         size: usize,
+        replaced: Option<usize>,
     ) -> bool {
         let mut used = block.used().saturating_add(size);
         for evicted in block.total_dropped()..block.total_inserted() {
@@ -152,7 +158,7 @@ impl Chooser {
                 return true;
             }
             let entry = evicted.saturating_add(1);
-            if self.marks.last_use(entry) == LastUse::Lately {
+            if replaced != Some(entry) && self.marks.last_use(entry) == LastUse::Lately {
                 return false;
             }
             used = used.saturating_sub(block.entry_size(entry).unwrap_or(0));
@@ -207,15 +213,15 @@ impl Chooser {
         if !drains && !self.is_worth_a_copy(block, field, entry, last) {
             return reference;
         }
-        let can_insert = self.can_insert(block, field);
         if !block.is_below_limit() {
-            return if can_insert && !self.copies.is_full(block) {
+            return if self.can_insert(block, field, None) && !self.copies.is_full(block) {
                 self.copy(block, entry)
             } else {
                 reference
             };
         }
-        if can_insert {
+        let replaced = (last != LastUse::Lately).then_some(entry);
+        if self.can_insert(block, field, replaced) {
             self.marks
                 .note_use(block.total_inserted().saturating_add(1));
             return Choice::Inserted;
@@ -276,7 +282,7 @@ impl Chooser {
             }
             return self.choose_literal(block, field, sought, inserts);
         }
-        if self.can_insert(block, field) || reason == Reason::Wish && block.has_room(field) {
+        if self.can_insert(block, field, None) || reason == Reason::Wish && block.has_room(field) {
             self.note_insertion(block, reason);
             return Choice::Inserted;
         }
@@ -372,7 +378,7 @@ impl Chooser {
         block: &DynamicTableEncoder<'_, Index, PackedField>,
         field: &FieldLine<'_>,
     ) -> bool {
-        self.can_insert(block, field) && self.allowance.pay(length(field))
+        self.can_insert(block, field, None) && self.allowance.pay(length(field))
     }
 
     /// Notes that the next entry is inserted for a reason.
@@ -451,6 +457,7 @@ impl Chooser {
     ) -> Choice
         requires { AreHashesIn (line_of field.now).field sought.now }
         ensures literal { result ≡ Inserted → ⊥ }
+        ensures equal { (entry : ℕ) (again : Bool) → result ≡ Equal entry again → ⊥ }
         ensures inserts { inserts_after result ≡ inserts }
     {
         if sought.static_name().is_some() {
@@ -471,6 +478,12 @@ impl Chooses<Index, PackedField> for Chooser {
     ghost use Rattle.qpack_ends.specs.declared.choosing.Chooser.{Chooser as State};
 
     ghost chooses = { λ before base t l w c after. by_wish State before base t l w c after };
+
+    ghost naming = { Live };
+
+    fn naming(&self) -> Naming {
+        Naming::Live
+    }
 
     fn begin(&mut self, block: &DynamicTableEncoder<'_, Index, PackedField>) {
         self.sections_since = self.sections_since.saturating_add(1);

@@ -6,6 +6,7 @@ ghost use Rattle.std.specs.Prelude.{Err, OnOk, OnErr, IsSome, false, true, map, 
 ghost use Rattle.qpack_spec.specs.Field.{fields_of_lines};
 ghost use Rattle.qpack_spec.specs.Instruction.{DecoderInstruction};
 ghost use Rattle.qpack_spec.specs.Table.{empty_table, insert_count};
+ghost use Rattle.qpack_spec.specs.Text.{WhereShorter};
 ghost use Rattle.qpack_ends.specs.Hearing.{Receives};
 ghost use Rattle.qpack_ends.specs.Encoders.{Starts, first_capacity, code_of, capacity_failure, SetsCapacity};
 ghost use Rattle.qpack_ends.specs.Encoders.{TellsCapacity, Begins, ReceivesBytes, Checks, is_full, written_alone};
@@ -598,15 +599,15 @@ fn write_section<A: Allocator, H: AsField>(
     chooser: &mut Chooser,
 ) -> Result<usize, EncodingError>
     requires { table.old.table.limit ≡ 4096 }
-    ensures section { IfOk result (λ required. EncodesChosen stream (map H.line fields.now) table.old.table table.new.table
+    ensures section { IfOk result (λ required. EncodesChosen WhereShorter stream (map H.line fields.now) table.old.table table.new.table
         section.old.items section.new.items unsent.old.bytes unsent.new.bytes required) }
     ensures known { IfOk result (λ required. may_block ≡ false → required ≤ table.old.table.known_received_count) }
     ensures small { IfOk result (λ required. required < 2 ^ 64) }
-    ensures wishes { IfOk result (λ required. EncodesAlong (by_wish State) stream (map H.line fields.now)
+    ensures wishes { IfOk result (λ required. EncodesAlong WhereShorter (by_wish State) stream (map H.line fields.now)
         (map H.wish fields.now) (with_limit (limit_for may_block) table.old.table)
         (with_limit (limit_for may_block) table.new.table) section.old.items section.new.items unsent.old.bytes
         unsent.new.bytes required) }
-    ensures err { OnErr result (GivesUpChosen (map H.line fields.now) table.old.table table.new.table unsent.old.bytes
+    ensures err { OnErr result (GivesUpChosen WhereShorter (map H.line fields.now) table.old.table table.new.table unsent.old.bytes
         unsent.new.bytes) }
     ensures as_before { OnErr result (section.new.items ≡ section.old.items) }
     ensures memory { IfErr result (λ e. e ≡ Memory) }

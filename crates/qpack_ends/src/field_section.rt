@@ -11,6 +11,7 @@ ghost use Rattle.qpack_ends.specs.FieldSections.{field_at as field_of_span, star
 ghost use Rattle.qpack_ends.specs.Lines.{under};
 ghost use Rattle.qpack_ends.specs.Pieces.{ReadsOneLine, line_at};
 ghost use Rattle.qpack_ends.specs.Sections.{ReadsLines};
+ghost use Rattle.qpack_ends.specs.declared.section.LineError.TheVariants.{Memory as NoRoom};
 ghost use Rattle.qpack_ends.specs.declared.section.SectionError.TheVariants.{Memory};
 
 use crate::room::shrink_within;
@@ -201,6 +202,8 @@ impl FieldSection {
         requires some { 0 < length buf.old.rest }
         ensures exact { ReadsOneLine buf.old buf.new self.new.fields sum result
             (line_at (under lines.now 0) sum buf.old.rest) }
+        ensures memory { result ≡ Err NoRoom → Begins AsksLine buf.old.rest }
+        ensures lacks { result ≡ Err NoRoom → LacksRoomWithin lines.now.limit self.old }
         ensures room { GrowsWithin lines.now.limit self.old self.new }
     {
         self.text.clear();

@@ -4,6 +4,7 @@
 ghost use Rattle.std.specs.Prelude.{◌≡◌, ◌<◌, ◌≤◌, [], drop, length, map, Err, IfOk, OnOk, OnErr, vec_len, vec_capacity};
 ghost use Rattle.qpack_spec.specs.Field.{fields_of_lines};
 ghost use Rattle.qpack_spec.specs.Instruction.{Acknowledgment, Cancellation, written_decoder_instruction};
+ghost use Rattle.qpack_spec.specs.Text.{WhereShorter};
 ghost use Rattle.qpack_codec.specs.ChosenSections.{EncodesAlong, GivesUpChosen};
 ghost use Rattle.qpack_codec.specs.Encoding.{instructions_room};
 ghost use Rattle.qpack_codec.specs.Hearing.{SetsCapacity};
@@ -16,6 +17,7 @@ ghost use Rattle.qpack_ends.specs.declared.choosing.Chooser.{Chooser};
 use crate::choosing::Chooser;
 use crate::room::shrink_within;
 use qpack_base::coding::NoMemory;
+use qpack_base::prefix_string::Coding;
 use qpack_base::stored_field::PackedField;
 use qpack_codec::EncoderError;
 use qpack_codec::decoder::{ack_header, stream_canceled, write_increments};
@@ -144,10 +146,10 @@ impl Unsent {
         fields: &[H],
         chooser: &mut Chooser,
     ) -> Result<usize, EncoderError>
-        ensures ok { IfOk result (λ required. EncodesAlong (by_wish Chooser) stream (map H.line fields.now)
+        ensures ok { IfOk result (λ required. EncodesAlong WhereShorter (by_wish Chooser) stream (map H.line fields.now)
             (map H.wish fields.now) table.old.table table.new.table section.old.items section.new.items self.old.bytes
             self.new.bytes required) }
-        ensures err { OnErr result (GivesUpChosen (map H.line fields.now) table.old.table table.new.table self.old.bytes
+        ensures err { OnErr result (GivesUpChosen WhereShorter (map H.line fields.now) table.old.table table.new.table self.old.bytes
             self.new.bytes) }
         ensures as_before { OnErr result (section.new.items ≡ section.old.items) }
         ensures capacity { vec_capacity section.old ≤ vec_capacity section.new }
@@ -155,6 +157,13 @@ impl Unsent {
             (vec_len section.new ≤ vec_capacity section.old → vec_capacity section.new ≡ vec_capacity section.old) }
         ensures room { KeepsRoom (instructions_room (fields_of_lines (map H.line fields.now))) self.old self.new }
     {
-        table.write_chosen_section(stream, section, &mut self.bytes, fields, chooser)
+        table.write_chosen_section(
+            stream,
+            section,
+            &mut self.bytes,
+            fields,
+            chooser,
+            Coding::WhereShorter,
+        )
     }
 }

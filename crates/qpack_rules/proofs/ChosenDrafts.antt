@@ -4,7 +4,8 @@ use Rattle.std.proofs.Common.{refl, sym, ap, ◌∙◌, subst, arith, length-app
 use Rattle.std.specs.Prelude.{nat_le, ◌&&◌}
 use Rattle.std.proofs.lemmas.Bool.{cond_both, and_parts, ltb-true, leb-true, leb-false}
 use Rattle.std.proofs.lemmas.List.{append-nil, append_assoc}
-use Rattle.qpack_spec.specs.Chosen.{Choice, Alone, References, Names, Inserts, Chosen, passes_at, literal_alone}
+use Rattle.qpack_spec.specs.Chosen.{Choice, Alone, References, Names, Inserts, Naming, Chosen, passes_at}
+use Rattle.qpack_spec.specs.Chosen.{literal_alone, passed_over, instruction_naming}
 use Rattle.qpack_spec.specs.Chosen.{line_alone, entry_reference_line, named_or, literal_chosen, line_chosen}
 use Rattle.qpack_spec.specs.Chosen.{with_unreferenced_entry, unreferenced_chosen, chosen_field, chosen_fields}
 use Rattle.qpack_spec.specs.Chosen.{chosen_rule, alone_chosen}
@@ -12,13 +13,13 @@ use Rattle.qpack_spec.specs.Field.{Field, FieldLine, fields_of_lines, has_name, 
 use Rattle.qpack_spec.specs.History.{History, whole_window, history_after}
 use Rattle.qpack_spec.specs.Line.{IndexedStatic, IndexedDynamic, IndexedPostBase, NamedStatic, Literal}
 use Rattle.qpack_spec.specs.Reading.{line_field, references_of_line, references_of}
-use Rattle.qpack_spec.specs.Rule.{Draft, with_referencing_line, with_new_entry, name_reference_line, instruction_for}
-use Rattle.qpack_spec.specs.Rule.{entries_left, empty_draft}
+use Rattle.qpack_spec.specs.Rule.{Draft, with_referencing_line, with_inserted, name_reference_line, empty_draft}
 use Rattle.qpack_spec.specs.StaticTable.{static_index, static_name_index}
 use Rattle.qpack_spec.specs.Table.{Table, sent_entry, insert_count, has_room, below_limit, may_reference, with_entry}
 use Rattle.qpack_spec.specs.Table.{eviction_count_for}
 use Rattle.qpack_spec.specs.Window.{Window, absolute_entry, Inserts as WindowInserts}
-use Rattle.qpack_spec.proofs.Drafts.{KeepsTable, Drafting, Room, room, evicted_bound, drafting_writes, drafting_names}
+use Rattle.qpack_spec.proofs.Drafts.{KeepsTable, Drafting, Room, room, evicted_bound, passed_live, drafting_writes}
+use Rattle.qpack_spec.proofs.Drafts.{drafting_names}
 use Rattle.qpack_spec.proofs.Drafts.{may_stand, live_after, keeps_inserted, one_effect, drafting_inserts, indexed_line}
 use Rattle.qpack_spec.proofs.Drafts.{line_by_name, found_whole, static_line, static_name_line, literal_line}
 use Rattle.qpack_spec.proofs.Drafts.{drafting_blank}
@@ -30,10 +31,10 @@ use Rattle.qpack_spec.proofs.References.{named_line_names}
 use Rattle.qpack_spec.proofs.Windows.{Sound, leads_append, leads_sound, grows_one, Kept, kept_growing}
 use Rattle.qpack_rules.proofs.ChosenSteps.{found_at, field_by}
 
-unreferenced_keeps_references : (t0 : Table) (d : Draft) (f : Field) → KeepsReferences t0 d
-    → KeepsReferences t0 (with_unreferenced_entry d f)
+unreferenced_keeps_references : (t0 : Table) (d : Draft) (names : Naming) (f : Field) → KeepsReferences t0 d
+    → KeepsReferences t0 (with_unreferenced_entry names d f)
 unfolding with_entry
-unreferenced_keeps_references t0 d f k =
+unreferenced_keeps_references t0 d names f k =
     record {
       known_received_count = k.known_received_count;
       limit = k.limit;
@@ -48,10 +49,10 @@ unreferenced_keeps_references t0 d f k =
       );
     }
 
-drafting_unreferenced : (t0 : Table) (h0 : History) (done : List Field) (d : Draft) (f : Field) → Sound h0
-    → Drafting t0 h0 done d → Room d.table f → Drafting t0 h0 done (with_unreferenced_entry d f)
+drafting_unreferenced : (t0 : Table) (h0 : History) (done : List Field) (d : Draft) (names : Naming) (f : Field)
+    → Sound h0 → Drafting t0 h0 done d → Room d.table f → Drafting t0 h0 done (with_unreferenced_entry names d f)
 unfolding with_entry
-drafting_unreferenced t0 h0 done d f s0 k r =
+drafting_unreferenced t0 h0 done d names f s0 k r =
     let t = d.table in
     let h = k.history in
     let s : Sound h = leads_sound h0 d.instructions h k.leads s0 in
@@ -60,11 +61,14 @@ drafting_unreferenced t0 h0 done d f s0 k r =
     evicted_free t (eviction_count_for t f) r.drops b k.table.marked in
     record {
       history = history_after h (WindowInserts f);
-      leads = leads_append h0 d.instructions (instruction_for f (entries_left t f) ∷ []) h
-          (history_after h (WindowInserts f)) k.leads
-          (WindowInserts f, one_effect t h f k.table.shares b r, refl);
+      leads = leads_append h0 d.instructions (instruction_naming names t f ∷ []) h
+          (history_after h (WindowInserts f)) k.leads (
+            WindowInserts f,
+            one_effect t h f (passed_over names (eviction_count_for t f)) k.table.shares (passed_live t names f r) r,
+            refl,
+          );
       table = keeps_inserted h t f s k.table r;
-      references = unreferenced_keeps_references t0 d f k.references;
+      references = unreferenced_keeps_references t0 d names f k.references;
       referenced = live_after t f t.referenced b (λ x low high. (none x low high).unnamed) k.referenced;
       means = fields_kept (whole_window h) (whole_window (history_after h (WindowInserts f))) (insert_count t0) d.lines
           done
@@ -74,11 +78,12 @@ drafting_unreferenced t0 h0 done d f s0 k r =
       may = k.may;
     }
 
-drafting_unreferenced_chosen : (t0 : Table) (h0 : History) (done : List Field) (unreferenced : Bool) (d : Draft)
-    (f : Field) → Sound h0 → Drafting t0 h0 done d → Drafting t0 h0 done (unreferenced_chosen unreferenced d f)
-drafting_unreferenced_chosen t0 h0 done unreferenced d f s k =
-    cond_both (unreferenced && has_room d.table f) (with_unreferenced_entry d f) d (Drafting t0 h0 done)
-    (λ t. drafting_unreferenced t0 h0 done d f s k (room d.table f (and_parts unreferenced (has_room d.table f) t).1))
+drafting_unreferenced_chosen : (t0 : Table) (h0 : History) (done : List Field) (names : Naming) (unreferenced : Bool)
+    (d : Draft) (f : Field) → Sound h0 → Drafting t0 h0 done d
+    → Drafting t0 h0 done (unreferenced_chosen names unreferenced d f)
+drafting_unreferenced_chosen t0 h0 done names unreferenced d f s k =
+    cond_both (unreferenced && has_room d.table f) (with_unreferenced_entry names d f) d (Drafting t0 h0 done)
+    (λ t. drafting_unreferenced t0 h0 done d names f s k (room d.table f (and_parts unreferenced (has_room d.table f) t).1))
     (λ _. k)
 
 drafting_literal_alone : (t0 : Table) (h0 : History) (done : List Field) (d : Draft) (f : Field) → Drafting t0 h0 done d
@@ -143,10 +148,11 @@ entry_reference_names base a =
     (λ t. indexed_names base a (leb-true _ _ t))
     (λ t. let lt : base < a = leb-false _ _ t in let n : base + (a - base - 1) + 1 ≡ a = omega arith in rw n refl)
 
-drafting_line_chosen : (t0 : Table) (h0 : History) (done : List Field) (d : Draft) (f : Field) (c : Choice) → Sound h0
-    → Drafting t0 h0 done d → Drafting t0 h0 (done ++ f ∷ []) (line_chosen (insert_count t0) d f c)
-drafting_line_chosen t0 h0 done d f Alone s k = drafting_line_alone t0 h0 done d f k (static_index f) refl
-drafting_line_chosen t0 h0 done d f (References a) s k =
+drafting_line_chosen : (t0 : Table) (h0 : History) (done : List Field) (names : Naming) (d : Draft) (f : Field)
+    (c : Choice) → Sound h0 → Drafting t0 h0 done d
+    → Drafting t0 h0 (done ++ f ∷ []) (line_chosen names (insert_count t0) d f c)
+drafting_line_chosen t0 h0 done names d f Alone s k = drafting_line_alone t0 h0 done d f k (static_index f) refl
+drafting_line_chosen t0 h0 done names d f (References a) s k =
     cond_both (passes_at d.table (is_field f) a && may_reference d.table a)
     (with_referencing_line d a (entry_reference_line (insert_count t0) a)) (line_alone d f (static_index f))
     (Drafting t0 h0 (done ++ f ∷ []))
@@ -160,15 +166,17 @@ drafting_line_chosen t0 h0 done d f (References a) s k =
     (entry_reference_means (whole_window k.history) (insert_count t0) a f there) (at.above, at.within)
     (may_stand t0 h0 done d a k p.1))
     (λ _. drafting_line_alone t0 h0 done d f k (static_index f) refl)
-drafting_line_chosen t0 h0 done d f (Names a) s k =
+drafting_line_chosen t0 h0 done names d f (Names a) s k =
     drafting_named_or t0 h0 done d (line_alone d f (static_index f)) f a k
     (drafting_line_alone t0 h0 done d f k (static_index f) refl)
-drafting_line_chosen t0 h0 done d f Inserts s k =
-    cond_both (below_limit d.table && has_room d.table f) (with_new_entry (insert_count t0) d f)
-    (line_alone d f (static_index f)) (Drafting t0 h0 (done ++ f ∷ []))
+drafting_line_chosen t0 h0 done names d f Inserts s k =
+    cond_both (below_limit d.table && has_room d.table f)
+    (with_inserted (insert_count t0) d f (instruction_naming names d.table f)) (line_alone d f (static_index f)) (Drafting t0 h0 (done ++ f ∷ []))
     (λ t. let p = and_parts (below_limit d.table) (has_room d.table f) t in
     let lt : length d.table.blocked < d.table.limit = ltb-true _ _ p.0 in
-    drafting_inserts t0 h0 done d f s k (rw (← k.references.blocked, ← k.references.limit) lt) (room d.table f p.1))
+    let r = room d.table f p.1 in
+    drafting_inserts t0 h0 done d f (passed_over names (eviction_count_for d.table f)) s k
+    (rw (← k.references.blocked, ← k.references.limit) lt) r (passed_live d.table names f r))
     (λ _. drafting_line_alone t0 h0 done d f k (static_index f) refl)
 
 drafting_chosen_field : (t0 : Table) (h0 : History) (done : List Field) (d : Draft) (l : FieldLine) (c : Chosen)
@@ -176,9 +184,9 @@ drafting_chosen_field : (t0 : Table) (h0 : History) (done : List Field) (d : Dra
 drafting_chosen_field t0 h0 done d l c s k =
     field_by (Drafting t0 h0 (done ++ l.field ∷ [])) (insert_count t0) d l c
     (drafting_literal_chosen t0 h0 done d l.field c.line k)
-    (drafting_unreferenced_chosen t0 h0 (done ++ l.field ∷ []) c.unreferenced
-    (line_chosen (insert_count t0) d l.field c.line) l.field s
-    (drafting_line_chosen t0 h0 done d l.field c.line s k))
+    (drafting_unreferenced_chosen t0 h0 (done ++ l.field ∷ []) c.names c.unreferenced
+    (line_chosen c.names (insert_count t0) d l.field c.line) l.field s
+    (drafting_line_chosen t0 h0 done c.names d l.field c.line s k))
 
 drafting_chosen : (t0 : Table) (h0 : History) (done : List Field) (d : Draft) (ls : List FieldLine) (cs : List Chosen)
     → Sound h0 → Drafting t0 h0 done d

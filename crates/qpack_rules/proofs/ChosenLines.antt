@@ -4,14 +4,15 @@ use Rattle.std.proofs.Common.{Some, refl, sym, ap, ◌∙◌, subst, arith}
 use Rattle.std.specs.Prelude.{nat_le, ◌&&◌}
 use Rattle.std.proofs.lemmas.Bool.{cond_both}
 use Rattle.std.proofs.lemmas.List.{append-nil, append_assoc}
-use Rattle.qpack_spec.specs.Chosen.{Choice, Alone, References, Names, Inserts, Chosen, passes_at, literal_alone}
+use Rattle.qpack_spec.specs.Chosen.{Choice, Alone, References, Names, Inserts, Naming, Chosen, passes_at}
+use Rattle.qpack_spec.specs.Chosen.{literal_alone, instruction_naming}
 use Rattle.qpack_spec.specs.Chosen.{line_alone, entry_reference_line, named_or, literal_chosen, line_chosen}
 use Rattle.qpack_spec.specs.Chosen.{with_unreferenced_entry, unreferenced_chosen, chosen_field, chosen_fields}
 use Rattle.qpack_spec.specs.Chosen.{chosen_rule, alone_chosen, ChosenFieldsHaveLines}
 use Rattle.qpack_spec.specs.Field.{Field, FieldLine, has_name, is_field}
 use Rattle.qpack_spec.specs.Line.{Line, IndexedStatic, NamedStatic, Literal}
 use Rattle.qpack_spec.specs.MarkedLaws.{is_literal, AreLiteralsWhereMarked}
-use Rattle.qpack_spec.specs.Rule.{Draft, with_referencing_line, with_new_entry, name_reference_line, empty_draft}
+use Rattle.qpack_spec.specs.Rule.{Draft, with_referencing_line, with_inserted, name_reference_line, empty_draft}
 use Rattle.qpack_spec.specs.StaticTable.{static_index, static_name_index}
 use Rattle.qpack_spec.specs.Table.{insert_count, has_room, below_limit, may_reference}
 
@@ -61,23 +62,24 @@ line_alone_adds d f (Some i) = (IndexedStatic i, refl, tt)
 line_alone_adds d f None = any_adds IsLiteral d (literal_alone d f (static_name_index f.name))
     (literal_alone_adds d f (static_name_index f.name))
 
-line_adds : (base : ℕ) (d : Draft) (f : Field) (c : Choice) → Adds Any d (line_chosen base d f c)
+line_adds : (names : Naming) (base : ℕ) (d : Draft) (f : Field) (c : Choice)
+    → Adds Any d (line_chosen names base d f c)
 unfolding Adds Any
-line_adds base d f Alone = line_alone_adds d f (static_index f)
-line_adds base d f (References a) =
+line_adds names base d f Alone = line_alone_adds d f (static_index f)
+line_adds names base d f (References a) =
     cond_both (passes_at d.table (is_field f) a && may_reference d.table a)
     (with_referencing_line d a (entry_reference_line base a)) (line_alone d f (static_index f)) (Adds Any d)
     (λ _. (_, refl, tt)) (λ _. line_alone_adds d f (static_index f))
-line_adds base d f (Names a) =
+line_adds names base d f (Names a) =
     named_or_adds Any base d (line_alone d f (static_index f)) f a tt (line_alone_adds d f (static_index f))
-line_adds base d f Inserts =
-    cond_both (below_limit d.table && has_room d.table f) (with_new_entry base d f) (line_alone d f (static_index f))
-    (Adds Any d) (λ _. (_, refl, tt)) (λ _. line_alone_adds d f (static_index f))
+line_adds names base d f Inserts =
+    cond_both (below_limit d.table && has_room d.table f) (with_inserted base d f (instruction_naming names d.table f))
+    (line_alone d f (static_index f)) (Adds Any d) (λ _. (_, refl, tt)) (λ _. line_alone_adds d f (static_index f))
 
-unreferenced_lines : (unreferenced : Bool) (d : Draft) (f : Field)
-    → (unreferenced_chosen unreferenced d f).lines ≡ d.lines
-unreferenced_lines unreferenced d f =
-    cond_both (unreferenced && has_room d.table f) (with_unreferenced_entry d f) d
+unreferenced_lines : (names : Naming) (unreferenced : Bool) (d : Draft) (f : Field)
+    → (unreferenced_chosen names unreferenced d f).lines ≡ d.lines
+unreferenced_lines names unreferenced d f =
+    cond_both (unreferenced && has_room d.table f) (with_unreferenced_entry names d f) d
     (λ (x : Draft). x.lines ≡ d.lines) (λ _. refl)
     (λ _. refl)
 
@@ -93,10 +95,10 @@ field_adds base d l c = both l.never_indexed
     both : (never : Bool)
         → Adds (Suits never) d
         (cond never (literal_chosen base d l.field c.line)
-        (unreferenced_chosen c.unreferenced (line_chosen base d l.field c.line) l.field))
+        (unreferenced_chosen c.names c.unreferenced (line_chosen c.names base d l.field c.line) l.field))
     both true = let a = literal_adds base d l.field c.line in (a.0, a.1, λ _. a.2)
-    both false = let a = line_adds base d l.field c.line in
-        (a.0, unreferenced_lines c.unreferenced (line_chosen base d l.field c.line) l.field ∙ a.1, λ e. absurd cc)
+    both false = let a = line_adds c.names base d l.field c.line in
+        (a.0, unreferenced_lines c.names c.unreferenced (line_chosen c.names base d l.field c.line) l.field ∙ a.1, λ e. absurd cc)
 
 -- all lines that are added
 AllAdd : Draft → Draft → List FieldLine → Type 0

@@ -1,15 +1,15 @@
 -- Whatever is chosen, what is written is small numbers and bytes, and inserts only where the capacity is not 0.
-use Rattle.std.proofs.Common.{ℕ, ◌-◌, ◌^◌, ◌≤◌, List, [], ◌∷◌, length, refl, arith, length-drop}
+use Rattle.std.proofs.Common.{ℕ, ◌-◌, ◌^◌, ◌≤◌, List, [], ◌∷◌, drop, refl, arith}
 use Rattle.std.specs.List.{AllByRecursion}
 use Rattle.std.specs.Prelude.{nat_le}
 use Rattle.std.proofs.lemmas.Bool.{cond_both}
-use Rattle.std.proofs.lemmas.List.{length-map}
-use Rattle.qpack_spec.specs.Chosen.{Chosen, entry_reference_line, with_unreferenced_entry, chosen_rule}
+use Rattle.qpack_spec.specs.Chosen.{Naming, Chosen, passed_over, instruction_naming, entry_reference_line}
+use Rattle.qpack_spec.specs.Chosen.{with_unreferenced_entry, chosen_rule}
 use Rattle.qpack_spec.specs.Chosen.{NothingIsChosenAtZero}
 use Rattle.qpack_spec.specs.Field.{Field, FieldLine, fields_of_lines}
 use Rattle.qpack_spec.specs.Line.{IndexedStatic, IndexedDynamic, IndexedPostBase, NamedStatic, Literal}
-use Rattle.qpack_spec.specs.Rule.{Draft, name_reference_line, instruction_for, entries_left, empty_draft}
-use Rattle.qpack_spec.specs.Table.{Table, Entry, fields_in, insert_count, with_entry, with_reference}
+use Rattle.qpack_spec.specs.Rule.{Draft, name_reference_line, empty_draft}
+use Rattle.qpack_spec.specs.Table.{Table, fields_in, insert_count, with_entry, with_reference}
 use Rattle.qpack_spec.specs.Table.{eviction_count_for, without_references}
 use Rattle.qpack_spec.specs.WrittenLaws.{IsByteField, IsByteLine, IsByteEncoderInstruction}
 use Rattle.qpack_spec.proofs.Drafts.{Room, room}
@@ -18,7 +18,7 @@ use Rattle.qpack_rules.proofs.Insertions.{InsertsAt, OnlyInserts, instruction_in
 use Rattle.qpack_spec.proofs.Positions.{static_found, static_name_found}
 use Rattle.qpack_rules.proofs.StrictSections.{AtZero, no_room}
 use Rattle.qpack_spec.proofs.WrittenDrafts.{WrittenDraft, writes_written, naming_written, inserts_written, static_small}
-use Rattle.qpack_spec.proofs.WrittenDrafts.{instruction_written, count_entered, count_unnamed}
+use Rattle.qpack_spec.proofs.WrittenDrafts.{passing_written, count_entered, count_unnamed}
 use Rattle.qpack_spec.proofs.WrittenDrafts.{entry_line as name_byte_line}
 use Rattle.qpack_rules.proofs.ChosenSteps.{IsKept, every_kept, kept_chosen_fields}
 
@@ -29,23 +29,15 @@ entry_byte_line base a b le =
     cond_both (nat_le a base) (IndexedDynamic (base - a)) (IndexedPostBase (a - base - 1)) IsByteLine
     (λ _. omega arith) (λ _. omega arith)
 
-unreferenced_written : (d : Draft) (f : Field) → WrittenDraft d → IsByteField f → Room d.table f
-    → WrittenDraft (with_unreferenced_entry d f)
-unreferenced_written d f k w r =
-    let stay : length (entries_left d.table f) ≤ 2 ^ 62 =
-    omega (
-      arith,
-      k.few,
-      length-drop (eviction_count_for d.table f) (fields_in d.table.live),
-      length-map d.table.live (λ (x : Entry). x.field),
-    ) in
+unreferenced_written : (d : Draft) (names : Naming) (f : Field) → WrittenDraft d → IsByteField f → Room d.table f
+    → WrittenDraft (with_unreferenced_entry names d f)
+unreferenced_written d names f k w r =
     record {
       few = omega (arith, r.few, count_entered d.table f r);
       lines = k.lines;
       instructions =
-          every_append IsByteEncoderInstruction d.instructions
-          (instruction_for f (entries_left d.table f) ∷ []) k.instructions
-          (instruction_written f (entries_left d.table f) stay w, tt);
+          every_append IsByteEncoderInstruction d.instructions (instruction_naming names d.table f ∷ []) k.instructions
+          (passing_written d f (passed_over names (eviction_count_for d.table f)) k w, tt);
     }
 
 written_kept : (base : ℕ) (f : Field) → base ≤ 2 ^ 62 → IsByteField f → IsKept WrittenDraft base f
@@ -59,8 +51,9 @@ written_kept base f b w =
           (entry_byte_line base a b (omega (arith, at.within, k.few)));
       name = λ d a at may k. naming_written d a (name_reference_line base a f) k
           (name_byte_line base a f b (omega (arith, at.within, k.few)) w);
-      insertion = λ d below r k. inserts_written base d f k w (room d.table f r);
-      unreferenced = λ d r k. unreferenced_written d f k w (room d.table f r);
+      insertion = λ d names below r k.
+          inserts_written base d f (passed_over names (eviction_count_for d.table f)) k w (room d.table f r);
+      unreferenced = λ d names r k. unreferenced_written d names f k w (room d.table f r);
     }
 
 -- the numbers that are written are small, the strings bytes
@@ -78,8 +71,12 @@ chosen_written t ls cs few w =
 
 -- ---- what is written on the encoder stream inserts, where the capacity is not 0
 
+-- the entries that an instruction may name
+named : Naming → Table → Field → List Field
+named names t f = drop (passed_over names (eviction_count_for t f)) (fields_in t.live)
+
 inserts_kept : (c base : ℕ) (f : Field) → IsKept (OnlyInserts c) base f
-unfolding with_reference with_entry
+unfolding with_reference with_entry named
 inserts_kept c base f =
     record {
       static_line = λ d i e k. k;
@@ -87,15 +84,15 @@ inserts_kept c base f =
       literal = λ d k. k;
       entry = λ d a at may k. k;
       name = λ d a at may k. k;
-      insertion = λ d below r k. let fits = (room d.table f r).fits in let same = k.0 in (
+      insertion = λ d names below r k. let fits = (room d.table f r).fits in let same = k.0 in (
         k.0,
-        every_append (InsertsAt c) d.instructions (instruction_for f (entries_left d.table f) ∷ []) k.1
-            (instruction_inserts c f (entries_left d.table f) (omega (arith, fits, same)), tt),
+        every_append (InsertsAt c) d.instructions (instruction_naming names d.table f ∷ []) k.1
+            (instruction_inserts c f (named names d.table f) (omega (arith, fits, same)), tt),
       );
-      unreferenced = λ d r k. let fits = (room d.table f r).fits in let same = k.0 in (
+      unreferenced = λ d names r k. let fits = (room d.table f r).fits in let same = k.0 in (
         k.0,
-        every_append (InsertsAt c) d.instructions (instruction_for f (entries_left d.table f) ∷ []) k.1
-            (instruction_inserts c f (entries_left d.table f) (omega (arith, fits, same)), tt),
+        every_append (InsertsAt c) d.instructions (instruction_naming names d.table f ∷ []) k.1
+            (instruction_inserts c f (named names d.table f) (omega (arith, fits, same)), tt),
       );
     }
 
@@ -118,8 +115,8 @@ at_0_kept base f =
       literal = λ d k. k;
       entry = λ d a at may k. k;
       name = λ d a at may k. k;
-      insertion = λ d below r k. absurd (let none = no_room d.table f k.0 in cc);
-      unreferenced = λ d r k. absurd (let none = no_room d.table f k.0 in cc);
+      insertion = λ d names below r k. absurd (let none = no_room d.table f k.0 in cc);
+      unreferenced = λ d names r k. absurd (let none = no_room d.table f k.0 in cc);
     }
 
 -- nothing is inserted

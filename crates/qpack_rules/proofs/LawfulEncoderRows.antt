@@ -5,7 +5,8 @@ use Rattle.std.specs.Prelude.{codes}
 use Rattle.qpack_spec.specs.Field.{Field, FieldLine}
 use Rattle.qpack_spec.specs.StaticTable.{field}
 use Rattle.qpack_spec.specs.History.{History, initial_history, history_after}
-use Rattle.qpack_spec.specs.Instruction.{EncoderInstruction, InsertLiteralName, SetCapacity}
+use Rattle.qpack_spec.specs.Instruction.{EncoderInstruction, InsertDynamicName, InsertLiteralName}
+use Rattle.qpack_spec.specs.Instruction.{Duplicate, SetCapacity}
 use Rattle.qpack_rules.specs.LawfulEncoders.{IsLawfulEncoder, IsLawfulSection}
 use Rattle.qpack_spec.specs.Line.{IndexedDynamic}
 use Rattle.qpack_rules.specs.StrictInstructions.{strict_apply}
@@ -28,18 +29,29 @@ two_sent =
     SetCapacity 64 ∷ InsertLiteralName (codes "foo") (codes "bar")
     ∷ InsertLiteralName (codes "foo") (codes "baz") ∷ []
 
+-- the second insertion by the name of the first, and the first one twice: each names the entry that it evicts
+named_sent : List EncoderInstruction
+named_sent = SetCapacity 64 ∷ InsertLiteralName (codes "foo") (codes "bar") ∷ InsertDynamicName 0 (codes "baz") ∷ []
+
+duplicated_sent : List EncoderInstruction
+duplicated_sent = SetCapacity 64 ∷ InsertLiteralName (codes "foo") (codes "bar") ∷ Duplicate 0 ∷ []
+
 one_made : History
 one_made = history_after (history_after (initial_history 0 64) (Resizes 64)) (Inserts first)
 
 two_made : History
 two_made = history_after one_made (Inserts second)
 
+duplicated_made : History
+duplicated_made = history_after one_made (Inserts first)
+
 unmarked : FieldLine
 unmarked = record { field = first; never_indexed = false }
 
 -- all that has to unfold
 rows : ℕ
-unfolding computed first second one_sent two_sent one_made two_made strict_apply is_never_indexed unmarked
+unfolding computed first second one_sent two_sent named_sent duplicated_sent one_made two_made duplicated_made
+    strict_apply is_never_indexed unmarked
 rows = 0
 
 -- the first insertion is lawful
@@ -59,6 +71,25 @@ two_are_lawful =
     record {
       taken = refl;
       makes = (Resizes 64, refl, (Inserts first, refl, (Inserts second, refl, refl)));
+      evicted = lit≤ tt;
+    }
+
+-- so is one that names the entry that it evicts (section 3.2.2)
+names_evicted_lawfully : IsLawfulEncoder 64 1 named_sent two_made
+unfolding rows
+names_evicted_lawfully =
+    record {
+      taken = refl;
+      makes = (Resizes 64, refl, (Inserts first, refl, (Inserts second, refl, refl)));
+      evicted = lit≤ tt;
+    }
+
+duplicates_evicted_lawfully : IsLawfulEncoder 64 1 duplicated_sent duplicated_made
+unfolding rows
+duplicates_evicted_lawfully =
+    record {
+      taken = refl;
+      makes = (Resizes 64, refl, (Inserts first, refl, (Inserts first, refl, refl)));
       evicted = lit≤ tt;
     }
 

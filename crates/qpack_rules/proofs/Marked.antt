@@ -7,9 +7,9 @@ use Rattle.std.proofs.lemmas.Bool.{cond_both}
 use Rattle.qpack_spec.specs.Field.{Field, FieldLine, has_name, is_field, unmarked}
 use Rattle.qpack_spec.specs.Handle.{found_name, found_instead, with_insertion, handle_field}
 use Rattle.qpack_spec.specs.Line.{Line, IndexedStatic, IndexedDynamic, IndexedPostBase, NamedStatic, NamedDynamic}
-use Rattle.qpack_spec.specs.Line.{NamedPostBase, Literal, written_line, written_lines, written_marked_line}
+use Rattle.qpack_spec.specs.Line.{NamedPostBase, Literal, coded_line, coded_lines, coded_marked_line}
 use Rattle.qpack_spec.specs.Marked.{stateless_line_marked}
-use Rattle.qpack_spec.specs.Marked.{marked_field, marked_fields, marked_rule, written_marked_lines, handle_line}
+use Rattle.qpack_spec.specs.Marked.{marked_field, marked_fields, marked_rule, coded_marked_lines, handle_line}
 use Rattle.qpack_spec.specs.Marked.{handle_lines, HandleIsTheMarkedRule, IsTheRuleUnmarked, MarkedLinesAreOfFields}
 use Rattle.qpack_spec.specs.Reading.{Block}
 use Rattle.qpack_spec.specs.Rule.{Draft, with_line, with_referencing_line, with_new_entry, name_reference_line}
@@ -18,6 +18,7 @@ use Rattle.qpack_spec.specs.Rule.{rule_fields, empty_draft, rule}
 use Rattle.qpack_spec.specs.Stateless.{stateless_line}
 use Rattle.qpack_spec.specs.StaticTable.{static_index, static_name_index}
 use Rattle.qpack_spec.specs.Table.{Table, insert_count, newest_index, may_reference, below_limit, has_room}
+use Rattle.qpack_spec.specs.Text.{Coding}
 use Rattle.qpack_rules.proofs.Handles.{NamesAbove, name_literal, handle_same, above_name, above_field, none_above}
 
 -- ---- the handle's steps
@@ -58,23 +59,24 @@ unmarked_fields : (base : ℕ) (d : Draft) (fs : List Field)
 unmarked_fields base d [] = refl
 unmarked_fields base d (f ∷ fs) = unmarked_fields base (rule_field base d f) fs
 
-unmarked_line : (l : Line) → written_marked_line false l ≡ written_line l
-unfolding written_marked_line
-unmarked_line (IndexedStatic index) = refl
-unmarked_line (IndexedDynamic relative) = refl
-unmarked_line (IndexedPostBase post_base) = refl
-unmarked_line (NamedStatic index value) = refl
-unmarked_line (NamedDynamic relative value) = refl
-unmarked_line (NamedPostBase post_base value) = refl
-unmarked_line (Literal name value) = refl
+unmarked_line : (coding : Coding) (l : Line) → coded_marked_line coding false l ≡ coded_line coding l
+unfolding coded_marked_line
+unmarked_line coding (IndexedStatic index) = refl
+unmarked_line coding (IndexedDynamic relative) = refl
+unmarked_line coding (IndexedPostBase post_base) = refl
+unmarked_line coding (NamedStatic index value) = refl
+unmarked_line coding (NamedDynamic relative value) = refl
+unmarked_line coding (NamedPostBase post_base value) = refl
+unmarked_line coding (Literal name value) = refl
 
-pub unmarked_lines : (fs : List Field) (ls : List Line) → written_marked_lines (map unmarked fs) ls ≡ written_lines ls
-unfolding written_marked_lines written_lines
-unmarked_lines [] ls = refl
-unmarked_lines (f ∷ fs) [] = refl
-unmarked_lines (f ∷ fs) (l ∷ ls) =
-    ap (λ (x : List ℕ). x ++ written_marked_lines (map unmarked fs) ls) (unmarked_line l)
-    ∙ ap (λ (x : List ℕ). written_line l ++ x) (unmarked_lines fs ls)
+pub unmarked_lines : (fs : List Field) (coding : Coding) (ls : List Line)
+    → coded_marked_lines coding (map unmarked fs) ls ≡ coded_lines coding ls
+unfolding coded_marked_lines coded_lines
+unmarked_lines [] coding ls = refl
+unmarked_lines (f ∷ fs) coding [] = refl
+unmarked_lines (f ∷ fs) coding (l ∷ ls) =
+    ap (λ (x : List ℕ). x ++ coded_marked_lines coding (map unmarked fs) ls) (unmarked_line coding l)
+    ∙ ap (λ (x : List ℕ). coded_line coding l ++ x) (unmarked_lines fs coding ls)
 
 stateless_unmarked : (fs : List Field)
     → map (λ l. stateless_line_marked l) (map unmarked fs) ≡ map (λ f. stateless_line f) fs

@@ -3,7 +3,7 @@ use Rattle.std.proofs.Common.{ℕ, ◌-◌, ◌≡◌, Bool, true, false, cond, 
 use Rattle.std.proofs.Common.{arith, sym, subst}
 use Rattle.std.specs.Prelude.{nat_le, ◌&&◌}
 use Rattle.std.proofs.lemmas.Bool.{cond_both, and_parts, lt-ltb}
-use Rattle.qpack_spec.specs.Chosen.{Choice, Alone, References, Names, Inserts, Chosen, passes_at, literal_chosen}
+use Rattle.qpack_spec.specs.Chosen.{Choice, Alone, References, Names, Inserts, Staying, Chosen, passes_at, literal_chosen}
 use Rattle.qpack_spec.specs.Chosen.{line_chosen, unreferenced_chosen, chosen_field, chosen_fields, chosen_rule}
 use Rattle.qpack_spec.specs.Chosen.{MarkedRuleIsChosen}
 use Rattle.qpack_spec.specs.Field.{Field, FieldLine, has_name, is_field}
@@ -23,7 +23,7 @@ IsLiteralChosen : ℕ → Draft → Field → Draft → Type 0
 IsLiteralChosen base d f new = (c : Choice) × (new ≡ literal_chosen base d f c)
 
 IsLineChosen : ℕ → Draft → Field → Draft → Type 0
-IsLineChosen base d f new = (c : Choice) × (new ≡ line_chosen base d f c)
+IsLineChosen base d f new = (c : Choice) × (new ≡ line_chosen Staying base d f c)
 
 found_passes : (t : Table) (p : Field → Bool) (a : ℕ) → FoundEntry t p a → passes_at t p a ≡ true
 found_passes t p a at =
@@ -57,7 +57,7 @@ line_of_literal : (base : ℕ) (d new : Draft) (f : Field) → static_index f �
 unfolding IsLiteralChosen IsLineChosen
 line_of_literal base d new f none k = pick k.0 k.1
   where
-    pick : (c : Choice) → new ≡ literal_chosen base d f c → (c : Choice) × (new ≡ line_chosen base d f c)
+    pick : (c : Choice) → new ≡ literal_chosen base d f c → (c : Choice) × (new ≡ line_chosen Staying base d f c)
     pick Alone e = (Alone, rw none e)
     pick (References a) e = (Alone, rw none e)
     pick (Names a) e = (Names a, rw none e)
@@ -101,11 +101,11 @@ field_is_chosen base d l = both l.never_indexed
     both : (never : Bool) → (c : Chosen)
         × (cond never (literal base d l.field (static_name_index l.field.name)) (rule_field base d l.field)
         ≡ cond never (literal_chosen base d l.field c.line)
-        (unreferenced_chosen c.unreferenced (line_chosen base d l.field c.line) l.field))
+        (unreferenced_chosen c.names c.unreferenced (line_chosen c.names base d l.field c.line) l.field))
     both true = let k = literal_is_chosen base d l.field (static_name_index l.field.name) refl in
-        (record { line = k.0; unreferenced = false }, k.1)
+        (record { line = k.0; unreferenced = false; names = Staying }, k.1)
     both false = let k = static_chosen base d l.field (static_index l.field) refl in
-        (record { line = k.0; unreferenced = false }, k.1)
+        (record { line = k.0; unreferenced = false; names = Staying }, k.1)
 
 fields_are_chosen : (base : ℕ) (d : Draft) (ls : List FieldLine)
     → (cs : List Chosen) × (marked_fields base d ls ≡ chosen_fields base d ls cs)

@@ -8,11 +8,11 @@ use Rattle.qpack_spec.specs.Form.{IndexAndValue, NameAndValue}
 use Rattle.qpack_spec.specs.Huffman.{payload_of}
 use Rattle.qpack_spec.specs.Integer.{written_integer, written_groups, full}
 use Rattle.qpack_spec.specs.Line.{Line, IndexedStatic, IndexedDynamic, IndexedPostBase, NamedStatic, NamedDynamic}
-use Rattle.qpack_spec.specs.Line.{NamedPostBase, Literal, line_form, written_line, written_marked_line}
+use Rattle.qpack_spec.specs.Line.{NamedPostBase, Literal, line_form, coded_line, coded_marked_line}
 use Rattle.qpack_spec.specs.MarkedLaws.{is_literal, MarkedLinesAreSpellings}
 use Rattle.qpack_spec.specs.StrictReading.{is_never_indexed}
-use Rattle.qpack_spec.specs.Text.{written_string}
-use Rattle.qpack_spec.specs.WrittenLaws.{IsSmall, IsWritableLine}
+use Rattle.qpack_spec.specs.Text.{Coding, is_coded, written_literal_of, coded_string}
+use Rattle.qpack_spec.specs.WrittenLaws.{IsSmall, IsWritableLineUnder}
 use Rattle.qpack_spec.proofs.WrittenForms.{Starts, integer_starts, behind, integer_written, name_starts, lines_spelled}
 use Rattle.qpack_spec.proofs.WrittenForms.{by_index_and_value, by_name_and_value}
 
@@ -22,9 +22,10 @@ marked_post_base : (b : ℕ) → 1 ≡ b / 2 ^ 3 → line_form b ≡ Some (Index
 unfolding line_form
 marked_post_base b e = rw (lt-ltb b 16 (omega arith)) refl
 
-marked_literal : (b : ℕ) → 2 * 3 + 1 ≡ b / 2 ^ 3 → line_form b ≡ Some (NameAndValue 4 Literal)
+marked_literal : (b huffman : ℕ) → huffman < 2 → 2 * 3 + huffman ≡ b / 2 ^ 3
+    → line_form b ≡ Some (NameAndValue 4 Literal)
 unfolding line_form
-marked_literal b e = rw (le-ltb b 16 (omega arith), le-ltb b 32 (omega arith), lt-ltb b 64 (omega arith)) refl
+marked_literal b huffman few e = rw (le-ltb b 16 (omega arith), le-ltb b 32 (omega arith), lt-ltb b 64 (omega arith)) refl
 
 marked_static : (b : ℕ) → 7 ≡ b / 2 ^ 4 → line_form b ≡ Some (IndexAndValue 4 NamedStatic)
 unfolding line_form
@@ -49,25 +50,25 @@ marked_dynamic b e =
     ) refl
 
 pub marked_lines_spelled : MarkedLinesAreSpellings
-unfolding written_marked_line
-marked_lines_spelled true (NamedStatic i v) w k =
-    by_index_and_value line_form 4 7 i v NamedStatic (lit≤ tt) (lit≤ tt) (lit≤ tt) w.0 w.1 marked_static
-marked_lines_spelled true (NamedDynamic i v) w k =
-    by_index_and_value line_form 4 6 i v NamedDynamic (lit≤ tt) (lit≤ tt) (lit≤ tt) w.0 w.1 marked_dynamic
-marked_lines_spelled true (NamedPostBase i v) w k =
-    by_index_and_value line_form 3 1 i v NamedPostBase (lit≤ tt) (lit≤ tt) (lit≤ tt) w.0 w.1 marked_post_base
-marked_lines_spelled true (Literal n v) w k =
-    by_name_and_value line_form 3 3 n v Literal (lit≤ tt) (lit≤ tt) (lit≤ tt) (lit≤ tt) w.0 w.1 marked_literal
-marked_lines_spelled true (IndexedStatic i) w k = absurd (let e = k refl in cc)
-marked_lines_spelled true (IndexedDynamic i) w k = absurd (let e = k refl in cc)
-marked_lines_spelled true (IndexedPostBase i) w k = absurd (let e = k refl in cc)
-marked_lines_spelled false (IndexedStatic i) w k = lines_spelled (IndexedStatic i) w
-marked_lines_spelled false (IndexedDynamic i) w k = lines_spelled (IndexedDynamic i) w
-marked_lines_spelled false (IndexedPostBase i) w k = lines_spelled (IndexedPostBase i) w
-marked_lines_spelled false (NamedStatic i v) w k = lines_spelled (NamedStatic i v) w
-marked_lines_spelled false (NamedDynamic i v) w k = lines_spelled (NamedDynamic i v) w
-marked_lines_spelled false (NamedPostBase i v) w k = lines_spelled (NamedPostBase i v) w
-marked_lines_spelled false (Literal n v) w k = lines_spelled (Literal n v) w
+unfolding coded_marked_line
+marked_lines_spelled coding true (NamedStatic i v) w k =
+    by_index_and_value line_form coding 4 7 i v NamedStatic (lit≤ tt) (lit≤ tt) (lit≤ tt) w.0 w.1 marked_static
+marked_lines_spelled coding true (NamedDynamic i v) w k =
+    by_index_and_value line_form coding 4 6 i v NamedDynamic (lit≤ tt) (lit≤ tt) (lit≤ tt) w.0 w.1 marked_dynamic
+marked_lines_spelled coding true (NamedPostBase i v) w k =
+    by_index_and_value line_form coding 3 1 i v NamedPostBase (lit≤ tt) (lit≤ tt) (lit≤ tt) w.0 w.1 marked_post_base
+marked_lines_spelled coding true (Literal n v) w k =
+    by_name_and_value line_form coding 3 3 n v Literal (lit≤ tt) (lit≤ tt) (lit≤ tt) (lit≤ tt) w.0 w.1 marked_literal
+marked_lines_spelled coding true (IndexedStatic i) w k = absurd (let e = k refl in cc)
+marked_lines_spelled coding true (IndexedDynamic i) w k = absurd (let e = k refl in cc)
+marked_lines_spelled coding true (IndexedPostBase i) w k = absurd (let e = k refl in cc)
+marked_lines_spelled coding false (IndexedStatic i) w k = lines_spelled coding (IndexedStatic i) w
+marked_lines_spelled coding false (IndexedDynamic i) w k = lines_spelled coding (IndexedDynamic i) w
+marked_lines_spelled coding false (IndexedPostBase i) w k = lines_spelled coding (IndexedPostBase i) w
+marked_lines_spelled coding false (NamedStatic i v) w k = lines_spelled coding (NamedStatic i v) w
+marked_lines_spelled coding false (NamedDynamic i v) w k = lines_spelled coding (NamedDynamic i v) w
+marked_lines_spelled coding false (NamedPostBase i v) w k = lines_spelled coding (NamedPostBase i v) w
+marked_lines_spelled coding false (Literal n v) w k = lines_spelled coding (Literal n v) w
 
 -- ---- the first byte
 
@@ -83,9 +84,9 @@ free_post_base : (b : ℕ) → 1 ≡ b / 2 ^ 4 → is_never_indexed b ≡ false
 unfolding is_never_indexed
 free_post_base b e = rw (le-ltb b 16 (omega arith), lt-ltb b 32 (omega arith)) refl
 
-free_literal : (b : ℕ) → 2 * 2 + 1 ≡ b / 2 ^ 3 → is_never_indexed b ≡ false
+free_literal : (b huffman : ℕ) → huffman < 2 → 2 * 2 + huffman ≡ b / 2 ^ 3 → is_never_indexed b ≡ false
 unfolding is_never_indexed
-free_literal b e =
+free_literal b huffman few e =
     rw (
       le-ltb b 16 (omega arith),
       le-ltb b 32 (omega arith),
@@ -93,9 +94,9 @@ free_literal b e =
       ne_eqb (b / 16 % 2) 1 (λ h. absurd (omega arith)),
     ) refl
 
-never_literal : (b : ℕ) → 2 * 3 + 1 ≡ b / 2 ^ 3 → is_never_indexed b ≡ true
+never_literal : (b huffman : ℕ) → huffman < 2 → 2 * 3 + huffman ≡ b / 2 ^ 3 → is_never_indexed b ≡ true
 unfolding is_never_indexed
-never_literal b e =
+never_literal b huffman few e =
     rw (
       le-ltb b 16 (omega arith),
       le-ltb b 32 (omega arith),
@@ -154,59 +155,61 @@ index_tells : (n flags index : ℕ) → 1 ≤ n → n ≤ 8 → flags < 2 ^ (8 -
 index_tells n flags index least most fit small tells =
     starts_tell false n flags (written_integer n flags index) (index_starts n flags index least most fit small) tells
 
-index_and_value_tell : (never : Bool) (n flags index : ℕ) (value : List ℕ) → 1 ≤ n → n ≤ 8 → flags < 2 ^ (8 - n)
+index_and_value_tell : (coding : Coding) (never : Bool) (n flags index : ℕ) (value : List ℕ) → 1 ≤ n → n ≤ 8 → flags < 2 ^ (8 - n)
     → IsSmall index → ((b : ℕ) → flags ≡ b / 2 ^ n → is_never_indexed b ≡ never)
-    → Tells never (written_integer n flags index ++ written_string 8 0 value)
-index_and_value_tell never n flags index value least most fit small tells =
-    starts_tell never n flags (written_integer n flags index ++ written_string 8 0 value)
-    (behind n flags (written_integer n flags index) (written_string 8 0 value)
+    → Tells never (written_integer n flags index ++ coded_string coding 8 0 value)
+index_and_value_tell coding never n flags index value least most fit small tells =
+    starts_tell never n flags (written_integer n flags index ++ coded_string coding 8 0 value)
+    (behind n flags (written_integer n flags index) (coded_string coding 8 0 value)
     (index_starts n flags index least most fit small)) tells
 
-literal_tells : (never : Bool) (flags : ℕ) (name value : List ℕ) → 2 * flags + 1 < 2 ^ (8 - 3)
-    → IsWritableLine (Literal name value) → ((b : ℕ) → 2 * flags + 1 ≡ b / 2 ^ 3 → is_never_indexed b ≡ never)
-    → Tells never (written_string 4 flags name ++ written_string 8 0 value)
-literal_tells never flags name value fit w tells =
-    starts_tell never 3 (2 * flags + 1) (written_string 4 flags name ++ written_string 8 0 value)
-    (behind 3 (2 * flags + 1) (written_string 4 flags name) (written_string 8 0 value)
-    (name_starts 3 flags name (lit≤ tt) (lit≤ tt) fit w.0.size)) tells
+literal_tells : (coding : Coding) (never : Bool) (flags : ℕ) (name value : List ℕ) → 2 * flags + 1 < 2 ^ (8 - 3)
+    → IsWritableLineUnder coding (Literal name value)
+    → ((b huffman : ℕ) → huffman < 2 → 2 * flags + huffman ≡ b / 2 ^ 3 → is_never_indexed b ≡ never)
+    → Tells never (coded_string coding 4 flags name ++ coded_string coding 8 0 value)
+literal_tells coding never flags name value fit w tells =
+    let s = name_starts coding 3 flags name (lit≤ tt) (lit≤ tt) fit w.0.size in
+    starts_tell never 3 (2 * flags + s.huffman) (coded_string coding 4 flags name ++ coded_string coding 8 0 value)
+    (behind 3 (2 * flags + s.huffman) (coded_string coding 4 flags name) (coded_string coding 8 0 value) s.starts)
+    (λ b e. tells b s.huffman s.few e)
 
 -- a line that is not marked, as it is written
-line_free : (l : Line) → IsWritableLine l → Tells false (written_line l)
-unfolding written_line
-line_free (IndexedStatic i) w = index_tells 6 3 i (lit≤ tt) (lit≤ tt) (lit≤ tt) w (λ b e. free_index b 1 e)
-line_free (IndexedDynamic i) w = index_tells 6 2 i (lit≤ tt) (lit≤ tt) (lit≤ tt) w (λ b e. free_index b 0 e)
-line_free (IndexedPostBase i) w = index_tells 4 1 i (lit≤ tt) (lit≤ tt) (lit≤ tt) w free_post_base
-line_free (NamedStatic i v) w =
-    index_and_value_tell false 4 5 i v (lit≤ tt) (lit≤ tt) (lit≤ tt) w.0 (λ b e. free_name b 1 (lit≤ tt) e)
-line_free (NamedDynamic i v) w =
-    index_and_value_tell false 4 4 i v (lit≤ tt) (lit≤ tt) (lit≤ tt) w.0 (λ b e. free_name b 0 (lit≤ tt) e)
-line_free (NamedPostBase i v) w =
-    index_and_value_tell false 3 0 i v (lit≤ tt) (lit≤ tt) (lit≤ tt) w.0
+line_free : (coding : Coding) (l : Line) → IsWritableLineUnder coding l → Tells false (coded_line coding l)
+unfolding coded_line
+line_free coding (IndexedStatic i) w = index_tells 6 3 i (lit≤ tt) (lit≤ tt) (lit≤ tt) w (λ b e. free_index b 1 e)
+line_free coding (IndexedDynamic i) w = index_tells 6 2 i (lit≤ tt) (lit≤ tt) (lit≤ tt) w (λ b e. free_index b 0 e)
+line_free coding (IndexedPostBase i) w = index_tells 4 1 i (lit≤ tt) (lit≤ tt) (lit≤ tt) w free_post_base
+line_free coding (NamedStatic i v) w =
+    index_and_value_tell coding false 4 5 i v (lit≤ tt) (lit≤ tt) (lit≤ tt) w.0 (λ b e. free_name b 1 (lit≤ tt) e)
+line_free coding (NamedDynamic i v) w =
+    index_and_value_tell coding false 4 4 i v (lit≤ tt) (lit≤ tt) (lit≤ tt) w.0 (λ b e. free_name b 0 (lit≤ tt) e)
+line_free coding (NamedPostBase i v) w =
+    index_and_value_tell coding false 3 0 i v (lit≤ tt) (lit≤ tt) (lit≤ tt) w.0
     (λ b e. (post_base_name b 0 (lit≤ tt) e).0 refl)
-line_free (Literal n v) w = literal_tells false 2 n v (lit≤ tt) w free_literal
+line_free coding (Literal n v) w = literal_tells coding false 2 n v (lit≤ tt) w free_literal
 
 -- the first byte of what is written of a line tells whether its field is marked
-pub line_tells : (never : Bool) (l : Line) → IsWritableLine l → (never ≡ true → is_literal l ≡ true)
-    → Tells never (written_marked_line never l)
-unfolding written_marked_line
-line_tells true (NamedStatic i v) w k =
-    index_and_value_tell true 4 7 i v (lit≤ tt) (lit≤ tt) (lit≤ tt) w.0 (λ b e. never_name b 1 (lit≤ tt) e)
-line_tells true (NamedDynamic i v) w k =
-    index_and_value_tell true 4 6 i v (lit≤ tt) (lit≤ tt) (lit≤ tt) w.0 (λ b e. never_name b 0 (lit≤ tt) e)
-line_tells true (NamedPostBase i v) w k =
-    index_and_value_tell true 3 1 i v (lit≤ tt) (lit≤ tt) (lit≤ tt) w.0
+pub line_tells : (coding : Coding) (never : Bool) (l : Line) → IsWritableLineUnder coding l
+    → (never ≡ true → is_literal l ≡ true) → Tells never (coded_marked_line coding never l)
+unfolding coded_marked_line
+line_tells coding true (NamedStatic i v) w k =
+    index_and_value_tell coding true 4 7 i v (lit≤ tt) (lit≤ tt) (lit≤ tt) w.0 (λ b e. never_name b 1 (lit≤ tt) e)
+line_tells coding true (NamedDynamic i v) w k =
+    index_and_value_tell coding true 4 6 i v (lit≤ tt) (lit≤ tt) (lit≤ tt) w.0 (λ b e. never_name b 0 (lit≤ tt) e)
+line_tells coding true (NamedPostBase i v) w k =
+    index_and_value_tell coding true 3 1 i v (lit≤ tt) (lit≤ tt) (lit≤ tt) w.0
     (λ b e. (post_base_name b 1 (lit≤ tt) e).1 refl)
-line_tells true (Literal n v) w k = literal_tells true 3 n v (lit≤ tt) w never_literal
-line_tells true (IndexedStatic i) w k = absurd (let e = k refl in cc)
-line_tells true (IndexedDynamic i) w k = absurd (let e = k refl in cc)
-line_tells true (IndexedPostBase i) w k = absurd (let e = k refl in cc)
-line_tells false (IndexedStatic i) w k = line_free (IndexedStatic i) w
-line_tells false (IndexedDynamic i) w k = line_free (IndexedDynamic i) w
-line_tells false (IndexedPostBase i) w k = line_free (IndexedPostBase i) w
-line_tells false (NamedStatic i v) w k = line_free (NamedStatic i v) w
-line_tells false (NamedDynamic i v) w k = line_free (NamedDynamic i v) w
-line_tells false (NamedPostBase i v) w k = line_free (NamedPostBase i v) w
-line_tells false (Literal n v) w k = line_free (Literal n v) w
+line_tells coding true (Literal n v) w k = literal_tells coding true 3 n v (lit≤ tt) w never_literal
+line_tells coding true (IndexedStatic i) w k = absurd (let e = k refl in cc)
+line_tells coding true (IndexedDynamic i) w k = absurd (let e = k refl in cc)
+line_tells coding true (IndexedPostBase i) w k = absurd (let e = k refl in cc)
+line_tells coding false (IndexedStatic i) w k = line_free coding (IndexedStatic i) w
+line_tells coding false (IndexedDynamic i) w k = line_free coding (IndexedDynamic i) w
+line_tells coding false (IndexedPostBase i) w k = line_free coding (IndexedPostBase i) w
+line_tells coding false (NamedStatic i v) w k = line_free coding (NamedStatic i v) w
+line_tells coding false (NamedDynamic i v) w k = line_free coding (NamedDynamic i v) w
+line_tells coding false (NamedPostBase i v) w k = line_free coding (NamedPostBase i v) w
+line_tells coding false (Literal n v) w k = line_free coding (Literal n v) w
 
 -- ---- a mark takes no byte
 
@@ -219,41 +222,52 @@ integer_length n flags other value =
     ≡ length (cond b (((other % 2 ^ (8 - n)) * 2 ^ n + value) ∷ [])
     (((other % 2 ^ (8 - n)) * 2 ^ n + full n) ∷ written_groups 9 (value - full n)))) [ true ↦ refl | false ↦ refl ]
 
-string_length : (n flags other : ℕ) (text : List ℕ) → length (written_string n flags text)
-    ≡ length (written_string n other text)
-unfolding written_string
-string_length n flags other text =
-    let len = integer_length (n - 1) (2 * flags + 1) (2 * other + 1) (length (payload_of text)) in
-    let a = length-append (written_integer (n - 1) (2 * flags + 1) (length (payload_of text))) (payload_of text) in
-    let b = length-append (written_integer (n - 1) (2 * other + 1) (length (payload_of text))) (payload_of text) in
+payload_length : (n flags other huffman : ℕ) (payload : List ℕ)
+    → length (written_literal_of n flags huffman payload) ≡ length (written_literal_of n other huffman payload)
+payload_length n flags other huffman payload =
+    let len = integer_length (n - 1) (2 * flags + huffman) (2 * other + huffman) (length payload) in
+    let a = length-append (written_integer (n - 1) (2 * flags + huffman) (length payload)) payload in
+    let b = length-append (written_integer (n - 1) (2 * other + huffman) (length payload)) payload in
     omega (arith, len, a, b)
 
-value_length : (n flags other index : ℕ) (value : List ℕ)
-    → length (written_integer n flags index ++ written_string 8 0 value)
-    ≡ length (written_integer n other index ++ written_string 8 0 value)
-value_length n flags other index value =
+string_length : (coding : Coding) (n flags other : ℕ) (text : List ℕ)
+    → length (coded_string coding n flags text) ≡ length (coded_string coding n other text)
+unfolding coded_string
+string_length coding n flags other text =
+    elim (is_coded coding text) as (λ b. length (cond b (written_literal_of n flags 1 (payload_of text))
+    (written_literal_of n flags 0 text))
+    ≡ length (cond b (written_literal_of n other 1 (payload_of text)) (written_literal_of n other 0 text))) [
+      | true ↦ payload_length n flags other 1 (payload_of text)
+      | false ↦ payload_length n flags other 0 text
+    ]
+
+value_length : (coding : Coding) (n flags other index : ℕ) (value : List ℕ)
+    → length (written_integer n flags index ++ coded_string coding 8 0 value)
+    ≡ length (written_integer n other index ++ coded_string coding 8 0 value)
+value_length coding n flags other index value =
     let len = integer_length n flags other index in
-    let a = length-append (written_integer n flags index) (written_string 8 0 value) in
-    let b = length-append (written_integer n other index) (written_string 8 0 value) in
+    let a = length-append (written_integer n flags index) (coded_string coding 8 0 value) in
+    let b = length-append (written_integer n other index) (coded_string coding 8 0 value) in
     omega (arith, len, a, b)
 
-pub line_length : (never : Bool) (l : Line) → length (written_marked_line never l) ≡ length (written_line l)
-unfolding written_marked_line written_line
-line_length true (NamedStatic i v) = value_length 4 7 5 i v
-line_length true (NamedDynamic i v) = value_length 4 6 4 i v
-line_length true (NamedPostBase i v) = value_length 3 1 0 i v
-line_length true (Literal n v) =
-    let len = string_length 4 3 2 n in
-    let a = length-append (written_string 4 3 n) (written_string 8 0 v) in
-    let b = length-append (written_string 4 2 n) (written_string 8 0 v) in
+pub line_length : (coding : Coding) (never : Bool) (l : Line)
+    → length (coded_marked_line coding never l) ≡ length (coded_line coding l)
+unfolding coded_marked_line coded_line
+line_length coding true (NamedStatic i v) = value_length coding 4 7 5 i v
+line_length coding true (NamedDynamic i v) = value_length coding 4 6 4 i v
+line_length coding true (NamedPostBase i v) = value_length coding 3 1 0 i v
+line_length coding true (Literal n v) =
+    let len = string_length coding 4 3 2 n in
+    let a = length-append (coded_string coding 4 3 n) (coded_string coding 8 0 v) in
+    let b = length-append (coded_string coding 4 2 n) (coded_string coding 8 0 v) in
     omega (arith, len, a, b)
-line_length true (IndexedStatic i) = refl
-line_length true (IndexedDynamic i) = refl
-line_length true (IndexedPostBase i) = refl
-line_length false (IndexedStatic i) = refl
-line_length false (IndexedDynamic i) = refl
-line_length false (IndexedPostBase i) = refl
-line_length false (NamedStatic i v) = refl
-line_length false (NamedDynamic i v) = refl
-line_length false (NamedPostBase i v) = refl
-line_length false (Literal n v) = refl
+line_length coding true (IndexedStatic i) = refl
+line_length coding true (IndexedDynamic i) = refl
+line_length coding true (IndexedPostBase i) = refl
+line_length coding false (IndexedStatic i) = refl
+line_length coding false (IndexedDynamic i) = refl
+line_length coding false (IndexedPostBase i) = refl
+line_length coding false (NamedStatic i v) = refl
+line_length coding false (NamedDynamic i v) = refl
+line_length coding false (NamedPostBase i v) = refl
+line_length coding false (Literal n v) = refl

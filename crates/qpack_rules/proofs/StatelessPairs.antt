@@ -1,5 +1,5 @@
 -- The stateless pair: what is written without a table is read without one.
-use Rattle.std.proofs.Common.{◌≡◌, ℕ, zero, suc, ◌+◌, ◌≤◌, Bool, false, List, [], ◌∷◌, ◌++◌, length, map, Option, None}
+use Rattle.std.proofs.Common.{◌≡◌, ℕ, zero, suc, ◌+◌, ◌*◌, ◌≤◌, Bool, false, List, [], ◌∷◌, ◌++◌, length, map, Option, None}
 use Rattle.std.proofs.Common.{Some, Result, Ok, Err, refl, sym, ap, ◌∙◌, arith, lit≤, length-append}
 use Rattle.std.specs.List.{AllByRecursion}
 use Rattle.std.proofs.lemmas.Bool.{le-ltb}
@@ -7,13 +7,13 @@ use Rattle.std.proofs.lemmas.List.{append-nil, append_assoc}
 use Rattle.qpack_spec.specs.Bytes.{◌>>=◌}
 use Rattle.qpack_spec.specs.Field.{Field, field_size, has_name, is_field}
 use Rattle.qpack_spec.specs.Integer.{written_integer}
-use Rattle.qpack_spec.specs.Text.{written_string}
+use Rattle.qpack_spec.specs.Text.{Coding, coded_string}
 use Rattle.qpack_spec.specs.StaticTable.{static_index, static_name_index}
 use Rattle.qpack_spec.specs.Form.{FormFault, form_at}
-use Rattle.qpack_spec.specs.Line.{Line, line_form, written_line, written_lines}
+use Rattle.qpack_spec.specs.Line.{Line, line_form, coded_line, coded_lines}
 use Rattle.qpack_spec.specs.Prefix.{prefix_for}
 use Rattle.qpack_spec.specs.Reading.{greatest_of}
-use Rattle.qpack_spec.specs.BlockReading.{written_block}
+use Rattle.qpack_spec.specs.BlockReading.{coded_block}
 use Rattle.qpack_spec.specs.Table.{Table, empty_table, below_limit, last_position, newest_index, without_references}
 use Rattle.qpack_spec.specs.Table.{insert_count}
 use Rattle.qpack_spec.specs.Rule.{Draft, with_line, literal_by_entry, literal, insertion_or_literal, by_entry}
@@ -23,7 +23,7 @@ use Rattle.qpack_spec.specs.Stateless.{stateless_literal, stateless_line_of, sta
 use Rattle.qpack_spec.specs.Stateless.{StatelessFault}
 use Rattle.qpack_spec.specs.Stateless.{stateless_field, or_bad_bytes, within_limit, stateless_at, stateless_reading}
 use Rattle.qpack_spec.specs.Stateless.{RuleWithoutTable, up_to_limit, StatelessPairAgrees}
-use Rattle.qpack_spec.specs.WrittenLaws.{IsWritableField, IsWritableLine}
+use Rattle.qpack_spec.specs.WrittenLaws.{IsWritableFieldUnder, IsWritableLineUnder}
 use Rattle.qpack_spec.proofs.Readings.{static_means}
 use Rattle.qpack_rules.proofs.StatelessMeanings.{none_alone}
 use Rattle.qpack_spec.proofs.Positions.{static_found, static_name_found, named_field}
@@ -104,21 +104,21 @@ rule_without fs = ap (block_of nothing) (rule_is fs) ∙ block_is (map (λ f. st
 -- ---- reading what was written
 
 -- each line can be written, is no post-base line, and means its field
-record WrittenAlone (f : Field) (l : Line) : Type 0 where
-  pub writable : IsWritableLine l
+record WrittenAlone (coding : Coding) (f : Field) (l : Line) : Type 0 where
+  pub writable : IsWritableLineUnder coding l
   pub means : stateless_field l ≡ Ok f
   pub first : ℕ
   pub more : List ℕ
-  pub begins : written_line l ≡ first ∷ more
+  pub begins : coded_line coding l ≡ first ∷ more
   pub high : 32 ≤ first
 
-literal_written : (f : Field) → IsWritableField f → (o : Option ℕ) → static_name_index f.name ≡ o
-    → WrittenAlone f (stateless_literal f o)
-unfolding written_line
-literal_written f w (Some i) e =
+literal_written : (coding : Coding) (f : Field) → IsWritableFieldUnder coding f → (o : Option ℕ) → static_name_index f.name ≡ o
+    → WrittenAlone coding f (stateless_literal f o)
+unfolding coded_line
+literal_written coding f w (Some i) e =
     let at = static_name_found f.name i e in
     let small = static_small i at.0 at.1 in
-    let s = behind 4 5 (written_integer 4 5 i) (written_string 8 0 f.value)
+    let s = behind 4 5 (written_integer 4 5 i) (coded_string coding 8 0 f.value)
     (integer_starts 4 (written_integer 4 5 i) 5 i (integer_written 4 5 i (lit≤ tt) (lit≤ tt) (lit≤ tt) small)) in
     record {
       writable = (small, w.1);
@@ -129,9 +129,9 @@ literal_written f w (Some i) e =
       begins = s.begins;
       high = omega (arith, s.high);
     }
-literal_written f w None e =
-    let s = behind 3 5 (written_string 4 2 f.name) (written_string 8 0 f.value)
-    (name_starts 3 2 f.name (lit≤ tt) (lit≤ tt) (lit≤ tt) w.0.size) in
+literal_written coding f w None e =
+    let start = name_starts coding 3 2 f.name (lit≤ tt) (lit≤ tt) (lit≤ tt) w.0.size in
+    let s = behind 3 (2 * 2 + start.huffman) (coded_string coding 4 2 f.name) (coded_string coding 8 0 f.value) start.starts in
     record {
       writable = (w.0, w.1);
       means = refl;
@@ -141,10 +141,10 @@ literal_written f w None e =
       high = omega (arith, s.high);
     }
 
-line_written : (f : Field) → IsWritableField f → (o : Option ℕ) → static_index f ≡ o
-    → WrittenAlone f (stateless_line_of f o)
-unfolding written_line
-line_written f w (Some i) e =
+line_written : (coding : Coding) (f : Field) → IsWritableFieldUnder coding f → (o : Option ℕ) → static_index f ≡ o
+    → WrittenAlone coding f (stateless_line_of f o)
+unfolding coded_line
+line_written coding f w (Some i) e =
     let at = static_found f i e in
     let small = static_small i f at in
     let s = integer_starts 6 (written_integer 6 3 i) 3 i (integer_written 6 3 i (lit≤ tt) (lit≤ tt) (lit≤ tt) small) in
@@ -156,7 +156,7 @@ line_written f w (Some i) e =
       begins = s.begins;
       high = omega (arith, s.high);
     }
-line_written f w None e = literal_written f w (static_name_index f.name) refl
+line_written coding f w None e = literal_written coding f w (static_name_index f.name) refl
 
 -- what is read of the next line, and behind it
 next_alone : ℕ → ℕ → ℕ → Result (Line × List ℕ) FormFault → Result (List Field) StatelessFault
@@ -181,37 +181,39 @@ same_behind : (r : Result Field StatelessFault) (f : Field) (h k : Field → Res
 same_behind (Ok g) f h k e = e g
 same_behind (Err d) f h k e = refl
 
-lines_cons : (l : Line) (ls : List Line) → written_lines (l ∷ ls) ≡ written_line l ++ written_lines ls
-unfolding written_lines
-lines_cons l ls = refl
+lines_cons : (coding : Coding) (l : Line) (ls : List Line)
+    → coded_lines coding (l ∷ ls) ≡ coded_line coding l ++ coded_lines coding ls
+unfolding coded_lines
+lines_cons coding l ls = refl
 
-no_lines : written_lines [] ≡ []
-unfolding written_lines
-no_lines = refl
+no_lines : (coding : Coding) → coded_lines coding [] ≡ []
+unfolding coded_lines
+no_lines coding = refl
 
-read_alone : (steps limit sum : ℕ) (fs : List Field) → AllByRecursion IsWritableField fs
-    → length (written_lines (map (λ f. stateless_line f) fs)) ≤ steps
-    → stateless_at steps limit sum (written_lines (map (λ f. stateless_line f) fs)) ≡ up_to_limit limit sum fs
-read_alone steps limit sum [] w h = ap (stateless_at steps limit sum) no_lines ∙ none_alone steps limit sum
-read_alone zero limit sum (f ∷ fs) w h =
-    let a = line_written f w.0 (static_index f) refl in
+read_alone : (coding : Coding) (steps limit sum : ℕ) (fs : List Field)
+    → AllByRecursion (IsWritableFieldUnder coding) fs
+    → length (coded_lines coding (map (λ f. stateless_line f) fs)) ≤ steps
+    → stateless_at steps limit sum (coded_lines coding (map (λ f. stateless_line f) fs)) ≡ up_to_limit limit sum fs
+read_alone coding steps limit sum [] w h = ap (stateless_at steps limit sum) (no_lines coding) ∙ none_alone steps limit sum
+read_alone coding zero limit sum (f ∷ fs) w h =
+    let a = line_written coding f w.0 (static_index f) refl in
     absurd (omega (
       arith,
       h,
-      ap length (lines_cons (stateless_line f) (map (λ g. stateless_line g) fs)),
-      length-append (written_line (stateless_line f)) (written_lines (map (λ g. stateless_line g) fs)),
+      ap length (lines_cons coding (stateless_line f) (map (λ g. stateless_line g) fs)),
+      length-append (coded_line coding (stateless_line f)) (coded_lines coding (map (λ g. stateless_line g) fs)),
       ap length
           a.begins,
     ))
-read_alone (suc steps) limit sum (f ∷ fs) w h =
+read_alone coding (suc steps) limit sum (f ∷ fs) w h =
     let l = stateless_line f in
-    let rest = written_lines (map (λ g. stateless_line g) fs) in
-    let a = line_written f w.0 (static_index f) refl in
-    let split : written_lines (l ∷ map (λ g. stateless_line g) fs) ≡ a.first ∷ (a.more ++ rest) =
-    lines_cons l (map (λ g. stateless_line g) fs) ∙ ap (λ x. x ++ rest) a.begins in
+    let rest = coded_lines coding (map (λ g. stateless_line g) fs) in
+    let a = line_written coding f w.0 (static_index f) refl in
+    let split : coded_lines coding (l ∷ map (λ g. stateless_line g) fs) ≡ a.first ∷ (a.more ++ rest) =
+    lines_cons coding l (map (λ g. stateless_line g) fs) ∙ ap (λ x. x ++ rest) a.begins in
     let read : form_at line_form (a.first ∷ (a.more ++ rest)) ≡ Ok (l, rest) =
     ap (form_at line_form) (ap (λ x. x ++ rest) (sym a.begins))
-    ∙ form_again line_form (written_line l) rest l (lines_spelled l a.writable) in
+    ∙ form_again line_form (coded_line coding l) rest l (lines_spelled coding l a.writable) in
     let short : length rest ≤ steps = omega (arith, h, ap length split, length-append a.more rest) in
     ap (stateless_at (suc steps) limit sum) split ∙ next_is steps limit sum a.first (a.more ++ rest) a.high
     ∙ ap (next_alone steps limit sum) read ∙ next_read steps limit sum l rest f a.means
@@ -219,12 +221,12 @@ read_alone (suc steps) limit sum (f ∷ fs) w h =
     >>= λ gs. Ok (g ∷ gs)) (λ g. up_to_limit limit (sum + field_size g) fs >>= λ gs. Ok (g ∷ gs))
     (λ g. ap (λ (r : Result (List Field) StatelessFault). r
     >>= λ gs. (let q : Result (List Field) StatelessFault = Ok (g ∷ gs) in q))
-    (read_alone steps limit (sum + field_size g) fs w.1 short))
+    (read_alone coding steps limit (sum + field_size g) fs w.1 short))
 
 pub pair_agrees : StatelessPairAgrees
-unfolding stateless_reading written_block
-pair_agrees limit fs w =
+unfolding stateless_reading coded_block
+pair_agrees coding limit fs w =
     let b = stateless_block fs in
-    rw (prefix_again _ (written_lines b.lines) b.prefix
+    rw (prefix_again _ (coded_lines coding b.lines) b.prefix
     (prefix_spelled b.prefix (record { count = lit≤ tt; delta = lit≤ tt })))
-    (read_alone (length (written_lines b.lines)) limit 0 fs w (omega arith))
+    (read_alone coding (length (coded_lines coding b.lines)) limit 0 fs w (omega arith))

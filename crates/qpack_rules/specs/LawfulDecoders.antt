@@ -2,7 +2,7 @@
 -- as statements (RFC 9204, sections 2.1, 2.2.2 and 4.4).
 use Rattle.std.specs.Prelude.{◌≡◌, ℕ, ◌+◌, ◌^◌, ◌<◌, ◌≤◌, max, Bool, false, List, [], ◌∷◌, ◌++◌, length, None, Some, Ok}
 use Rattle.std.specs.List.{AllByRecursion}
-use Rattle.qpack_spec.specs.Chosen.{Chosen, Inserts, chosen_rule}
+use Rattle.qpack_spec.specs.Chosen.{Chosen, Inserts, Naming, chosen_rule}
 use Rattle.qpack_spec.specs.Field.{FieldLine, field_size, is_field}
 use Rattle.qpack_spec.specs.Instruction.{DecoderInstruction, Acknowledgment, Cancellation, Increment}
 use Rattle.qpack_spec.specs.Marked.{marked_rule, marked_fields}
@@ -93,7 +93,7 @@ InsertionsGoOn =
 -- requires a new insertion (section 2.1.2)
 abbrev pub ChosenInsertionsGoOn : Type 0
 ChosenInsertionsGoOn =
-    (t : Table) (l : FieldLine) (more : List FieldLine) (unreferenced : Bool) (cs : List Chosen) → IsQuiet t
-    → l.never_indexed ≡ false → field_size l.field ≤ t.capacity → length t.blocked < t.limit → insert_count t < 2 ^ 62
-    → (let first : Chosen = record { line = Inserts; unreferenced = unreferenced } in
+    (t : Table) (l : FieldLine) (more : List FieldLine) (unreferenced : Bool) (names : Naming) (cs : List Chosen)
+    → IsQuiet t → l.never_indexed ≡ false → field_size l.field ≤ t.capacity → length t.blocked < t.limit → insert_count t < 2 ^ 62
+    → (let first : Chosen = record { line = Inserts; unreferenced = unreferenced; names = names } in
     insert_count t < required_insert_count (chosen_rule t (l ∷ more) (first ∷ cs)))

@@ -10,17 +10,18 @@ use Rattle.qpack_spec.specs.Field.{FieldLine, fields_of_lines, total_size}
 use Rattle.qpack_spec.specs.History.{History, window_of, whole_window, initial_history}
 use Rattle.qpack_spec.specs.Instruction.{EncoderInstruction, DecoderInstruction}
 use Rattle.qpack_spec.specs.Line.{Line, IndexedStatic, IndexedDynamic, IndexedPostBase, NamedStatic, NamedDynamic}
-use Rattle.qpack_spec.specs.Line.{NamedPostBase, Literal, written_lines}
+use Rattle.qpack_spec.specs.Line.{NamedPostBase, Literal, coded_lines}
 use Rattle.qpack_spec.specs.Chosen.{Chosen, chosen_rule}
-use Rattle.qpack_spec.specs.Marked.{stateless_block_marked, written_marked_lines, written_marked_block}
+use Rattle.qpack_spec.specs.Marked.{stateless_block_marked, coded_marked_lines, coded_marked_block}
 use Rattle.qpack_spec.specs.MarkedLaws.{AreLiteralsWhereMarked}
 use Rattle.qpack_spec.specs.Prefix.{Prefix, prefix_for, read_prefix, written_prefix}
 use Rattle.qpack_spec.specs.Reading.{fields_of, references_of_line, references_of, greatest_of}
 use Rattle.qpack_rules.specs.Session.{stream_at, with_stream, oldest_undecoded, is_read, sum_of, pieces_of}
 use Rattle.qpack_spec.specs.StrictLaws.{IsStrict}
 use Rattle.qpack_spec.specs.Table.{Table, with_capacity}
+use Rattle.qpack_spec.specs.Text.{Coding}
 use Rattle.qpack_spec.specs.Window.{Window, TableRefusal, window_insert_count, apply}
-use Rattle.qpack_spec.specs.WrittenLaws.{IsByteField, IsByteLine, IsWritableBlock}
+use Rattle.qpack_spec.specs.WrittenLaws.{IsByteField, IsByteLine, IsWritableBlockUnder}
 use Rattle.qpack_rules.proofs.AloneSections.{literals_alone, written_alone}
 use Rattle.qpack_spec.proofs.Drafts.{IsLive}
 use Rattle.qpack_spec.proofs.Lists.{every_both, every_get}
@@ -335,60 +336,60 @@ reads_block capacity maximum limit w k s b live there = pick (cases_lt 0 (greate
 
 -- ---- and its bytes are read so
 
-fewer_lines : (fields : List FieldLine) (b : AbstractBlock) → length (section_of fields b) < 2 ^ 63
-    → length (written_lines b.block.lines) < 2 ^ 63
-unfolding written_marked_block
-fewer_lines fields b short =
+fewer_lines : (coding : Coding) (fields : List FieldLine) (b : AbstractBlock)
+    → length (section_of coding fields b) < 2 ^ 63 → length (coded_lines coding b.block.lines) < 2 ^ 63
+unfolding coded_marked_block
+fewer_lines coding fields b short =
     omega (
       arith,
       short,
-      length-append (written_prefix b.block.prefix) (written_marked_lines fields b.block.lines),
-      lines_length fields b.block.lines,
+      length-append (written_prefix b.block.prefix) (coded_marked_lines coding fields b.block.lines),
+      lines_length coding fields b.block.lines,
     )
 
-writable : (capacity maximum : ℕ) (made : History) (stream : List EncoderInstruction) (fields : List FieldLine)
+writable : (coding : Coding) (capacity maximum : ℕ) (made : History) (stream : List EncoderInstruction) (fields : List FieldLine)
     (b : AbstractBlock) → KeepsBlock capacity maximum made stream b → IsBlockOf fields b
-    → AllByRecursion IsByteField (fields_of_lines fields) → length (section_of fields b) < 2 ^ 63
-    → IsWritableBlock b.block
-writable capacity maximum made stream fields b ok of are short =
+    → AllByRecursion IsByteField (fields_of_lines fields) → length (section_of coding fields b) < 2 ^ 63
+    → IsWritableBlockUnder coding b.block
+writable coding capacity maximum made stream fields b ok of are short =
     let sound = leads_sound (initial_history capacity maximum) ok.front ok.at_end ok.leads
     (sound_start capacity maximum) in
     record {
       prefix = rw ok.written (prefix_small maximum (greatest_of b.referenced) ok.base
           (omega (arith, ok.within, sound.few)) ok.few);
-      lines = lines_fit b.block.lines (of.bytes are) (fewer_lines fields b short);
+      lines = lines_fit coding b.block.lines (of.bytes are) (fewer_lines coding fields b short);
     }
 
 -- the next section of a stream, of these fields
-pub block_read : (capacity maximum limit size : ℕ) (w : AbstractSession) → Invariant capacity maximum limit w → (s : ℕ)
+pub block_read : (coding : Coding) (capacity maximum limit size : ℕ) (w : AbstractSession) → Invariant capacity maximum limit w → (s : ℕ)
     (fields : List FieldLine) (b : AbstractBlock) → (stream_at w.streams s).cancelled ≡ false
     → oldest_undecoded (stream_at w.streams s) ≡ Some b → IsBlockOf fields b
-    → AllByRecursion IsByteField (fields_of_lines fields) → length (section_of fields b) < 2 ^ 63
-    → total_size (fields_of_lines fields) ≤ size → IsReadStrictly w.decoder size fields b
-block_read capacity maximum limit size w k s fields b live block of are short low =
+    → AllByRecursion IsByteField (fields_of_lines fields) → length (section_of coding fields b) < 2 ^ 63
+    → total_size (fields_of_lines fields) ≤ size → IsReadStrictly coding w.decoder size fields b
+block_read coding capacity maximum limit size w k s fields b live block of are short low =
     let ok : KeepsBlock capacity maximum k.made (w.taken ++ w.in_flight) b =
     every_get (KeepsBlock capacity maximum k.made (w.taken ++ w.in_flight)) (stream_at w.streams s).blocks
     (stream_at w.streams s).decoded b block (k.streams s).blocks in
-    let write = writable capacity maximum k.made (w.taken ++ w.in_flight) fields b ok of are short in
+    let write = writable coding capacity maximum k.made (w.taken ++ w.in_flight) fields b ok of are short in
     let r = reads_block capacity maximum limit w k s b live block in
     record {
       blocked = λ missing.
-          marked_sections_blocked w.decoder r.later size (required_count b) r.base b.block fields write r.prefix missing
+          marked_sections_blocked coding w.decoder r.later size (required_count b) r.base b.block fields write r.prefix missing
           r.strict.no_count (r.means_later ∙ ap Ok of.fields_are) low;
       read = λ received.
-          marked_sections_read w.decoder size (required_count b) r.base b.block fields write r.prefix received r.strict
+          marked_sections_read coding w.decoder size (required_count b) r.base b.block fields write r.prefix received r.strict
           (r.means received ∙ ap Ok of.fields_are) of.literals low;
     }
 
 pub sections_strict : SectionsAreReadStrictly
-sections_strict capacity maximum limit size within steps s fields b next are short low =
+sections_strict coding capacity maximum limit size within steps s fields b next are short low =
     let w = after_end_steps steps (abstract_start capacity maximum limit) in
     let k = (holds_behind capacity maximum limit steps (abstract_start capacity maximum limit)
     (holds_started capacity maximum limit within)).invariant in
     let found = agrees_get IsBlockOf (handed_on s steps) (stream_at w.streams s).blocks (stream_at w.streams s).decoded
     fields (blocks_handed capacity maximum limit within steps s) next.handed in
     let same : found.0 ≡ b = some_is found.0 b (sym found.1 ∙ next.block) in
-    block_read capacity maximum limit size w k s fields b next.live next.block
+    block_read coding capacity maximum limit size w k s fields b next.live next.block
     (subst (IsBlockOf fields) same found.2) are short low
   where
     some_is : (x y : AbstractBlock) → Some x ≡ Some y → x ≡ y

@@ -29,6 +29,7 @@ use Rattle.qpack_spec.proofs.Positions.{every_take}
 use Rattle.qpack_spec.proofs.BlockReadings.{written_read, written_means}
 use Rattle.qpack_rules.proofs.PutTables.{window_put, count_put}
 use Rattle.qpack_spec.specs.Prefix.{Prefix, base_behind, read_base}
+use Rattle.qpack_spec.specs.Text.{Always}
 use Rattle.qpack_spec.proofs.Lists.{every_get}
 use Rattle.qpack_spec.proofs.Windows.{Agreed, agreed_start, leads_agreed, leads_append, leads_unique}
 use Rattle.qpack_spec.proofs.Readings.{fields_plain}
@@ -223,7 +224,7 @@ reads_exactly capacity maximum limit v w sh k s b live next =
     let same : reading_of_bytes (window v.decoder) b.bytes ≡ reading w.decoder at.0.block =
     ap (λ (t : Table). reading_of_bytes (window t) b.bytes) sh.decoder_is
     ∙ ap (λ (x : Window). reading_of_bytes x b.bytes) (window_put w.decoder)
-    ∙ ap (reading_of_bytes w.decoder) shown.bytes_are ∙ written_read w.decoder at.0.block shown.writable in
+    ∙ ap (reading_of_bytes w.decoder) shown.bytes_are ∙ written_read Always w.decoder at.0.block shown.writable in
     record {
       missing =
           λ lt. same ∙ d.missing (omega (arith, lt, many, shown.required_is))
@@ -305,7 +306,7 @@ means_handed capacity maximum limit v w sh k instructions all j l s position b t
     ap (λ (h : History). meaning_over_all h b.bytes b.required) same
     ∙ ap (λ (x : List ℕ). meaning_over_all k.made x b.required) found.2.bytes_are
     ∙ ap (meaning_over_all k.made (written_block found.0.block)) found.2.required_is
-    ∙ written_means k.made found.0.block (required_count found.0) base.0 found.0.fields found.2.writable base.1 base.2
+    ∙ written_means Always k.made found.0.block (required_count found.0) base.0 found.0.fields found.2.writable base.1 base.2
     ∙ ap (λ (fs : List Field). let r : Result (List Field) Fault = Ok fs in r) (sym found.2.handed_are)
 
 -- ---- what a delivery takes

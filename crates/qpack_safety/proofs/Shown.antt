@@ -7,12 +7,13 @@ use Rattle.std.proofs.Math.Nat.{mod-le}
 use Rattle.std.proofs.lemmas.Bool.{cond_both}
 use Rattle.std.proofs.lemmas.List.{append_assoc}
 use Rattle.qpack_spec.specs.Instruction.{EncoderInstruction, DecoderInstruction, SpellsEncoderInstruction}
-use Rattle.qpack_spec.specs.Instruction.{SpellsDecoderInstruction, written_encoder_instruction}
-use Rattle.qpack_spec.specs.Instruction.{written_encoder_instructions, written_decoder_instruction}
+use Rattle.qpack_spec.specs.Instruction.{SpellsDecoderInstruction, coded_encoder_instruction}
+use Rattle.qpack_spec.specs.Instruction.{coded_encoder_instructions, written_decoder_instruction}
 use Rattle.qpack_spec.specs.Instruction.{written_decoder_instructions}
 use Rattle.qpack_spec.specs.Stream.{SpellsAll}
 use Rattle.qpack_spec.specs.Prefix.{prefix_for}
-use Rattle.qpack_spec.specs.WrittenLaws.{IsWritableEncoderInstruction, IsWritableDecoderInstruction, IsWritablePrefix}
+use Rattle.qpack_spec.specs.WrittenLaws.{IsWritableInstructionUnder, IsWritableDecoderInstruction, IsWritablePrefix}
+use Rattle.qpack_spec.specs.Text.{Coding}
 use Rattle.qpack_safety.specs.AbstractSession.{AbstractBlock, is_dynamic, AbstractStream}
 use Rattle.qpack_rules.specs.Session.{KeptBlock, KeptStream, requires_entry, increments}
 use Rattle.qpack_spec.proofs.WrittenForms.{instructions_spelled, decoder_instructions_spelled}
@@ -110,16 +111,17 @@ dynamic_many encoder_stream lines (suc n) (x ∷ xs) (y ∷ ys) h =
 
 -- ---- what is written is joined
 
-pub instructions_joined : (is : List EncoderInstruction) → AllByRecursion IsWritableEncoderInstruction is
-    → SpellsAll SpellsEncoderInstruction (written_encoder_instructions is) is
-unfolding written_encoder_instructions
-instructions_joined [] w = refl
-instructions_joined (i ∷ is) w = (
-  written_encoder_instruction i,
-  written_encoder_instructions is,
+pub instructions_joined : (coding : Coding) (is : List EncoderInstruction)
+    → AllByRecursion (IsWritableInstructionUnder coding) is
+    → SpellsAll SpellsEncoderInstruction (coded_encoder_instructions coding is) is
+unfolding coded_encoder_instructions
+instructions_joined coding [] w = refl
+instructions_joined coding (i ∷ is) w = (
+  coded_encoder_instruction coding i,
+  coded_encoder_instructions coding is,
   refl,
-  instructions_spelled i w.0,
-  instructions_joined is w.1,
+  instructions_spelled coding i w.0,
+  instructions_joined coding is w.1,
 )
 
 pub decoder_instructions_joined : (rs : List DecoderInstruction) → AllByRecursion IsWritableDecoderInstruction rs

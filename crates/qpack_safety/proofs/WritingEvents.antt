@@ -16,7 +16,7 @@ use Rattle.qpack_spec.specs.Window.{maximum_capacity, greatest_capacity, TableRe
 use Rattle.qpack_spec.specs.Reading.{Block, greatest_of}
 use Rattle.qpack_spec.specs.Prefix.{written_prefix}
 use Rattle.qpack_spec.specs.Line.{written_lines}
-use Rattle.qpack_spec.specs.BlockReading.{written_block}
+use Rattle.qpack_spec.specs.BlockReading.{coded_block, written_block}
 use Rattle.qpack_spec.specs.Table.{Table, insert_count, with_capacity}
 use Rattle.qpack_spec.specs.Rule.{rule, required_insert_count, block_of}
 use Rattle.qpack_safety.specs.AbstractSession.{AbstractBlock, is_dynamic, AbstractSession, after_encode, after_abandon}
@@ -25,6 +25,7 @@ use Rattle.qpack_rules.specs.Session.{KeptBlock, KeptStream, stream_at, with_kep
 use Rattle.qpack_rules.specs.Session.{awaits_acknowledgment}
 use Rattle.qpack_rules.specs.Session.{requires_entry, unless_cancelled, with_block, after_refused_encode, with_decoded}
 use Rattle.qpack_spec.specs.WrittenLaws.{IsByteField, IsWritableBlock}
+use Rattle.qpack_spec.specs.Text.{Always}
 use Rattle.qpack_spec.proofs.Lists.{every_right, every_weaker}
 use Rattle.qpack_spec.proofs.Readings.{greatest_bound}
 use Rattle.qpack_spec.proofs.Drafts.{IsLive, Drafting, count_inserted, rule_drafts}
@@ -77,7 +78,7 @@ ends_here encoder_stream lines j =
     }
 
 lines_short : (b : Block) → length (written_block b) < 2 ^ 63 → length (written_lines b.lines) < 2 ^ 63
-unfolding written_block
+unfolding coded_block
 lines_short b h = omega (arith, h, length-append (written_prefix b.prefix) (written_lines b.lines))
 
 instructions_short : (encoder_stream : List ℕ) (is : List EncoderInstruction)
@@ -104,7 +105,7 @@ block_writable capacity maximum limit w fs k wr fits =
       prefix = prefix_small (maximum_capacity w.encoder.agreed_max w.encoder.capacity) (required_insert_count d)
           (insert_count w.encoder) (omega (arith, required, wd.few)) few;
       lines =
-          lines_fit d.lines wd.lines (lines_short (block_of w.encoder d) fits);
+          lines_fit Always d.lines wd.lines (lines_short (block_of w.encoder d) fits);
     }
 
 -- ---- a block is written
@@ -173,7 +174,7 @@ encoded_shown capacity maximum limit v w s fs sh k wr fits =
     let carried =
     carried_more SpellsEncoderInstruction v.encoder_stream more v.encoder_stream_taken w.taken w.in_flight
     d.instructions sh.encoder_stream
-    (instructions_joined d.instructions (instructions_fit d.instructions wd.instructions
+    (instructions_joined Always d.instructions (instructions_fit Always d.instructions wd.instructions
     (instructions_short v.encoder_stream d.instructions fits.0))) in
     let grown =
     λ (q : ℕ). subst (λ (l : List EncoderInstruction). RefinesStream encoder_stream l (stream_at v.streams q)
@@ -259,8 +260,8 @@ abandoned_shown capacity maximum limit v w fs sh k wr fits =
         encoder_stream =
             carried_more SpellsEncoderInstruction v.encoder_stream more v.encoder_stream_taken w.taken w.in_flight
             d.instructions
-            sh.encoder_stream (instructions_joined d.instructions
-            (instructions_fit d.instructions wd.instructions
+            sh.encoder_stream (instructions_joined Always d.instructions
+            (instructions_fit Always d.instructions wd.instructions
             (instructions_short v.encoder_stream d.instructions fits)));
         encoder_stream_order = sh.encoder_stream_order;
         decoder_taken = sh.decoder_taken;
@@ -312,7 +313,7 @@ lands_resized capacity maximum limit v w n t sh k e =
     let more = written_encoder_instruction (SetCapacity n) in
     let spelled =
     one_joined SpellsEncoderInstruction more (SetCapacity n)
-    (instructions_spelled (SetCapacity n) (small_capacity w.encoder t n same)) in
+    (instructions_spelled Always (SetCapacity n) (small_capacity w.encoder t n same)) in
     let regroup : (w.taken ++ w.in_flight) ++ SetCapacity n ∷ [] ≡ w.taken ++ (w.in_flight ++ SetCapacity n ∷ []) =
     append_assoc w.taken w.in_flight (SetCapacity n ∷ []) in
     record {

@@ -4,11 +4,12 @@ use Rattle.std.specs.Prelude.{◌≡◌, ◌<◌, ◌≤◌, ◌^◌, ℕ, false
 use Rattle.std.specs.Prelude.{slice_get}
 use Rattle.std.specs.List.{AllByRecursion}
 use Rattle.qpack_spec.specs.Field.{FieldLine, fields_of_lines, total_size}
-use Rattle.qpack_spec.specs.Marked.{written_marked_block}
+use Rattle.qpack_spec.specs.Marked.{coded_marked_block}
 use Rattle.qpack_spec.specs.MarkedLaws.{AreLiteralsWhereMarked}
 use Rattle.qpack_rules.specs.Session.{stream_at, oldest_undecoded}
 use Rattle.qpack_spec.specs.StrictReading.{StrictReading, strict_reading, Read, Blocked, Refused, TooLong, InLine}
 use Rattle.qpack_spec.specs.StrictReading.{TooLarge}
+use Rattle.qpack_spec.specs.Text.{Coding}
 use Rattle.qpack_spec.specs.Window.{Window, window_insert_count}
 use Rattle.qpack_spec.specs.WrittenLaws.{IsByteField, IsByteLine}
 use Rattle.qpack_safety.specs.AbstractSession.{AbstractBlock, required_count, AbstractSession, abstract_start}
@@ -40,17 +41,17 @@ BlocksAreOfWhatWasHanded =
     → (let w = after_end_steps steps (abstract_start capacity maximum limit) in
     Agrees IsBlockOf (handed_on s steps) (stream_at w.streams s).blocks)
 
--- the bytes of a block of these fields
-abbrev pub section_of : List FieldLine → AbstractBlock → List ℕ
-section_of fields b = written_marked_block fields b.block
+-- the bytes of a block of these fields, whichever strings are coded
+abbrev pub section_of : Coding → List FieldLine → AbstractBlock → List ℕ
+section_of coding fields b = coded_marked_block coding fields b.block
 
 -- a strict decoder reads its bytes to exactly its fields with their marks, once the insertions are received that it
 -- requires; until then they are blocked, and it returns how many are required (section 2.2.1)
-pub record IsReadStrictly (w : Window) (size : ℕ) (fields : List FieldLine) (b : AbstractBlock) : Type 0 where
+pub record IsReadStrictly (coding : Coding) (w : Window) (size : ℕ) (fields : List FieldLine) (b : AbstractBlock) : Type 0 where
   pub blocked : window_insert_count w < required_count b
-      → strict_reading w size (section_of fields b) ≡ Blocked (required_count b)
+      → strict_reading w size (section_of coding fields b) ≡ Blocked (required_count b)
   pub read : required_count b ≤ window_insert_count w
-      → strict_reading w size (section_of fields b) ≡ Read fields (required_count b)
+      → strict_reading w size (section_of coding fields b) ≡ Read fields (required_count b)
 
 -- a section is over the limit of the decoder: it is longer than any within the limit, or the sizes of its fields pass it
 abbrev pub IsOverLimit : StrictReading → Type 0
@@ -69,9 +70,9 @@ pub record IsNext (steps : List EndStep) (w : AbstractSession) (s : ℕ) (fields
 -- and its fields are within the limit of the decoder
 abbrev pub SectionsAreReadStrictly : Type 0
 SectionsAreReadStrictly =
-    (capacity maximum limit size : ℕ) → capacity ≤ maximum
+    (coding : Coding) (capacity maximum limit size : ℕ) → capacity ≤ maximum
     → (steps : List EndStep) (s : ℕ) (fields : List FieldLine) (b : AbstractBlock)
     → (let w = after_end_steps steps (abstract_start capacity maximum limit) in
     IsNext steps w s fields b → AllByRecursion IsByteField (fields_of_lines fields)
-    → length (section_of fields b) < 2 ^ 63 → total_size (fields_of_lines fields) ≤ size
-    → IsReadStrictly w.decoder size fields b)
+    → length (section_of coding fields b) < 2 ^ 63 → total_size (fields_of_lines fields) ≤ size
+    → IsReadStrictly coding w.decoder size fields b)

@@ -7,9 +7,10 @@ use Rattle.std.specs.Prelude.{nat_eq}
 use Rattle.qpack_spec.specs.Bytes.{◌>>=◌}
 use Rattle.qpack_spec.specs.Field.{Field}
 use Rattle.qpack_spec.specs.Integer.{IntegerFault, SpellsInteger, integer_at, written_integer}
+use Rattle.qpack_spec.specs.Text.{Coding}
 use Rattle.qpack_spec.specs.Form.{FormFault, or_bad_integer, form_at}
-use Rattle.qpack_spec.specs.Line.{Line, line_form, SpellsLine, written_line, written_lines}
-use Rattle.qpack_spec.specs.WrittenLaws.{IsWritableLine, IsWritablePrefix, IsWritableBlock}
+use Rattle.qpack_spec.specs.Line.{Line, line_form, SpellsLine, coded_line, coded_lines}
+use Rattle.qpack_spec.specs.WrittenLaws.{IsWritableLineUnder, IsWritablePrefix, IsWritableBlockUnder}
 use Rattle.qpack_spec.specs.Stream.{SpellsAll}
 use Rattle.qpack_spec.specs.Prefix.{base_behind, Prefix, PrefixFault, SpellsPrefix, sign_bit, written_prefix, prefix_at}
 use Rattle.qpack_spec.specs.Prefix.{read_prefix}
@@ -19,7 +20,7 @@ use Rattle.qpack_spec.specs.Reading.{Fault, BadForm, line_field, prepend_field, 
 use Rattle.qpack_spec.specs.Reading.{reading}
 use Rattle.qpack_spec.specs.BlockReading.{meaning_over_all, StopsAt, in_bytes, in_line, ReadsSome, ReadsTo}
 use Rattle.qpack_spec.specs.BlockReading.{or_bad_form, fields_at, fields_in_bytes, bytes_behind, reading_of_bytes}
-use Rattle.qpack_spec.specs.BlockReading.{written_block}
+use Rattle.qpack_spec.specs.BlockReading.{coded_block}
 use Rattle.qpack_spec.proofs.Results.{bind_ok, ok_pair}
 use Rattle.qpack_spec.proofs.Readings.{followed_ok}
 use Rattle.qpack_spec.proofs.Integers.{integer_takes}
@@ -29,10 +30,17 @@ use Rattle.qpack_spec.proofs.WrittenForms.{lines_spelled, integer_written}
 
 -- ---- lines
 
-pub joined_written : (ls : List Line) → AllByRecursion IsWritableLine ls → SpellsAll SpellsLine (written_lines ls) ls
-unfolding written_lines
-joined_written [] w = refl
-joined_written (l ∷ ls) w = (written_line l, written_lines ls, refl, lines_spelled l w.0, joined_written ls w.1)
+pub joined_written : (coding : Coding) (ls : List Line) → AllByRecursion (IsWritableLineUnder coding) ls
+    → SpellsAll SpellsLine (coded_lines coding ls) ls
+unfolding coded_lines
+joined_written coding [] w = refl
+joined_written coding (l ∷ ls) w = (
+  coded_line coding l,
+  coded_lines coding ls,
+  refl,
+  lines_spelled coding l w.0,
+  joined_written coding ls w.1,
+)
 
 followed_is : (r : Result Field Fault) (rs : Result (List Field) Fault)
     → (r >>= λ f. rs >>= λ fs. Ok (f ∷ fs)) ≡ prepend_field r rs
@@ -305,24 +313,25 @@ prefix_takes bytes p rest e =
 -- ---- whole blocks
 
 -- what is written of a block is read as the block is
-pub written_read : (w : Window) (b : Block) → IsWritableBlock b → reading_of_bytes w (written_block b) ≡ reading w b
-unfolding reading_of_bytes written_block reading
-written_read w b k =
-    rw (prefix_again (written_prefix b.prefix) (written_lines b.lines) b.prefix (prefix_spelled b.prefix k.prefix))
+pub written_read : (coding : Coding) (w : Window) (b : Block) → IsWritableBlockUnder coding b
+    → reading_of_bytes w (coded_block coding b) ≡ reading w b
+unfolding reading_of_bytes coded_block reading
+written_read coding w b k =
+    rw (prefix_again (written_prefix b.prefix) (coded_lines coding b.lines) b.prefix (prefix_spelled b.prefix k.prefix))
     (behind (read_prefix (window_insert_count w) (maximum_capacity w.agreed_max w.capacity) b.prefix))
   where
-    behind : (r : Result (ℕ × ℕ) PrefixFault) → bytes_behind w (written_lines b.lines) r ≡ reading_behind w b.lines r
+    behind : (r : Result (ℕ × ℕ) PrefixFault) → bytes_behind w (coded_lines coding b.lines) r ≡ reading_behind w b.lines r
     behind (Err e) = refl
     behind (Ok p) =
-        rw (fields_read (length (written_lines b.lines)) w p.1 (written_lines b.lines) b.lines
-        (joined_written b.lines k.lines) (omega arith)) refl
+        rw (fields_read (length (coded_lines coding b.lines)) w p.1 (coded_lines coding b.lines) b.lines
+        (joined_written coding b.lines k.lines) (omega arith)) refl
 
 -- what the lines of a written block mean over all insertions, where its base is the one that was written
-pub written_means : (all : History) (b : Block) (required base : ℕ) (fs : List Field) → IsWritableBlock b
-    → base_behind b.prefix required ≡ Ok base → fields_of (whole_window all) base b.lines ≡ Ok fs
-    → meaning_over_all all (written_block b) required ≡ Ok fs
-unfolding meaning_over_all written_block
-written_means all b required base fs k e m =
-    rw (prefix_again (written_prefix b.prefix) (written_lines b.lines) b.prefix (prefix_spelled b.prefix k.prefix), e)
-    (fields_read (length (written_lines b.lines)) (whole_window all) base (written_lines b.lines) b.lines
-    (joined_written b.lines k.lines) (omega arith) ∙ m)
+pub written_means : (coding : Coding) (all : History) (b : Block) (required base : ℕ) (fs : List Field)
+    → IsWritableBlockUnder coding b → base_behind b.prefix required ≡ Ok base → fields_of (whole_window all) base b.lines ≡ Ok fs
+    → meaning_over_all all (coded_block coding b) required ≡ Ok fs
+unfolding meaning_over_all coded_block
+written_means coding all b required base fs k e m =
+    rw (prefix_again (written_prefix b.prefix) (coded_lines coding b.lines) b.prefix (prefix_spelled b.prefix k.prefix), e)
+    (fields_read (length (coded_lines coding b.lines)) (whole_window all) base (coded_lines coding b.lines) b.lines
+    (joined_written coding b.lines k.lines) (omega arith) ∙ m)

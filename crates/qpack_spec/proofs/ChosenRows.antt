@@ -2,7 +2,7 @@
 -- not.
 use Rattle.std.proofs.Common.{ℕ, ◌≡◌, true, false, [], ◌∷◌, Some, refl}
 use Rattle.std.specs.Prelude.{codes}
-use Rattle.qpack_spec.specs.Chosen.{Choice, Alone, References, Names, Inserts, Chosen, chosen_rule}
+use Rattle.qpack_spec.specs.Chosen.{Choice, Alone, References, Names, Inserts, Staying, Live, Chosen, chosen_rule}
 use Rattle.qpack_spec.specs.Field.{FieldLine}
 use Rattle.qpack_spec.specs.Instruction.{Duplicate, InsertDynamicName, InsertLiteralName}
 use Rattle.qpack_spec.specs.Line.{IndexedStatic, IndexedDynamic, IndexedPostBase, NamedStatic, NamedDynamic}
@@ -20,9 +20,12 @@ table limit =
       known_received_count = 2;
     }
 
--- the same where no byte is free, and where no entry is received yet
+-- the same where no byte is free, the same with the first entry alone, and where no entry is received yet
 full : ℕ → Table
 full limit = record (table limit) { capacity = 76 }
+
+single : ℕ → Table
+single limit = record (table limit) { capacity = 38; live = sent_entry (field (codes "foo") (codes "bar")) ∷ [] }
 
 unknown : ℕ → Table
 unknown limit = record (table limit) { known_received_count = 0 }
@@ -57,14 +60,18 @@ marked = record { field = field (codes "foo") (codes "bar"); never_indexed = tru
 
 -- a line, and one after which the field is inserted without a reference
 line : Choice → Chosen
-line c = record { line = c; unreferenced = false }
+line c = record { line = c; unreferenced = false; names = Staying }
 
 twice : Choice → Chosen
-twice c = record { line = c; unreferenced = true }
+twice c = record { line = c; unreferenced = true; names = Staying }
+
+-- the same, where the insertion may name what it evicts
+live : Chosen → Chosen
+live c = record c { names = Live }
 
 -- all that has to unfold
 rows : ℕ
-unfolding computed table full unknown later at_limit bar baz qux other get patch marked line twice chosen_rule
+unfolding computed table full single unknown later at_limit bar baz qux other get patch marked line twice live chosen_rule
 rows = 0
 
 -- ---- without the dynamic table
@@ -244,6 +251,48 @@ unreferenced_evicts : (chosen_rule (full 0) (bar ∷ []) (twice Alone ∷ [])).i
     ≡ InsertDynamicName 0 (codes "bar") ∷ []
 unfolding rows
 unreferenced_evicts = refl
+
+-- ---- what an insertion names
+
+-- the entry that it evicts, whose field is the new one, or whose name is
+duplicates_evicted : (chosen_rule (full 1) (bar ∷ []) (live (line Inserts) ∷ [])).instructions ≡ Duplicate 1 ∷ []
+unfolding rows
+duplicates_evicted = refl
+
+duplicates_evicted_unreferenced : (chosen_rule (full 0) (bar ∷ []) (live (twice Alone) ∷ [])).instructions
+    ≡ Duplicate 1 ∷ []
+unfolding rows
+duplicates_evicted_unreferenced = refl
+
+names_evicted : (chosen_rule (single 1) (qux ∷ []) (live (line Inserts) ∷ [])).instructions
+    ≡ InsertDynamicName 0 (codes "qux") ∷ []
+unfolding rows
+names_evicted = refl
+
+-- that entry is gone, and the line references the new one
+evicted_is_gone : (chosen_rule (full 1) (bar ∷ []) (live (line Inserts) ∷ [])).table.dropped ≡ 1
+unfolding rows
+evicted_is_gone = refl
+
+line_of_evicted : (chosen_rule (full 1) (bar ∷ []) (live (line Inserts) ∷ [])).lines ≡ IndexedPostBase 0 ∷ []
+unfolding rows
+line_of_evicted = refl
+
+-- the same among those that stay: the name of another entry, and no name
+names_another : (chosen_rule (full 1) (bar ∷ []) (line Inserts ∷ [])).instructions
+    ≡ InsertDynamicName 0 (codes "bar") ∷ []
+unfolding rows
+names_another = refl
+
+names_none : (chosen_rule (single 1) (qux ∷ []) (line Inserts ∷ [])).instructions
+    ≡ InsertLiteralName (codes "foo") (codes "qux") ∷ []
+unfolding rows
+names_none = refl
+
+-- an index counts from the insertions before this one, also where entries are evicted
+names_what_stays : (chosen_rule (full 1) (baz ∷ []) (live (line Inserts) ∷ [])).instructions ≡ Duplicate 0 ∷ []
+unfolding rows
+names_what_stays = refl
 
 -- ---- an entry of the block itself
 

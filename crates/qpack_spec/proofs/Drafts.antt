@@ -6,6 +6,7 @@ use Rattle.std.specs.List.{AllByRecursion, slice_get, list_any}
 use Rattle.std.specs.Prelude.{nat_lt, nat_le, ◌&&◌}
 use Rattle.std.proofs.lemmas.Bool.{cond_both, lt-ltb, or_cases, and_parts, ltb-true, leb-true, leb-false}
 use Rattle.std.proofs.lemmas.List.{append-nil, append_assoc, length-map}
+use Rattle.qpack_spec.specs.Chosen.{Naming, Staying, Live, passed_over}
 use Rattle.qpack_spec.specs.Field.{Field, field_size, has_name, is_field}
 use Rattle.qpack_spec.specs.StaticTable.{static_table, static_index, static_name_index}
 use Rattle.qpack_spec.specs.Line.{Line, IndexedStatic, IndexedDynamic, IndexedPostBase, NamedStatic, NamedDynamic}
@@ -19,8 +20,8 @@ use Rattle.qpack_spec.specs.Table.{has_number, with_number}
 use Rattle.qpack_spec.specs.Table.{with_reference, can_evict, eviction_count_for, has_room, below_limit, may_reference}
 use Rattle.qpack_spec.specs.Table.{with_entry}
 use Rattle.qpack_spec.specs.Table.{newest_index, without_references}
-use Rattle.qpack_spec.specs.Rule.{Draft, with_line, with_referencing_line, instruction_for, entries_left}
-use Rattle.qpack_spec.specs.Rule.{with_new_entry, name_reference_line}
+use Rattle.qpack_spec.specs.Rule.{Draft, with_line, with_referencing_line, instruction_for}
+use Rattle.qpack_spec.specs.Rule.{with_inserted, with_new_entry, name_reference_line}
 use Rattle.qpack_spec.specs.Rule.{literal_by_entry, literal, insertion_or_literal, by_entry, by_static, rule_field}
 use Rattle.qpack_spec.specs.Rule.{rule_fields, empty_draft, rule}
 use Rattle.qpack_spec.proofs.Lists.{every_all, every_append, every_drop, every_weaker, get_drop, get_append_end}
@@ -150,6 +151,12 @@ pub evicted_bound : (t : Table) (f : Field) → field_size f ≤ t.capacity → 
 evicted_bound t f h =
     omega (arith, eviction_count_push t.capacity (fields_in t.live) f h, length-map t.live (λ (x : Entry). x.field))
 
+-- the entries that an instruction passes over are live
+pub passed_live : (t : Table) (names : Naming) (f : Field) → Room t f
+    → passed_over names (eviction_count_for t f) ≤ length t.live
+passed_live t Staying f r = evicted_bound t f r.fits
+passed_live t Live f r = omega arith
+
 pub count_after : (t : Table) (f : Field) → eviction_count_for t f ≤ length t.live
     → insert_count (with_entry t (sent_entry f)) ≡ insert_count t + 1
 unfolding with_entry
@@ -221,11 +228,12 @@ unfolding line_field
 post_line w base n f le e = let q : base + (n - base) + 1 ≡ n + 1 =
     omega arith in entry_post_base w base (n - base) f (rw q e)
 
-pub one_effect : (t : Table) (h : History) (f : Field) → window t ≡ window_of h → eviction_count_for t f ≤ length t.live
-    → Room t f → effect (window_of h) (instruction_for f (entries_left t f)) ≡ Ok (Inserts f)
+-- an instruction that passes over this many of the oldest entries inserts the field
+pub one_effect : (t : Table) (h : History) (f : Field) (passed : ℕ) → window t ≡ window_of h → passed ≤ length t.live
+    → Room t f → effect (window_of h) (instruction_for f (drop passed (fields_in t.live))) ≡ Ok (Inserts f)
 unfolding window
-one_effect t h f e b r =
-    rw (← e) (instruction_effect (window t) f (eviction_count_for t f)
+one_effect t h f passed e b r =
+    rw (← e) (instruction_effect (window t) f passed
     (omega (arith, length-map t.live (λ (x : Entry). x.field))) r.fits
     (omega (arith, r.few, length-map t.live (λ (x : Entry). x.field))))
 
@@ -244,11 +252,13 @@ live_same : (t t' : Table) (xs : List ℕ) → t'.dropped ≡ t.dropped → t'.l
 live_same t t' xs d l h =
     every_weaker (IsLive t) (IsLive t') (λ a q. (omega (arith, q.0, d), omega (arith, q.1, d, ap length l))) xs h
 
-pub drafting_inserts : (t0 : Table) (h0 : History) (done : List Field) (d : Draft) (f : Field) → Sound h0
-    → Drafting t0 h0 done d → length t0.blocked < t0.limit → Room d.table f
-    → Drafting t0 h0 (done ++ f ∷ []) (with_new_entry (insert_count t0) d f)
-drafting_inserts t0 h0 done d f s0 k blocked r =
+pub drafting_inserts : (t0 : Table) (h0 : History) (done : List Field) (d : Draft) (f : Field) (passed : ℕ) → Sound h0
+    → Drafting t0 h0 done d → length t0.blocked < t0.limit → Room d.table f → passed ≤ length d.table.live
+    → Drafting t0 h0 (done ++ f ∷ [])
+    (with_inserted (insert_count t0) d f (instruction_for f (drop passed (fields_in d.table.live))))
+drafting_inserts t0 h0 done d f passed s0 k blocked r few =
     let t = d.table in
+    let i = instruction_for f (drop passed (fields_in t.live)) in
     let h = k.history in
     let s : Sound h = leads_sound h0 d.instructions h k.leads s0 in
     let b : eviction_count_for t f ≤ length t.live = evicted_bound t f r.fits in
@@ -264,12 +274,11 @@ drafting_inserts t0 h0 done d f s0 k blocked r =
     (rw (dropped_after t f) (omega arith), omega (arith, count_after t f b)) in
     record {
       history = history_after h (Inserts f);
-      leads = leads_append h0 d.instructions (instruction_for f (entries_left t f) ∷ []) h
-          (history_after h (Inserts f)) k.leads
-          (Inserts f, one_effect t h f k.table.shares b r, refl);
+      leads = leads_append h0 d.instructions (i ∷ []) h (history_after h (Inserts f)) k.leads
+          (Inserts f, one_effect t h f passed k.table.shares few r, refl);
       table = keeps_naming (history_after h (Inserts f)) (with_entry t (sent_entry f)) (insert_count t + 1)
           (keeps_inserted h t f s k.table r);
-      references = refers_inserts t0 d f k.references;
+      references = refers_inserts t0 d f i k.references;
       referenced = rw same.now_named (live_same (with_entry t (sent_entry f))
           (with_reference (with_entry t (sent_entry f)) (insert_count t + 1))
           (with_number t.referenced (insert_count t + 1)) same.same_dropped
@@ -361,7 +370,9 @@ drafting_insertion_or_literal t0 h0 done d f s k =
     (literal (insert_count t0) d f (static_name_index f.name)) (Drafting t0 h0 (done ++ f ∷ []))
     (λ t. let p = and_parts (below_limit d.table) (has_room d.table f) t in
     let lt : length d.table.blocked < d.table.limit = ltb-true _ _ p.0 in
-    drafting_inserts t0 h0 done d f s k (rw (← k.references.blocked, ← k.references.limit) lt) (room d.table f p.1))
+    let r = room d.table f p.1 in
+    drafting_inserts t0 h0 done d f (eviction_count_for d.table f) s k
+    (rw (← k.references.blocked, ← k.references.limit) lt) r (evicted_bound d.table f r.fits))
     (λ _. drafting_literal t0 h0 done d f k (static_name_index f.name) refl)
 
 drafting_by_entry : (t0 : Table) (h0 : History) (done : List Field) (d : Draft) (f : Field) → Sound h0

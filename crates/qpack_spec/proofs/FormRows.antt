@@ -3,14 +3,14 @@ use Rattle.std.proofs.Common.{ℕ, ◌-◌, ◌^◌, ◌≡◌, true, false, Lis
 use Rattle.std.specs.Prelude.{codes, negsuc}
 use Rattle.qpack_spec.specs.Integer.{Overflow, UnexpectedEnd}
 use Rattle.qpack_spec.specs.Huffman.{MissingBits, Unhandled}
-use Rattle.qpack_spec.specs.Text.{EndsEarly, LengthOverflows, BadHuffman}
+use Rattle.qpack_spec.specs.Text.{EndsEarly, LengthOverflows, BadHuffman, WhereShorter}
 use Rattle.qpack_spec.specs.Form.{Index, IndexAndValue, NameAndValue, FormFault, BadInteger, BadString, form_at}
 use Rattle.qpack_spec.specs.Line.{Line, IndexedStatic, IndexedDynamic, IndexedPostBase, NamedStatic, NamedDynamic}
-use Rattle.qpack_spec.specs.Line.{NamedPostBase, Literal, line_form, written_line}
+use Rattle.qpack_spec.specs.Line.{NamedPostBase, Literal, line_form, coded_line, written_line}
 use Rattle.qpack_spec.specs.Instruction.{EncoderInstruction, InsertStaticName, InsertDynamicName, InsertLiteralName}
 use Rattle.qpack_spec.specs.Instruction.{Duplicate, SetCapacity, DecoderInstruction, Acknowledgment, Cancellation}
 use Rattle.qpack_spec.specs.Instruction.{Increment, encoder_instruction_form, decoder_instruction_form}
-use Rattle.qpack_spec.specs.Instruction.{written_encoder_instruction, written_decoder_instruction}
+use Rattle.qpack_spec.specs.Instruction.{coded_encoder_instruction, written_encoder_instruction, written_decoder_instruction}
 use Rattle.qpack_spec.specs.Prefix.{Prefix, OutOfRange, BelowZero, prefix_for, read_prefix, read_strict_prefix}
 use Rattle.qpack_spec.specs.Prefix.{written_prefix, prefix_at}
 use Rattle.qpack_spec.specs.Table.{insert_count}
@@ -40,6 +40,12 @@ write_insert : (written_encoder_instruction (InsertLiteralName (codes "foo") (co
 unfolding rows
 write_insert = refl
 
+-- the same where a string is coded only if that makes it shorter: the name is coded, the value plain
+write_insert_plain : (coded_encoder_instruction WhereShorter (InsertLiteralName (codes "foo") (codes "#")))
+    ≡ 98 ∷ 148 ∷ 231 ∷ 1 ∷ 35 ∷ []
+unfolding rows
+write_insert_plain = refl
+
 -- the capacity 4096
 write_capacity : (written_encoder_instruction (SetCapacity 4096)) ≡ 63 ∷ 225 ∷ 31 ∷ []
 unfolding rows
@@ -55,6 +61,12 @@ write_insert_static : (written_encoder_instruction (InsertStaticName 1 (codes "b
     ≡ 193 ∷ 131 ∷ 140 ∷ 118 ∷ 127 ∷ []
 unfolding rows
 write_insert_static = refl
+
+-- the same by a plain value, which the code makes no shorter
+write_insert_static_plain : (coded_encoder_instruction WhereShorter (InsertStaticName 1 (codes "a!")))
+    ≡ 193 ∷ 2 ∷ 97 ∷ 33 ∷ []
+unfolding rows
+write_insert_static_plain = refl
 
 -- an insertion by the name of an entry
 write_insert_dynamic : (written_encoder_instruction (InsertDynamicName 1 (codes "new bar3")))
@@ -101,6 +113,28 @@ write_status = refl
 write_literal : (written_line (Literal (codes "foo") (codes "bar"))) ≡ 42 ∷ 148 ∷ 231 ∷ 131 ∷ 140 ∷ 118 ∷ 127 ∷ []
 unfolding rows
 write_literal = refl
+
+-- the same where a string is coded only if that makes it shorter: a plain name under a plain value, a coded value under
+-- a static name, and plain values under a static name, an entry's before the base and one's after it
+write_literal_plain : (coded_line WhereShorter (Literal (codes "#") (codes "a!"))) ≡ 33 ∷ 35 ∷ 2 ∷ 97 ∷ 33 ∷ []
+unfolding rows
+write_literal_plain = refl
+
+write_named_coded : (coded_line WhereShorter (NamedStatic 2 (codes "foo"))) ≡ 82 ∷ 130 ∷ 148 ∷ 231 ∷ []
+unfolding rows
+write_named_coded = refl
+
+write_named_plain : (coded_line WhereShorter (NamedStatic 2 (codes "1"))) ≡ 82 ∷ 1 ∷ 49 ∷ []
+unfolding rows
+write_named_plain = refl
+
+write_dynamic_plain : (coded_line WhereShorter (NamedDynamic 1 (codes "#"))) ≡ 65 ∷ 1 ∷ 35 ∷ []
+unfolding rows
+write_dynamic_plain = refl
+
+write_post_base_plain : (coded_line WhereShorter (NamedPostBase 1 [])) ≡ 1 ∷ 0 ∷ []
+unfolding rows
+write_post_base_plain = refl
 
 -- an insertion is read, and what follows is left
 read_insert : (instruction_at (98 ∷ 148 ∷ 231 ∷ 131 ∷ 140 ∷ 118 ∷ 127 ∷ 0 ∷ []))

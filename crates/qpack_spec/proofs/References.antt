@@ -13,7 +13,9 @@ use Rattle.qpack_spec.specs.Table.{Table, sent_entry, insert_count, has_number, 
 use Rattle.qpack_spec.specs.Table.{with_reference, has_room, below_limit}
 use Rattle.qpack_spec.specs.Table.{may_reference, with_entry, eviction_count_for, newest_index, without_references}
 use Rattle.qpack_spec.specs.Table.{with_unacknowledged, commit}
-use Rattle.qpack_spec.specs.Rule.{Draft, with_line, with_referencing_line, with_new_entry, name_reference_line}
+use Rattle.qpack_spec.specs.Instruction.{EncoderInstruction}
+use Rattle.qpack_spec.specs.Rule.{Draft, with_line, with_referencing_line, with_inserted, with_new_entry}
+use Rattle.qpack_spec.specs.Rule.{instruction_for, entries_left, name_reference_line}
 use Rattle.qpack_spec.specs.Rule.{literal_by_entry, literal}
 use Rattle.qpack_spec.specs.Rule.{insertion_or_literal, by_entry, by_static, rule_field, rule_fields, empty_draft, rule}
 use Rattle.qpack_spec.specs.BlockLaws.{BlocksRequireReferences}
@@ -130,9 +132,9 @@ post_base_names : (base n : ℕ) → base ≤ n → references_of_line base (Ind
 unfolding references_of_line
 post_base_names base n le = let q : base + (n - base) + 1 ≡ n + 1 = omega arith in rw q refl
 
-pub refers_inserts : (t0 : Table) (d : Draft) (f : Field) → KeepsReferences t0 d
-    → KeepsReferences t0 (with_new_entry (insert_count t0) d f)
-refers_inserts t0 d f k =
+pub refers_inserts : (t0 : Table) (d : Draft) (f : Field) (i : EncoderInstruction) → KeepsReferences t0 d
+    → KeepsReferences t0 (with_inserted (insert_count t0) d f i)
+refers_inserts t0 d f i k =
     let t = d.table in
     let a = after_insertion t f in
     record {
@@ -191,7 +193,7 @@ refers_insertion : (t0 : Table) (d : Draft) (f : Field) → KeepsReferences t0 d
 refers_insertion t0 d f k =
     cond_both (below_limit d.table && has_room d.table f) (with_new_entry (insert_count t0) d f)
     (literal (insert_count t0) d f (static_name_index f.name)) (KeepsReferences t0)
-    (λ _. refers_inserts t0 d f k) (λ _. refers_literal t0 d f k (static_name_index f.name))
+    (λ _. refers_inserts t0 d f (instruction_for f (entries_left d.table f)) k) (λ _. refers_literal t0 d f k (static_name_index f.name))
 
 refers_by_entry : (t0 : Table) (d : Draft) (f : Field) → KeepsReferences t0 d → (o : Option ℕ)
     → KeepsReferences t0 (by_entry (insert_count t0) d f o)

@@ -5,26 +5,43 @@ use Rattle.qpack_spec.specs.Integer.{groups_at, integer_at, written_groups, writ
 use Rattle.qpack_spec.specs.Huffman.{MissingBits, Unhandled, bits_of, ones, bytes_by_length, bytes_of_length}
 use Rattle.qpack_spec.specs.Huffman.{first_code, code_length, code_of, number_from, bytes_of_bits, payload_of, code_at}
 use Rattle.qpack_spec.specs.Huffman.{is_padding, item_at, text_at, text_of_bits}
-use Rattle.qpack_spec.specs.Text.{EndsEarly, LengthOverflows, BadHuffman, string_at, written_string}
+use Rattle.qpack_spec.specs.Text.{EndsEarly, LengthOverflows, BadHuffman, string_at, WhereShorter, coded_string, written_string}
 
 -- `foo` fills two bytes, with no padding
 foo_written : written_string 8 0 (codes "foo") ≡ 130 ∷ 148 ∷ 231 ∷ []
 unfolding written_integer written_groups payload_of bits_of ones bytes_by_length bytes_of_length first_code code_length
-    code_of number_from bytes_of_bits written_string
+    code_of number_from bytes_of_bits coded_string
 foo_written = refl
 
 -- nothing is a length of 0
 nothing_written : written_string 8 0 [] ≡ 128 ∷ []
 unfolding written_integer written_groups payload_of bits_of ones bytes_by_length bytes_of_length first_code code_length
-    code_of number_from bytes_of_bits written_string
+    code_of number_from bytes_of_bits coded_string
 nothing_written = refl
 
 -- the flags stand above H
 flagged_written : written_string 6 1 (codes "name without ref") ≡ 108 ∷ 168 ∷ 116 ∷ 149 ∷ 79 ∷ 6 ∷ 76 ∷ 231 ∷ 181 ∷ 42
     ∷ 88 ∷ 89 ∷ 127 ∷ []
 unfolding written_integer written_groups payload_of bits_of ones bytes_by_length bytes_of_length first_code code_length
-    code_of number_from bytes_of_bits written_string
+    code_of number_from bytes_of_bits coded_string
 flagged_written = refl
+
+-- where a string is coded only if that makes it shorter: `foo`, which it does; `a!`, which stays as long; and `#`, which
+-- gets longer
+shorter_coded : coded_string WhereShorter 8 0 (codes "foo") ≡ 130 ∷ 148 ∷ 231 ∷ []
+unfolding written_integer written_groups payload_of bits_of ones bytes_by_length bytes_of_length first_code code_length
+    code_of number_from bytes_of_bits coded_string
+shorter_coded = refl
+
+equal_plain : coded_string WhereShorter 8 0 (codes "a!") ≡ 2 ∷ 97 ∷ 33 ∷ []
+unfolding written_integer written_groups payload_of bits_of ones bytes_by_length bytes_of_length first_code code_length
+    code_of number_from bytes_of_bits coded_string
+equal_plain = refl
+
+longer_plain : coded_string WhereShorter 6 1 (codes "#") ≡ 65 ∷ 35 ∷ []
+unfolding written_integer written_groups payload_of bits_of ones bytes_by_length bytes_of_length first_code code_length
+    code_of number_from bytes_of_bits coded_string
+longer_plain = refl
 
 -- a coded string, and what follows it
 new_bar_read : string_at 8 (134 ∷ 168 ∷ 190 ∷ 20 ∷ 140 ∷ 118 ∷ 51 ∷ 7 ∷ []) ≡ Ok (0, codes "new bar3", 7 ∷ [])

@@ -1,7 +1,7 @@
 -- What the rule writes can be written: its numbers are small, its strings are those of the fields; and what takes fewer
 -- than 2^63 bytes can be read back.
-use Rattle.std.proofs.Common.{◌<◌, ◌*◌, ℕ, ◌+◌, ◌-◌, ◌^◌, ◌≤◌, ◌≡◌, List, [], ◌∷◌, ◌++◌, length, Option, None, Some}
-use Rattle.std.proofs.Common.{refl, arith, length-append, length-drop}
+use Rattle.std.proofs.Common.{◌<◌, ◌*◌, ℕ, ◌+◌, ◌-◌, ◌^◌, ◌≤◌, ◌≡◌, List, [], ◌∷◌, ◌++◌, length, drop, Option, None}
+use Rattle.std.proofs.Common.{Some, refl, arith, length-append, length-drop, Bool, true, false, cond}
 use Rattle.std.specs.List.{AllByRecursion, slice_get}
 use Rattle.std.specs.Prelude.{nat_le, ◌&&◌}
 use Rattle.std.proofs.lemmas.Bool.{cond_both, and_parts}
@@ -10,24 +10,24 @@ use Rattle.std.proofs.lemmas.List.{length-map}
 use Rattle.qpack_spec.specs.Field.{Field, has_name, is_field}
 use Rattle.qpack_spec.specs.StaticTable.{static_table, static_index, static_name_index}
 use Rattle.qpack_spec.specs.Line.{Line, IndexedStatic, IndexedDynamic, IndexedPostBase, NamedStatic, NamedDynamic}
-use Rattle.qpack_spec.specs.Line.{NamedPostBase, Literal, written_line, written_lines}
+use Rattle.qpack_spec.specs.Line.{NamedPostBase, Literal, coded_line, coded_lines}
 use Rattle.qpack_spec.specs.Integer.{written_integer}
 use Rattle.qpack_spec.specs.Huffman.{AreBytes, payload_of}
-use Rattle.qpack_spec.specs.Text.{written_string}
+use Rattle.qpack_spec.specs.Text.{Coding, is_coded, written_literal_of, coded_string}
 use Rattle.qpack_spec.specs.Instruction.{EncoderInstruction, InsertStaticName, InsertDynamicName, InsertLiteralName}
 use Rattle.qpack_spec.specs.Instruction.{Duplicate}
-use Rattle.qpack_spec.specs.Instruction.{SetCapacity, written_encoder_instruction, written_encoder_instructions}
+use Rattle.qpack_spec.specs.Instruction.{SetCapacity, coded_encoder_instruction, coded_encoder_instructions}
 use Rattle.qpack_spec.specs.Table.{Entry, Table, sent_entry, fields_in, insert_count, with_reference}
 use Rattle.qpack_spec.specs.Table.{eviction_count_for, has_room}
 use Rattle.qpack_spec.specs.Table.{below_limit, may_reference, with_entry, last_position, newest_index}
 use Rattle.qpack_spec.specs.Table.{without_references}
 use Rattle.qpack_spec.specs.Rule.{Draft, with_line, with_referencing_line, by_name, by_static_name, by_equal}
 use Rattle.qpack_spec.specs.Rule.{instruction_for}
-use Rattle.qpack_spec.specs.Rule.{entries_left, with_new_entry, name_reference_line, literal_by_entry, literal}
+use Rattle.qpack_spec.specs.Rule.{with_inserted, with_new_entry, name_reference_line, literal_by_entry, literal}
 use Rattle.qpack_spec.specs.Rule.{insertion_or_literal}
 use Rattle.qpack_spec.specs.Rule.{by_entry, by_static, rule_field, rule_fields, empty_draft, rule}
-use Rattle.qpack_spec.specs.WrittenLaws.{IsSmall, IsWritableValue, IsByteField, IsByteLine, IsByteEncoderInstruction}
-use Rattle.qpack_spec.specs.WrittenLaws.{IsWritableLine, IsWritableEncoderInstruction}
+use Rattle.qpack_spec.specs.WrittenLaws.{IsSmall, IsWritableUnder, IsByteField, IsByteLine, IsByteEncoderInstruction}
+use Rattle.qpack_spec.specs.WrittenLaws.{IsWritableLineUnder, IsWritableInstructionUnder}
 use Rattle.qpack_spec.proofs.StaticIndexes.{has_99}
 use Rattle.qpack_spec.proofs.Lists.{every_append}
 use Rattle.qpack_spec.proofs.Positions.{newest_found, static_found, static_name_found}
@@ -90,16 +90,22 @@ instruction_written f stay few w = equal_instruction f stay few w (last_position
 pub count_entered : (t : Table) (f : Field) → Room t f → insert_count (with_entry t (sent_entry f)) ≡ insert_count t + 1
 count_entered t f r = count_after t f (evicted_bound t f r.fits)
 
-pub inserts_written : (base : ℕ) (d : Draft) (f : Field) → WrittenDraft d → IsByteField f → Room d.table f
-    → WrittenDraft (with_new_entry base d f)
-inserts_written base d f k w r =
-    let stay : length (entries_left d.table f) ≤ 2 ^ 62 =
-    omega (
+-- an instruction that passes over some of the oldest entries
+pub passing_written : (d : Draft) (f : Field) (passed : ℕ) → WrittenDraft d → IsByteField f
+    → IsByteEncoderInstruction (instruction_for f (drop passed (fields_in d.table.live)))
+passing_written d f passed k w =
+    instruction_written f (drop passed (fields_in d.table.live))
+    (omega (
       arith,
       k.few,
-      length-drop (eviction_count_for d.table f) (fields_in d.table.live),
+      length-drop passed (fields_in d.table.live),
       length-map d.table.live (λ (x : Entry). x.field),
-    ) in
+    )) w
+
+pub inserts_written : (base : ℕ) (d : Draft) (f : Field) (passed : ℕ) → WrittenDraft d → IsByteField f
+    → Room d.table f
+    → WrittenDraft (with_inserted base d f (instruction_for f (drop passed (fields_in d.table.live))))
+inserts_written base d f passed k w r =
     record {
       few = omega (
         arith,
@@ -111,8 +117,8 @@ inserts_written base d f k w r =
           (omega (arith, r.few), tt);
       instructions =
           every_append IsByteEncoderInstruction d.instructions
-          (instruction_for f (entries_left d.table f) ∷ []) k.instructions
-          (instruction_written f (entries_left d.table f) stay w, tt);
+          (instruction_for f (drop passed (fields_in d.table.live)) ∷ []) k.instructions
+          (passing_written d f passed k w, tt);
     }
 
 pub entry_line : (base a : ℕ) (f : Field) → base ≤ 2 ^ 62 → a ≤ 2 ^ 62 → IsByteField f
@@ -144,7 +150,8 @@ insertion_written : (base : ℕ) (d : Draft) (f : Field) → base ≤ 2 ^ 62 →
 insertion_written base d f b k w =
     cond_both (below_limit d.table && has_room d.table f) (with_new_entry base d f)
     (literal base d f (static_name_index f.name)) WrittenDraft
-    (λ t. inserts_written base d f k w (room d.table f (and_parts (below_limit d.table) (has_room d.table f) t).1))
+    (λ t. inserts_written base d f (eviction_count_for d.table f) k w
+    (room d.table f (and_parts (below_limit d.table) (has_room d.table f) t).1))
     (λ _. literal_written base d f b k w (static_name_index f.name) refl)
 
 equal_written : (base : ℕ) (d : Draft) (f : Field) → base ≤ 2 ^ 62 → WrittenDraft d → IsByteField f → (o : Option ℕ)
@@ -186,61 +193,63 @@ rule_written t fs few w =
 
 -- ---- what takes fewer than 2^63 bytes can be read back
 
-text_fits : (n flags : ℕ) (encoding : List ℕ) → AreBytes encoding → length (written_string n flags encoding) < 2 ^ 63
-    → IsWritableValue encoding
-unfolding written_string
-text_fits n flags encoding b h =
-    record {
-      bytes = b;
-      size = omega (
-        arith,
-        h,
-        length-append (written_integer (n - 1) (2 * flags + 1) (length (payload_of encoding))) (payload_of encoding),
-      );
-    }
+payload_fits : (n flags huffman : ℕ) (payload : List ℕ) → length (written_literal_of n flags huffman payload) < 2 ^ 63
+    → length payload < 2 ^ 63
+payload_fits n flags huffman payload h =
+    omega (arith, h, length-append (written_integer (n - 1) (2 * flags + huffman) (length payload)) payload)
 
-value_fits : (head encoding : List ℕ) → AreBytes encoding → length (head ++ written_string 8 0 encoding) < 2 ^ 63
-    → IsWritableValue encoding
-value_fits head encoding b h = text_fits 8 0 encoding b
-    (omega (arith, h, length-append head (written_string 8 0 encoding)))
+text_fits : (coding : Coding) (n flags : ℕ) (encoding : List ℕ) → AreBytes encoding
+    → length (coded_string coding n flags encoding) < 2 ^ 63 → IsWritableUnder coding encoding
+unfolding coded_string
+text_fits coding n flags encoding b h = record { bytes = b; size = both (is_coded coding encoding) h }
+  where
+    both : (b : Bool) → length (cond b (written_literal_of n flags 1 (payload_of encoding))
+        (written_literal_of n flags 0 encoding)) < 2 ^ 63 → length (cond b (payload_of encoding) encoding) < 2 ^ 63
+    both true small = payload_fits n flags 1 (payload_of encoding) small
+    both false small = payload_fits n flags 0 encoding small
 
-line_fits : (l : Line) → IsByteLine l → length (written_line l) < 2 ^ 63 → IsWritableLine l
-unfolding written_line
-line_fits (IndexedStatic i) b h = b
-line_fits (IndexedDynamic i) b h = b
-line_fits (IndexedPostBase i) b h = b
-line_fits (NamedStatic i v) b h = (b.0, value_fits (written_integer 4 5 i) v b.1 h)
-line_fits (NamedDynamic i v) b h = (b.0, value_fits (written_integer 4 4 i) v b.1 h)
-line_fits (NamedPostBase i v) b h = (b.0, value_fits (written_integer 3 0 i) v b.1 h)
-line_fits (Literal n v) b h = (
-  text_fits 4 2 n b.0 (omega (arith, h, length-append (written_string 4 2 n) (written_string 8 0 v))),
-  value_fits (written_string 4 2 n) v b.1 h,
+value_fits : (coding : Coding) (head encoding : List ℕ) → AreBytes encoding
+    → length (head ++ coded_string coding 8 0 encoding) < 2 ^ 63 → IsWritableUnder coding encoding
+value_fits coding head encoding b h = text_fits coding 8 0 encoding b
+    (omega (arith, h, length-append head (coded_string coding 8 0 encoding)))
+
+line_fits : (coding : Coding) (l : Line) → IsByteLine l → length (coded_line coding l) < 2 ^ 63
+    → IsWritableLineUnder coding l
+unfolding coded_line
+line_fits coding (IndexedStatic i) b h = b
+line_fits coding (IndexedDynamic i) b h = b
+line_fits coding (IndexedPostBase i) b h = b
+line_fits coding (NamedStatic i v) b h = (b.0, value_fits coding (written_integer 4 5 i) v b.1 h)
+line_fits coding (NamedDynamic i v) b h = (b.0, value_fits coding (written_integer 4 4 i) v b.1 h)
+line_fits coding (NamedPostBase i v) b h = (b.0, value_fits coding (written_integer 3 0 i) v b.1 h)
+line_fits coding (Literal n v) b h = (
+  text_fits coding 4 2 n b.0 (omega (arith, h, length-append (coded_string coding 4 2 n) (coded_string coding 8 0 v))),
+  value_fits coding (coded_string coding 4 2 n) v b.1 h,
 )
 
-pub lines_fit : (ls : List Line) → AllByRecursion IsByteLine ls → length (written_lines ls) < 2 ^ 63
-    → AllByRecursion IsWritableLine ls
-unfolding written_lines
-lines_fit [] b h = tt
-lines_fit (l ∷ ls) b h = let n = length-append (written_line l) (written_lines ls) in
-    (line_fits l b.0 (omega (arith, h, n)), lines_fit ls b.1 (omega (arith, h, n)))
+pub lines_fit : (coding : Coding) (ls : List Line) → AllByRecursion IsByteLine ls
+    → length (coded_lines coding ls) < 2 ^ 63 → AllByRecursion (IsWritableLineUnder coding) ls
+unfolding coded_lines
+lines_fit coding [] b h = tt
+lines_fit coding (l ∷ ls) b h = let n = length-append (coded_line coding l) (coded_lines coding ls) in
+    (line_fits coding l b.0 (omega (arith, h, n)), lines_fit coding ls b.1 (omega (arith, h, n)))
 
-instruction_fits : (i : EncoderInstruction) → IsByteEncoderInstruction i → length (written_encoder_instruction i)
-    < 2 ^ 63
-    → IsWritableEncoderInstruction i
-unfolding written_encoder_instruction
-instruction_fits (InsertStaticName i v) b h = (b.0, value_fits (written_integer 6 3 i) v b.1 h)
-instruction_fits (InsertDynamicName i v) b h = (b.0, value_fits (written_integer 6 2 i) v b.1 h)
-instruction_fits (InsertLiteralName n v) b h = (
-  text_fits 6 1 n b.0 (omega (arith, h, length-append (written_string 6 1 n) (written_string 8 0 v))),
-  value_fits (written_string 6 1 n) v b.1 h,
+instruction_fits : (coding : Coding) (i : EncoderInstruction) → IsByteEncoderInstruction i
+    → length (coded_encoder_instruction coding i) < 2 ^ 63 → IsWritableInstructionUnder coding i
+unfolding coded_encoder_instruction
+instruction_fits coding (InsertStaticName i v) b h = (b.0, value_fits coding (written_integer 6 3 i) v b.1 h)
+instruction_fits coding (InsertDynamicName i v) b h = (b.0, value_fits coding (written_integer 6 2 i) v b.1 h)
+instruction_fits coding (InsertLiteralName n v) b h = (
+  text_fits coding 6 1 n b.0 (omega (arith, h, length-append (coded_string coding 6 1 n) (coded_string coding 8 0 v))),
+  value_fits coding (coded_string coding 6 1 n) v b.1 h,
 )
-instruction_fits (Duplicate i) b h = b
-instruction_fits (SetCapacity c) b h = b
+instruction_fits coding (Duplicate i) b h = b
+instruction_fits coding (SetCapacity c) b h = b
 
-pub instructions_fit : (is : List EncoderInstruction) → AllByRecursion IsByteEncoderInstruction is
-    → length (written_encoder_instructions is) < 2 ^ 63 → AllByRecursion IsWritableEncoderInstruction is
-unfolding written_encoder_instructions
-instructions_fit [] b h = tt
-instructions_fit (i ∷ is) b h = let n = length-append (written_encoder_instruction i)
-    (written_encoder_instructions is) in
-    (instruction_fits i b.0 (omega (arith, h, n)), instructions_fit is b.1 (omega (arith, h, n)))
+pub instructions_fit : (coding : Coding) (is : List EncoderInstruction) → AllByRecursion IsByteEncoderInstruction is
+    → length (coded_encoder_instructions coding is) < 2 ^ 63 → AllByRecursion (IsWritableInstructionUnder coding) is
+unfolding coded_encoder_instructions
+instructions_fit coding [] b h = tt
+instructions_fit coding (i ∷ is) b h =
+    let n = length-append (coded_encoder_instruction coding i) (coded_encoder_instructions coding is) in
+    (instruction_fits coding i b.0 (omega (arith, h, n)), instructions_fit coding is b.1 (omega (arith, h, n)))

@@ -5,7 +5,8 @@ use Rattle.std.specs.Prelude.{Err}
 use Rattle.qpack_spec.specs.Bytes.{◌>>=◌}
 use Rattle.qpack_spec.specs.Field.{Field}
 use Rattle.qpack_spec.specs.Form.{FormFault, form_at}
-use Rattle.qpack_spec.specs.Line.{Line, line_form, SpellsLine, written_lines}
+use Rattle.qpack_spec.specs.Line.{Line, line_form, SpellsLine, coded_lines}
+use Rattle.qpack_spec.specs.Text.{Coding, Always}
 use Rattle.qpack_spec.specs.Stream.{SpellsAll}
 use Rattle.qpack_spec.specs.Prefix.{Prefix, PrefixFault, base_behind, read_prefix, written_prefix, prefix_at}
 use Rattle.qpack_spec.specs.Window.{Window, maximum_capacity, window_insert_count}
@@ -91,6 +92,10 @@ meaning_over_all all bytes required =
     or_bad_form (prefix_at bytes) >>= λ p. or_bad_prefix (base_behind p.0 required)
     >>= λ base. fields_in_bytes (whole_window all) base p.1
 
--- the bytes that are written of a block
-unfoldable pub written_block : Block → List ℕ
-written_block b = written_prefix b.prefix ++ written_lines b.lines
+-- the bytes that are written of a block under a coding
+unfoldable pub coded_block : Coding → Block → List ℕ
+coded_block coding b = written_prefix b.prefix ++ coded_lines coding b.lines
+
+-- the same where every string is coded
+abbrev pub written_block : Block → List ℕ
+written_block b = coded_block Always b

@@ -1,16 +1,17 @@
 -- What an encoder writes of each field of a section when its choices are data (RFC 9204, section 2.1). A choice that is
 -- not safe for the table it meets is replaced by a line without the dynamic table.
 use Rattle.std.specs.Prelude.{◌≡◌, ℕ, ◌-◌, Bool, false, if◌then◌else◌, ◌&&◌, nat_le, nat_lt, List, [], ◌∷◌, ◌++◌}
-use Rattle.std.specs.Prelude.{length, Option, None, Some, slice_get}
+use Rattle.std.specs.Prelude.{length, drop, Option, None, Some, slice_get}
 use Rattle.qpack_spec.specs.Field.{Field, FieldLine, has_name, is_field}
+use Rattle.qpack_spec.specs.Instruction.{EncoderInstruction}
 use Rattle.qpack_spec.specs.Line.{Line, IndexedStatic, IndexedDynamic, IndexedPostBase, NamedStatic, Literal}
 use Rattle.qpack_spec.specs.Marked.{marked_rule}
 use Rattle.qpack_spec.specs.MarkedLaws.{AreLiteralsWhereMarked}
-use Rattle.qpack_spec.specs.Rule.{Draft, with_line, with_referencing_line, with_new_entry, name_reference_line}
-use Rattle.qpack_spec.specs.Rule.{instruction_for, entries_left, empty_draft}
+use Rattle.qpack_spec.specs.Rule.{Draft, with_line, with_referencing_line, with_inserted, name_reference_line}
+use Rattle.qpack_spec.specs.Rule.{instruction_for, empty_draft}
 use Rattle.qpack_spec.specs.StaticTable.{static_index, static_name_index}
 use Rattle.qpack_spec.specs.Table.{Table, fields_in, insert_count, has_room, below_limit, may_reference, sent_entry}
-use Rattle.qpack_spec.specs.Table.{with_entry}
+use Rattle.qpack_spec.specs.Table.{with_entry, eviction_count_for}
 
 -- the line of a field (section 4.5): without the dynamic table, by an equal entry, by the name of an entry, or by an
 -- insertion that the line references
@@ -20,15 +21,31 @@ pub data Choice : Type 0 where
   Names : (absolute : ℕ) → Choice
   Inserts : Choice
 
--- what is done for a field: its line, and whether the field is inserted after the line without a reference (section
--- 2.1.2)
+-- the entries that the instruction of an insertion may name: those that stay, or every live one, so also one that the
+-- insertion evicts (section 3.2.2)
+pub data Naming : Type 0 where
+  Staying : Naming
+  Live : Naming
+
+-- what is done for a field: its line, whether the field is inserted after the line without a reference (section 2.1.2),
+-- and what its insertion may name
 pub record Chosen : Type 0 where
   pub line : Choice
   pub unreferenced : Bool
+  pub names : Naming
 
 -- a line without the dynamic table, and no insertion (section 2.1)
 abbrev pub alone_chosen : Chosen
-alone_chosen = record { line = Alone; unreferenced = false }
+alone_chosen = record { line = Alone; unreferenced = false; names = Staying }
+
+-- how many of the oldest entries an instruction passes over, of those that are evicted
+abbrev pub passed_over : Naming → ℕ → ℕ
+passed_over Staying evicted = evicted
+passed_over Live evicted = 0
+
+-- the instruction that inserts a field (section 4.3)
+abbrev pub instruction_naming : Naming → Table → Field → EncoderInstruction
+instruction_naming names t f = instruction_for f (drop (passed_over names (eviction_count_for t f)) (fields_in t.live))
 
 -- whether there is a field and it passes
 abbrev pub some_passes : (Field → Bool) → Option Field → Bool
@@ -64,35 +81,39 @@ abbrev pub literal_chosen : ℕ → Draft → Field → Choice → Draft
 literal_chosen base d f (Names a) = named_or base d f a (literal_alone d f (static_name_index f.name))
 literal_chosen base d f c = literal_alone d f (static_name_index f.name)
 
--- a line: an entry must be live, pass and be one that may be referenced (section 2.1.2); an insertion needs room, and that
--- one more block may be blocked (section 2.1.1)
-abbrev pub line_chosen : ℕ → Draft → Field → Choice → Draft
-line_chosen base d f Alone = line_alone d f (static_index f)
-line_chosen base d f (References a) =
+-- a line that inserts nothing: an entry must be live, pass and be one that may be referenced (section 2.1.2)
+abbrev pub line_uninserted : ℕ → Draft → Field → Choice → Draft
+line_uninserted base d f (References a) =
     if passes_at d.table (is_field f) a && may_reference d.table a
     then with_referencing_line d a (entry_reference_line base a) else line_alone d f (static_index f)
-line_chosen base d f (Names a) = named_or base d f a (line_alone d f (static_index f))
-line_chosen base d f Inserts =
-    if below_limit d.table
-    && has_room d.table f then with_new_entry base d f else line_alone d f (static_index f)
+line_uninserted base d f (Names a) = named_or base d f a (line_alone d f (static_index f))
+line_uninserted base d f c = line_alone d f (static_index f)
+
+-- a line: an insertion needs room, and that one more block may be blocked (section 2.1.1)
+abbrev pub line_chosen : Naming → ℕ → Draft → Field → Choice → Draft
+line_chosen names base d f Inserts =
+    if below_limit d.table && has_room d.table f
+    then with_inserted base d f (instruction_naming names d.table f) else line_alone d f (static_index f)
+line_chosen names base d f c = line_uninserted base d f c
 
 -- an insertion that no line references (section 2.1.2)
-abbrev pub with_unreferenced_entry : Draft → Field → Draft
-with_unreferenced_entry d f =
+abbrev pub with_unreferenced_entry : Naming → Draft → Field → Draft
+with_unreferenced_entry names d f =
     record d {
       table = with_entry d.table (sent_entry f);
-      instructions = d.instructions ++ instruction_for f (entries_left d.table f) ∷ [];
+      instructions = d.instructions ++ instruction_naming names d.table f ∷ [];
     }
 
 -- such an insertion, if it is chosen and there is room (section 2.1.1)
-abbrev pub unreferenced_chosen : Bool → Draft → Field → Draft
-unreferenced_chosen unreferenced d f = if unreferenced && has_room d.table f then with_unreferenced_entry d f else d
+abbrev pub unreferenced_chosen : Naming → Bool → Draft → Field → Draft
+unreferenced_chosen names unreferenced d f =
+    if unreferenced && has_room d.table f then with_unreferenced_entry names d f else d
 
 -- one field: a marked one is a literal and is never inserted (section 7.1.3)
 abbrev pub chosen_field : ℕ → Draft → FieldLine → Chosen → Draft
 chosen_field base d l c =
     if l.never_indexed then literal_chosen base d l.field c.line
-    else unreferenced_chosen c.unreferenced (line_chosen base d l.field c.line) l.field
+    else unreferenced_chosen c.names c.unreferenced (line_chosen c.names base d l.field c.line) l.field
 
 -- each field in turn; a field without a choice is written without the dynamic table (section 2.1)
 abbrev pub chosen_fields : ℕ → Draft → List FieldLine → List Chosen → Draft

@@ -1,7 +1,7 @@
 -- The instructions of the encoder stream and of the decoder's, and their bytes (RFC 9204, sections 4.3 and 4.4).
 use Rattle.std.specs.Prelude.{ℕ, if◌then◌else◌, nat_lt, List, [], ◌∷◌, ◌++◌, Option, None, Some}
 use Rattle.qpack_spec.specs.Integer.{written_integer}
-use Rattle.qpack_spec.specs.Text.{written_string}
+use Rattle.qpack_spec.specs.Text.{Coding, Always, coded_string}
 use Rattle.qpack_spec.specs.Form.{FormFault, Form, Index, IndexAndValue, NameAndValue, Spells, Refuses}
 
 -- an encoder instruction (section 4.3); a relative index counts from the newest entry, which is 0
@@ -53,19 +53,27 @@ SpellsDecoderInstruction encoding r = Spells DecoderInstruction decoder_instruct
 abbrev pub RefusesDecoderInstruction : List ℕ → FormFault → Type 0
 RefusesDecoderInstruction encoding fault = Refuses DecoderInstruction decoder_instruction_form encoding fault
 
--- the written spelling of an encoder instruction: every integer the shortest, every string coded
-unfoldable pub written_encoder_instruction : EncoderInstruction → List ℕ
-written_encoder_instruction (InsertStaticName index value) = written_integer 6 3 index ++ written_string 8 0 value
-written_encoder_instruction (InsertDynamicName relative value) = written_integer 6 2 relative
-    ++ written_string 8 0 value
-written_encoder_instruction (InsertLiteralName name value) = written_string 6 1 name ++ written_string 8 0 value
-written_encoder_instruction (Duplicate relative) = written_integer 5 0 relative
-written_encoder_instruction (SetCapacity capacity) = written_integer 5 1 capacity
+-- the written spelling of an encoder instruction under a coding: every integer is the shortest
+unfoldable pub coded_encoder_instruction : Coding → EncoderInstruction → List ℕ
+coded_encoder_instruction coding (InsertStaticName index value) = written_integer 6 3 index ++ coded_string coding 8 0 value
+coded_encoder_instruction coding (InsertDynamicName relative value) = written_integer 6 2 relative
+    ++ coded_string coding 8 0 value
+coded_encoder_instruction coding (InsertLiteralName name value) = coded_string coding 6 1 name ++ coded_string coding 8 0 value
+coded_encoder_instruction coding (Duplicate relative) = written_integer 5 0 relative
+coded_encoder_instruction coding (SetCapacity capacity) = written_integer 5 1 capacity
 
 -- the written encoder instructions, one after the other
-unfoldable pub written_encoder_instructions : List EncoderInstruction → List ℕ
-written_encoder_instructions [] = []
-written_encoder_instructions (i ∷ is) = written_encoder_instruction i ++ written_encoder_instructions is
+unfoldable pub coded_encoder_instructions : Coding → List EncoderInstruction → List ℕ
+coded_encoder_instructions coding [] = []
+coded_encoder_instructions coding (i ∷ is) =
+    coded_encoder_instruction coding i ++ coded_encoder_instructions coding is
+
+-- the same where every string is coded
+abbrev pub written_encoder_instruction : EncoderInstruction → List ℕ
+written_encoder_instruction i = coded_encoder_instruction Always i
+
+abbrev pub written_encoder_instructions : List EncoderInstruction → List ℕ
+written_encoder_instructions is = coded_encoder_instructions Always is
 
 -- the written spelling of a decoder instruction
 unfoldable pub written_decoder_instruction : DecoderInstruction → List ℕ

@@ -2,7 +2,7 @@
 use Rattle.std.specs.Prelude.{ℕ, ◌/◌, ◌%◌, Bool, true, if◌then◌else◌, nat_lt, nat_eq, List, [], ◌∷◌, ◌++◌, Option}
 use Rattle.std.specs.Prelude.{None, Some}
 use Rattle.qpack_spec.specs.Integer.{written_integer}
-use Rattle.qpack_spec.specs.Text.{written_string}
+use Rattle.qpack_spec.specs.Text.{Coding, Always, coded_string}
 use Rattle.qpack_spec.specs.Form.{FormFault, Form, Index, IndexAndValue, NameAndValue, Spells, Refuses}
 
 -- a field line; a relative index counts down from the base, a post-base index up from it (sections 3.2.5 and 3.2.6)
@@ -36,26 +36,37 @@ SpellsLine encoding l = Spells Line line_form encoding l
 abbrev pub RefusesLine : List ℕ → FormFault → Type 0
 RefusesLine encoding fault = Refuses Line line_form encoding fault
 
--- the written spelling: N is 0, every integer the shortest, every string coded
-unfoldable pub written_line : Line → List ℕ
-written_line (IndexedStatic index) = written_integer 6 3 index
-written_line (IndexedDynamic relative) = written_integer 6 2 relative
-written_line (IndexedPostBase post_base) = written_integer 4 1 post_base
-written_line (NamedStatic index value) = written_integer 4 5 index ++ written_string 8 0 value
-written_line (NamedDynamic relative value) = written_integer 4 4 relative ++ written_string 8 0 value
-written_line (NamedPostBase post_base value) = written_integer 3 0 post_base ++ written_string 8 0 value
-written_line (Literal name value) = written_string 4 2 name ++ written_string 8 0 value
+-- the written spelling under a coding: N is 0, and every integer the shortest
+unfoldable pub coded_line : Coding → Line → List ℕ
+coded_line coding (IndexedStatic index) = written_integer 6 3 index
+coded_line coding (IndexedDynamic relative) = written_integer 6 2 relative
+coded_line coding (IndexedPostBase post_base) = written_integer 4 1 post_base
+coded_line coding (NamedStatic index value) = written_integer 4 5 index ++ coded_string coding 8 0 value
+coded_line coding (NamedDynamic relative value) = written_integer 4 4 relative ++ coded_string coding 8 0 value
+coded_line coding (NamedPostBase post_base value) = written_integer 3 0 post_base ++ coded_string coding 8 0 value
+coded_line coding (Literal name value) = coded_string coding 4 2 name ++ coded_string coding 8 0 value
 
 -- the written lines, one after the other
-unfoldable pub written_lines : List Line → List ℕ
-written_lines [] = []
-written_lines (l ∷ ls) = written_line l ++ written_lines ls
+unfoldable pub coded_lines : Coding → List Line → List ℕ
+coded_lines coding [] = []
+coded_lines coding (l ∷ ls) = coded_line coding l ++ coded_lines coding ls
 
 -- the written spelling of a line whose field is to stay a literal, or may be indexed: N is 1 or 0 (section 7.1.3); an
 -- indexed line has no N
-unfoldable pub written_marked_line : Bool → Line → List ℕ
-written_marked_line true (NamedStatic index value) = written_integer 4 7 index ++ written_string 8 0 value
-written_marked_line true (NamedDynamic relative value) = written_integer 4 6 relative ++ written_string 8 0 value
-written_marked_line true (NamedPostBase post_base value) = written_integer 3 1 post_base ++ written_string 8 0 value
-written_marked_line true (Literal name value) = written_string 4 3 name ++ written_string 8 0 value
-written_marked_line never l = written_line l
+unfoldable pub coded_marked_line : Coding → Bool → Line → List ℕ
+coded_marked_line coding true (NamedStatic index value) = written_integer 4 7 index ++ coded_string coding 8 0 value
+coded_marked_line coding true (NamedDynamic relative value) = written_integer 4 6 relative ++ coded_string coding 8 0 value
+coded_marked_line coding true (NamedPostBase post_base value) = written_integer 3 1 post_base ++ coded_string coding 8 0 value
+coded_marked_line coding true (Literal name value) = coded_string coding 4 3 name ++ coded_string coding 8 0 value
+coded_marked_line coding never l = coded_line coding l
+
+-- ---- where every string is coded
+
+abbrev pub written_line : Line → List ℕ
+written_line l = coded_line Always l
+
+abbrev pub written_lines : List Line → List ℕ
+written_lines ls = coded_lines Always ls
+
+abbrev pub written_marked_line : Bool → Line → List ℕ
+written_marked_line never l = coded_marked_line Always never l

@@ -3,13 +3,14 @@
 use Rattle.std.specs.Prelude.{◌≡◌, ℕ, false, if◌then◌else◌, List, [], ◌∷◌, ◌++◌, length, map}
 use Rattle.qpack_spec.specs.Field.{Field, FieldLine, unmarked}
 use Rattle.qpack_spec.specs.Handle.{found_name, found_instead, with_insertion, handle_field}
-use Rattle.qpack_spec.specs.Line.{Line, written_lines, written_marked_line}
+use Rattle.qpack_spec.specs.Line.{Line, coded_lines, coded_marked_line}
 use Rattle.qpack_spec.specs.Prefix.{written_prefix}
 use Rattle.qpack_spec.specs.Reading.{Block}
 use Rattle.qpack_spec.specs.Rule.{Draft, literal, rule_field, empty_draft, rule}
 use Rattle.qpack_spec.specs.Stateless.{stateless_literal, stateless_line, stateless_block}
 use Rattle.qpack_spec.specs.StaticTable.{static_name_index}
 use Rattle.qpack_spec.specs.Table.{Table, insert_count}
+use Rattle.qpack_spec.specs.Text.{Coding, Always}
 
 -- one field: a marked one is a literal, by the name of a static field or of an entry if the rule has one, and it is
 -- neither inserted nor looked up
@@ -26,14 +27,22 @@ marked_fields base d (l ∷ ls) = marked_fields base (marked_field base d l) ls
 unfoldable pub marked_rule : Table → List FieldLine → Draft
 marked_rule t ls = marked_fields (insert_count t) (empty_draft t) ls
 
--- the written lines, one for each field, with N if it is marked
-unfoldable pub written_marked_lines : List FieldLine → List Line → List ℕ
-written_marked_lines (f ∷ fs) (l ∷ ls) = written_marked_line f.never_indexed l ++ written_marked_lines fs ls
-written_marked_lines fs ls = written_lines ls
+-- the written lines under a coding, one for each field, with N if it is marked
+unfoldable pub coded_marked_lines : Coding → List FieldLine → List Line → List ℕ
+coded_marked_lines coding (f ∷ fs) (l ∷ ls) =
+    coded_marked_line coding f.never_indexed l ++ coded_marked_lines coding fs ls
+coded_marked_lines coding fs ls = coded_lines coding ls
 
 -- the bytes that are written of a block of these fields
-unfoldable pub written_marked_block : List FieldLine → Block → List ℕ
-written_marked_block fs b = written_prefix b.prefix ++ written_marked_lines fs b.lines
+unfoldable pub coded_marked_block : Coding → List FieldLine → Block → List ℕ
+coded_marked_block coding fs b = written_prefix b.prefix ++ coded_marked_lines coding fs b.lines
+
+-- the same where every string is coded
+abbrev pub written_marked_lines : List FieldLine → List Line → List ℕ
+written_marked_lines fs ls = coded_marked_lines Always fs ls
+
+abbrev pub written_marked_block : List FieldLine → Block → List ℕ
+written_marked_block fs b = coded_marked_block Always fs b
 
 -- ---- without entries
 
@@ -72,7 +81,8 @@ HandleIsTheMarkedRule =
 -- if no field is marked it is the rule, its lines are written as lines without marks, and so is a block without entries
 pub record IsTheRuleUnmarked (t : Table) (fs : List Field) : Type 0 where
   pub draft : marked_rule t (map unmarked fs) ≡ rule t fs
-  pub lines : (ls : List Line) → written_marked_lines (map unmarked fs) ls ≡ written_lines ls
+  pub lines : (coding : Coding) (ls : List Line)
+      → coded_marked_lines coding (map unmarked fs) ls ≡ coded_lines coding ls
   pub stateless : stateless_block_marked (map unmarked fs) ≡ stateless_block fs
 
 -- a block has a line for each of its fields

@@ -3,15 +3,16 @@
 use Rattle.std.specs.Prelude.{◌≡◌, ◌<◌, ◌≤◌, ℕ, Bool, true, false, List, ◌∷◌, Ok}
 use Rattle.qpack_spec.specs.Field.{FieldLine, fields_of_lines, total_size}
 use Rattle.qpack_spec.specs.Line.{Line, NamedStatic, NamedDynamic, NamedPostBase, Literal, SpellsLine}
-use Rattle.qpack_spec.specs.Line.{written_marked_line}
-use Rattle.qpack_spec.specs.Marked.{marked_rule, written_marked_block}
+use Rattle.qpack_spec.specs.Line.{coded_marked_line}
+use Rattle.qpack_spec.specs.Marked.{marked_rule, coded_marked_block}
 use Rattle.qpack_spec.specs.Prefix.{read_prefix}
 use Rattle.qpack_spec.specs.Reading.{Block, fields_of}
 use Rattle.qpack_spec.specs.StrictLaws.{IsStrict}
 use Rattle.qpack_spec.specs.StrictReading.{strict_reading, Read, Blocked}
 use Rattle.qpack_spec.specs.Table.{Table}
+use Rattle.qpack_spec.specs.Text.{Coding}
 use Rattle.qpack_spec.specs.Window.{Window, maximum_capacity, window_insert_count}
-use Rattle.qpack_spec.specs.WrittenLaws.{IsWritableLine, IsWritableBlock}
+use Rattle.qpack_spec.specs.WrittenLaws.{IsWritableLineUnder, IsWritableBlockUnder}
 
 -- a literal line, which says whether its field is to stay one
 abbrev pub is_literal : Line → Bool
@@ -34,27 +35,27 @@ MarkedFieldsAreLiterals = (t : Table) (fs : List FieldLine) → AreLiteralsWhere
 -- what is written of a literal line is a spelling of it, marked or not
 abbrev pub MarkedLinesAreSpellings : Type 0
 MarkedLinesAreSpellings =
-    (never : Bool) (l : Line) → IsWritableLine l → (never ≡ true → is_literal l ≡ true)
-    → SpellsLine (written_marked_line never l) l
+    (coding : Coding) (never : Bool) (l : Line) → IsWritableLineUnder coding l
+    → (never ≡ true → is_literal l ≡ true) → SpellsLine (coded_marked_line coding never l) l
 
 -- a section is read as its fields with their marks if it is written so, requires no more than was received, references
 -- nothing past its required insert count, and its fields are within the limit
 abbrev pub MarkedSectionsAreRead : Type 0
 MarkedSectionsAreRead =
-    (w : Window) (limit required base : ℕ) (b : Block) (fields : List FieldLine)
+    (coding : Coding) (w : Window) (limit required base : ℕ) (b : Block) (fields : List FieldLine)
     → (let maximum = maximum_capacity w.agreed_max w.capacity in
-    IsWritableBlock b → read_prefix (window_insert_count w) maximum b.prefix ≡ Ok (required, base)
+    IsWritableBlockUnder coding b → read_prefix (window_insert_count w) maximum b.prefix ≡ Ok (required, base)
     → required ≤ window_insert_count w → IsStrict maximum required base b
     → fields_of w base b.lines ≡ Ok (fields_of_lines fields) → AreLiteralsWhereMarked fields b.lines
     → total_size (fields_of_lines fields) ≤ limit
-    → strict_reading w limit (written_marked_block fields b) ≡ Read fields required)
+    → strict_reading w limit (coded_marked_block coding fields b) ≡ Read fields required)
 
 -- a section that requires more than was received is blocked, under any window that its lines mean the fields under
 abbrev pub MarkedSectionsAreBlocked : Type 0
 MarkedSectionsAreBlocked =
-    (w later : Window) (limit required base : ℕ) (b : Block) (fields : List FieldLine)
+    (coding : Coding) (w later : Window) (limit required base : ℕ) (b : Block) (fields : List FieldLine)
     → (let maximum = maximum_capacity w.agreed_max w.capacity in
-    IsWritableBlock b → read_prefix (window_insert_count w) maximum b.prefix ≡ Ok (required, base)
+    IsWritableBlockUnder coding b → read_prefix (window_insert_count w) maximum b.prefix ≡ Ok (required, base)
     → window_insert_count w < required → (maximum ≡ 0 → b.prefix.count ≡ 0)
     → fields_of later base b.lines ≡ Ok (fields_of_lines fields) → total_size (fields_of_lines fields) ≤ limit
-    → strict_reading w limit (written_marked_block fields b) ≡ Blocked required)
+    → strict_reading w limit (coded_marked_block coding fields b) ≡ Blocked required)

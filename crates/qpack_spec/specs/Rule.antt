@@ -52,14 +52,18 @@ instruction_for f stay = by_equal f stay (last_position (is_field f) stay)
 abbrev pub entries_left : Table → Field → List Field
 entries_left t f = drop (eviction_count_for t f) (fields_in t.live)
 
--- an insertion, named by its post-base index
-abbrev pub with_new_entry : ℕ → Draft → Field → Draft
-with_new_entry base d f =
+-- an insertion by an instruction, named by its post-base index
+abbrev pub with_inserted : ℕ → Draft → Field → EncoderInstruction → Draft
+with_inserted base d f i =
     record {
       table = with_reference (with_entry d.table (sent_entry f)) (insert_count d.table + 1);
       lines = d.lines ++ IndexedPostBase (insert_count d.table - base) ∷ [];
-      instructions = d.instructions ++ instruction_for f (entries_left d.table f) ∷ [];
+      instructions = d.instructions ++ i ∷ [];
     }
+
+-- the same, by the entries that stay
+abbrev pub with_new_entry : ℕ → Draft → Field → Draft
+with_new_entry base d f = with_inserted base d f (instruction_for f (entries_left d.table f))
 
 -- a literal with the name of an entry, which was live at the block's start or came after it
 abbrev pub name_reference_line : ℕ → ℕ → Field → Line

@@ -11,10 +11,11 @@ use Rattle.qpack_spec.specs.Line.{Line, IndexedStatic, NamedStatic}
 use Rattle.qpack_spec.specs.Line.{Literal, line_form}
 use Rattle.qpack_spec.specs.Prefix.{prefix_at}
 use Rattle.qpack_spec.specs.Reading.{Fault, BadForm, static_field, field_with_value, Block}
-use Rattle.qpack_spec.specs.BlockReading.{written_block}
+use Rattle.qpack_spec.specs.BlockReading.{coded_block}
 use Rattle.qpack_spec.specs.Table.{empty_table}
 use Rattle.qpack_spec.specs.Rule.{rule, block_of}
-use Rattle.qpack_spec.specs.WrittenLaws.{IsWritableField}
+use Rattle.qpack_spec.specs.Text.{Coding}
+use Rattle.qpack_spec.specs.WrittenLaws.{IsWritableFieldUnder}
 
 -- a literal, by the least static field of the name
 abbrev pub stateless_literal : Field → Option ℕ → Line
@@ -100,5 +101,5 @@ up_to_limit limit sum (f ∷ fs) =
 -- what is written alone is read alone as the fields, up to the limit
 abbrev pub StatelessPairAgrees : Type 0
 StatelessPairAgrees =
-    (limit : ℕ) (fs : List Field) → AllByRecursion IsWritableField fs
-    → stateless_reading limit (written_block (stateless_block fs)) ≡ up_to_limit limit 0 fs
+    (coding : Coding) (limit : ℕ) (fs : List Field) → AllByRecursion (IsWritableFieldUnder coding) fs
+    → stateless_reading limit (coded_block coding (stateless_block fs)) ≡ up_to_limit limit 0 fs

@@ -15,11 +15,12 @@ use Rattle.qpack_spec.specs.Prefix.{prefix_at}
 use Rattle.qpack_spec.specs.Window.{Window, maximum_capacity, window_insert_count}
 use Rattle.qpack_spec.specs.Reading.{Fault, BadForm, BadPrefix, line_field, references_of_line, greatest_of}
 use Rattle.qpack_spec.specs.Reading.{Reading, Fields, Missing, Faulty, Block, fields_of}
-use Rattle.qpack_spec.specs.BlockReading.{or_bad_form, reading_of_bytes, written_block}
+use Rattle.qpack_spec.specs.BlockReading.{or_bad_form, reading_of_bytes, coded_block}
 use Rattle.qpack_spec.specs.Stateless.{saturated_size}
 use Rattle.qpack_spec.specs.LengthLaws.{longest_section}
 use Rattle.qpack_spec.specs.StrictLaws.{IsStrict}
-use Rattle.qpack_spec.specs.WrittenLaws.{IsWritableBlock}
+use Rattle.qpack_spec.specs.Text.{Coding}
+use Rattle.qpack_spec.specs.WrittenLaws.{IsWritableBlockUnder}
 
 -- whether the first byte of a line asks that its field stay a literal: the bit N of 0000N, 001NH and 01NT (sections
 -- 4.5.4 to 4.5.6)
@@ -182,9 +183,9 @@ indexable fs = map (λ f. record { field = f; never_indexed = false }) fs
 -- its required insert count, and its fields are within the limit
 abbrev pub StrictSectionsAreRead : Type 0
 StrictSectionsAreRead =
-    (w : Window) (limit required base : ℕ) (b : Block) (fields : List Field)
+    (coding : Coding) (w : Window) (limit required base : ℕ) (b : Block) (fields : List Field)
     → (let maximum = maximum_capacity w.agreed_max w.capacity in
-    IsWritableBlock b → read_prefix (window_insert_count w) maximum b.prefix ≡ Ok (required, base)
+    IsWritableBlockUnder coding b → read_prefix (window_insert_count w) maximum b.prefix ≡ Ok (required, base)
     → required ≤ window_insert_count w → IsStrict maximum required base b → fields_of w base b.lines ≡ Ok fields
     → total_size fields ≤ limit
-    → strict_reading w limit (written_block b) ≡ Read (indexable fields) required)
+    → strict_reading w limit (coded_block coding b) ≡ Read (indexable fields) required)

@@ -1,7 +1,7 @@
 -- String literals with a prefix of n bits, n from 2 to 8: a flag, a length, and that many bytes, plain or coded (RFC
 -- 7541, section 5.2; RFC 9204, section 4.1.2).
 use Rattle.std.specs.Prelude.{◌≡◌, ℕ, ◌+◌, ◌-◌, ◌*◌, ◌/◌, ◌%◌, ◌⊎◌, List, ◌++◌, length, take, drop, Result, Ok, Err}
-use Rattle.std.specs.Prelude.{[], ◌≢◌, ◌<◌, nat_lt, ◌==◌, if◌then◌else◌}
+use Rattle.std.specs.Prelude.{[], ◌≢◌, ◌<◌, nat_lt, ◌==◌, if◌then◌else◌, Bool, true}
 use Rattle.qpack_spec.specs.Integer.{IntegerFault, Overflow, UnexpectedEnd, SpellsInteger, OverflowsInteger, integer_at}
 use Rattle.qpack_spec.specs.Integer.{written_integer}
 use Rattle.qpack_spec.specs.Huffman.{HuffmanFault, bits_of_bytes, PayloadMeans, PayloadMeansNothing, text_of_bits}
@@ -75,6 +75,32 @@ string_at n bytes = string_behind (integer_at (n - 1) bytes)
 
 -- ---- the written spelling
 
--- coded, the length in its written spelling, the flags cut to the bits above it
-unfoldable pub written_string : ℕ → ℕ → List ℕ → List ℕ
-written_string n flags value = written_integer (n - 1) (2 * flags + 1) (length (payload_of value)) ++ payload_of value
+-- which strings an encoder codes, which is its choice (RFC 9204, section 4.1.2): all of them, or those that the code
+-- makes shorter
+pub data Coding : Type 0 where
+  Always : Coding
+  WhereShorter : Coding
+
+-- whether the value is coded
+abbrev pub is_coded : Coding → List ℕ → Bool
+is_coded Always value = true
+is_coded WhereShorter value = nat_lt (length (payload_of value)) (length value)
+
+-- the payload that is written of a value
+abbrev pub payload_under : Coding → List ℕ → List ℕ
+payload_under coding value = if is_coded coding value then payload_of value else value
+
+-- the payload behind its length in its written spelling, the flags cut to the bits above it
+abbrev pub written_literal_of : ℕ → ℕ → ℕ → List ℕ → List ℕ
+written_literal_of n flags huffman payload =
+    written_integer (n - 1) (2 * flags + huffman) (length payload) ++ payload
+
+-- the written spelling under a coding
+unfoldable pub coded_string : Coding → ℕ → ℕ → List ℕ → List ℕ
+coded_string coding n flags value =
+    if is_coded coding value then written_literal_of n flags 1 (payload_of value)
+    else written_literal_of n flags 0 value
+
+-- the same where every string is coded
+abbrev pub written_string : ℕ → ℕ → List ℕ → List ℕ
+written_string n flags value = coded_string Always n flags value

@@ -2,9 +2,9 @@
 use Rattle.std.specs.Prelude.{◌≡◌, ℕ, ◌+◌, ◌-◌, ◌^◌, ◌<◌, ◌≤◌, ◌⊎◌, ◌↔◌, List, ◌++◌, length, Ok, Err}
 use Rattle.qpack_spec.specs.Bytes.{Begins}
 use Rattle.qpack_spec.specs.Integer.{full}
-use Rattle.qpack_spec.specs.Huffman.{HuffmanFault, AreBytes, payload_of}
+use Rattle.qpack_spec.specs.Huffman.{HuffmanFault, AreBytes}
 use Rattle.qpack_spec.specs.Text.{StringFault, EndsEarly, LengthOverflows, BadHuffman, SpellsString, RefusesString}
-use Rattle.qpack_spec.specs.Text.{TruncatesString, string_at, written_string}
+use Rattle.qpack_spec.specs.Text.{TruncatesString, string_at, Coding, payload_under, coded_string}
 
 -- one literal is of one value, under one list of flags
 abbrev pub StringsHaveOneValue : Type 0
@@ -22,26 +22,27 @@ EndsString n encoding =
 abbrev pub NoStringBeginsAnother : Type 0
 NoStringBeginsAnother = (n : ℕ) (a b x y : List ℕ) → EndsString n a → EndsString n b → a ++ x ≡ b ++ y → a ≡ b
 
--- what can be written so that it is read back: a prefix of 2 to 8 bits, flags that fit above it, bytes, and a coded
--- length up to the greatest that is read
-pub record IsWritableString (n flags : ℕ) (value : List ℕ) : Type 0 where
+-- what can be written so that it is read back: a prefix of 2 to 8 bits, flags that fit above it, bytes, and a length of
+-- the payload up to the greatest that is read
+pub record IsWritableString (coding : Coding) (n flags : ℕ) (value : List ℕ) : Type 0 where
   pub least : 2 ≤ n
   pub most : n ≤ 8
   pub flags_fit : flags < 2 ^ (8 - n)
   pub bytes : AreBytes value
-  pub size : length (payload_of value) < 2 ^ 63 + full (n - 1)
+  pub size : length (payload_under coding value) < 2 ^ 63 + full (n - 1)
 
--- the written string is a literal of its value
+-- the written string is a literal of its value, under any coding
 abbrev pub WrittenStringsAreLiterals : Type 0
 WrittenStringsAreLiterals =
-    (n flags : ℕ) (value : List ℕ) → IsWritableString n flags value
-    → SpellsString n (written_string n flags value) flags value
+    (coding : Coding) (n flags : ℕ) (value : List ℕ) → IsWritableString coding n flags value
+    → SpellsString n (coded_string coding n flags value) flags value
 
 -- the written string is read back whole, whatever follows
 abbrev pub WrittenStringsAreReadBack : Type 0
 WrittenStringsAreReadBack =
-    (n flags : ℕ) (value rest encoding more : List ℕ) (f : ℕ) (v : List ℕ) → IsWritableString n flags value
-    → SpellsString n encoding f v → written_string n flags value ++ rest ≡ encoding ++ more
+    (coding : Coding) (n flags : ℕ) (value rest encoding more : List ℕ) (f : ℕ) (v : List ℕ)
+    → IsWritableString coding n flags value → SpellsString n encoding f v
+    → coded_string coding n flags value ++ rest ≡ encoding ++ more
     → (f ≡ flags) × (v ≡ value) × (more ≡ rest)
 
 -- reading from left to right finds exactly the literal at the front

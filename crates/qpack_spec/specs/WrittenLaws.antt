@@ -5,48 +5,51 @@ use Rattle.std.specs.List.{AllByRecursion}
 use Rattle.qpack_spec.specs.Prefix.{Prefix, SpellsPrefix, written_prefix}
 use Rattle.qpack_spec.specs.Window.{Window}
 use Rattle.qpack_spec.specs.Reading.{Block, reading}
-use Rattle.qpack_spec.specs.BlockReading.{reading_of_bytes, written_block}
+use Rattle.qpack_spec.specs.BlockReading.{reading_of_bytes, coded_block}
 use Rattle.qpack_spec.specs.Field.{Field}
-use Rattle.qpack_spec.specs.Huffman.{AreBytes, payload_of}
+use Rattle.qpack_spec.specs.Huffman.{AreBytes}
+use Rattle.qpack_spec.specs.Text.{Coding, Always, payload_under}
 use Rattle.qpack_spec.specs.Line.{Line, IndexedStatic, IndexedDynamic, IndexedPostBase, NamedStatic, NamedDynamic}
-use Rattle.qpack_spec.specs.Line.{NamedPostBase, Literal, SpellsLine, written_line}
+use Rattle.qpack_spec.specs.Line.{NamedPostBase, Literal, SpellsLine, coded_line}
 use Rattle.qpack_spec.specs.Instruction.{EncoderInstruction, InsertStaticName, InsertDynamicName, InsertLiteralName}
 use Rattle.qpack_spec.specs.Instruction.{Duplicate}
 use Rattle.qpack_spec.specs.Instruction.{SetCapacity, DecoderInstruction, Acknowledgment, Cancellation, Increment}
 use Rattle.qpack_spec.specs.Instruction.{SpellsEncoderInstruction}
-use Rattle.qpack_spec.specs.Instruction.{SpellsDecoderInstruction, written_encoder_instruction}
+use Rattle.qpack_spec.specs.Instruction.{SpellsDecoderInstruction, coded_encoder_instruction}
 use Rattle.qpack_spec.specs.Instruction.{written_decoder_instruction}
 
 -- the numbers that are written are below 2^63; those of this layer end at 2^62
 abbrev pub IsSmall : ℕ → Type 0
 IsSmall n = n < 2 ^ 63
 
--- a text that can be written: bytes, fewer than 2^63 of them coded
-pub record IsWritableValue (encoding : List ℕ) : Type 0 where
+-- a text that can be written under a coding: bytes, with a payload of fewer than 2^63 of them
+pub record IsWritableUnder (coding : Coding) (encoding : List ℕ) : Type 0 where
   pub bytes : AreBytes encoding
-  pub size : length (payload_of encoding) < 2 ^ 63
+  pub size : length (payload_under coding encoding) < 2 ^ 63
 
 -- the field can be written, whichever of its parts are
-abbrev pub IsWritableField : Field → Type 0
-IsWritableField f = IsWritableValue f.name × IsWritableValue f.value
+abbrev pub IsWritableFieldUnder : Coding → Field → Type 0
+IsWritableFieldUnder coding f = IsWritableUnder coding f.name × IsWritableUnder coding f.value
 
 -- the line can be written
-abbrev pub IsWritableLine : Line → Type 0
-IsWritableLine (IndexedStatic index) = IsSmall index
-IsWritableLine (IndexedDynamic relative) = IsSmall relative
-IsWritableLine (IndexedPostBase post_base) = IsSmall post_base
-IsWritableLine (NamedStatic index value) = IsSmall index × IsWritableValue value
-IsWritableLine (NamedDynamic relative value) = IsSmall relative × IsWritableValue value
-IsWritableLine (NamedPostBase post_base value) = IsSmall post_base × IsWritableValue value
-IsWritableLine (Literal name value) = IsWritableValue name × IsWritableValue value
+abbrev pub IsWritableLineUnder : Coding → Line → Type 0
+IsWritableLineUnder coding (IndexedStatic index) = IsSmall index
+IsWritableLineUnder coding (IndexedDynamic relative) = IsSmall relative
+IsWritableLineUnder coding (IndexedPostBase post_base) = IsSmall post_base
+IsWritableLineUnder coding (NamedStatic index value) = IsSmall index × IsWritableUnder coding value
+IsWritableLineUnder coding (NamedDynamic relative value) = IsSmall relative × IsWritableUnder coding value
+IsWritableLineUnder coding (NamedPostBase post_base value) = IsSmall post_base × IsWritableUnder coding value
+IsWritableLineUnder coding (Literal name value) = IsWritableUnder coding name × IsWritableUnder coding value
 
 -- the encoder instruction can be written
-abbrev pub IsWritableEncoderInstruction : EncoderInstruction → Type 0
-IsWritableEncoderInstruction (InsertStaticName index value) = IsSmall index × IsWritableValue value
-IsWritableEncoderInstruction (InsertDynamicName relative value) = IsSmall relative × IsWritableValue value
-IsWritableEncoderInstruction (InsertLiteralName name value) = IsWritableValue name × IsWritableValue value
-IsWritableEncoderInstruction (Duplicate relative) = IsSmall relative
-IsWritableEncoderInstruction (SetCapacity capacity) = IsSmall capacity
+abbrev pub IsWritableInstructionUnder : Coding → EncoderInstruction → Type 0
+IsWritableInstructionUnder coding (InsertStaticName index value) = IsSmall index × IsWritableUnder coding value
+IsWritableInstructionUnder coding (InsertDynamicName relative value) =
+    IsSmall relative × IsWritableUnder coding value
+IsWritableInstructionUnder coding (InsertLiteralName name value) =
+    IsWritableUnder coding name × IsWritableUnder coding value
+IsWritableInstructionUnder coding (Duplicate relative) = IsSmall relative
+IsWritableInstructionUnder coding (SetCapacity capacity) = IsSmall capacity
 
 -- the decoder instruction can be written
 abbrev pub IsWritableDecoderInstruction : DecoderInstruction → Type 0
@@ -81,19 +84,40 @@ pub record IsWritablePrefix (p : Prefix) : Type 0 where
   pub count : IsSmall p.count
   pub delta : IsSmall p.delta
 
--- the block can be written
-pub record IsWritableBlock (b : Block) : Type 0 where
+-- the block can be written under a coding
+pub record IsWritableBlockUnder (coding : Coding) (b : Block) : Type 0 where
   pub prefix : IsWritablePrefix b.prefix
-  pub lines : AllByRecursion IsWritableLine b.lines
+  pub lines : AllByRecursion (IsWritableLineUnder coding) b.lines
 
--- what is written of a line is a spelling of it
+-- ---- where every string is coded
+
+abbrev pub IsWritableValue : List ℕ → Type 0
+IsWritableValue encoding = IsWritableUnder Always encoding
+
+abbrev pub IsWritableField : Field → Type 0
+IsWritableField f = IsWritableFieldUnder Always f
+
+abbrev pub IsWritableLine : Line → Type 0
+IsWritableLine l = IsWritableLineUnder Always l
+
+abbrev pub IsWritableEncoderInstruction : EncoderInstruction → Type 0
+IsWritableEncoderInstruction i = IsWritableInstructionUnder Always i
+
+abbrev pub IsWritableBlock : Block → Type 0
+IsWritableBlock b = IsWritableBlockUnder Always b
+
+-- ---- what is promised
+
+-- what is written of a line is a spelling of it, under any coding
 abbrev pub WrittenLinesAreSpellings : Type 0
-WrittenLinesAreSpellings = (l : Line) → IsWritableLine l → SpellsLine (written_line l) l
+WrittenLinesAreSpellings =
+    (coding : Coding) (l : Line) → IsWritableLineUnder coding l → SpellsLine (coded_line coding l) l
 
 -- what is written of an encoder instruction is a spelling of it
 abbrev pub WrittenEncoderInstructionsAreSpellings : Type 0
-WrittenEncoderInstructionsAreSpellings = (i : EncoderInstruction) → IsWritableEncoderInstruction i
-    → SpellsEncoderInstruction (written_encoder_instruction i) i
+WrittenEncoderInstructionsAreSpellings =
+    (coding : Coding) (i : EncoderInstruction) → IsWritableInstructionUnder coding i
+    → SpellsEncoderInstruction (coded_encoder_instruction coding i) i
 
 -- what is written of a decoder instruction is a spelling of it
 abbrev pub WrittenDecoderInstructionsAreSpellings : Type 0
@@ -106,4 +130,6 @@ WrittenPrefixesAreSpellings = (p : Prefix) → IsWritablePrefix p → SpellsPref
 
 -- what is written of a block is read as the block, under every window
 abbrev pub WrittenBlocksAreRead : Type 0
-WrittenBlocksAreRead = (w : Window) (b : Block) → IsWritableBlock b → reading_of_bytes w (written_block b) ≡ reading w b
+WrittenBlocksAreRead =
+    (coding : Coding) (w : Window) (b : Block) → IsWritableBlockUnder coding b
+    → reading_of_bytes w (coded_block coding b) ≡ reading w b

@@ -4,6 +4,7 @@ use Rattle.std.proofs.Common.{refl, ap, subst, ◌∙◌, arith, inl, inr, Resul
 use Rattle.std.specs.Prelude.{IfOk, IfErr, OnOk}
 use Rattle.std.proofs.lemmas.Bool.{cases_lt, le-ltb, lt-leb, le-leb}
 use Rattle.std.proofs.lemmas.List.{length-map, length-drop}
+use Rattle.qpack_spec.specs.Chosen.{Naming, passed_over}
 use Rattle.qpack_spec.specs.Field.{Field, field_size, has_name, is_field}
 use Rattle.qpack_spec.specs.StaticTable.{static_name_index}
 use Rattle.qpack_spec.specs.Table as table
@@ -15,6 +16,7 @@ use Rattle.qpack_spec.specs.Handle.{answer_of, find_field, found_entry, insert_f
 use Rattle.qpack_spec.specs.Handle.{Insertion, Found}
 use Rattle.qpack_spec.specs.Instruction.{EncoderInstruction, InsertStaticName, InsertDynamicName, InsertLiteralName}
 use Rattle.qpack_spec.specs.Instruction.{Duplicate, SetCapacity}
+use Rattle.qpack_spec.proofs.Drafts.{room, passed_live}
 use Rattle.qpack_spec.proofs.Windows.{eviction_count_push}
 use Rattle.qpack_table.specs.Handles.{Finds, Inserts, InsertsOrHandsOut, insertion_of}
 use Rattle.qpack_table.specs.declared.dynamic.Error.TheVariants.{Memory}
@@ -101,6 +103,16 @@ room_within t f evicted e is = omega (
   is,
   eviction_count_push t.capacity (fields_in t.live) f (room_fits t f e),
   length-map t.live (λ (x : table.Entry). x.field),
+)
+
+-- so are the entries that an instruction passes over
+pub passed_within : (t : Table) (f : Field) (names : Naming) (evicted passed : ℕ) → has_room t f ≡ true
+    → evicted ≡ eviction_count_for t f → passed ≡ passed_over names evicted → passed ≤ length t.live
+passed_within t f names evicted passed e is over = omega (
+  arith,
+  over,
+  ap (λ (n : ℕ). passed_over names n) is,
+  passed_live t names f (room t f e),
 )
 
 -- an entry that stays was inserted

@@ -48,6 +48,15 @@ then_first Less s h = refl
 then_first Equal s h = absurd (h refl)
 then_first Greater s h = refl
 
+-- hashes that differ decide
+pub less_hash : (a k : Key) → nat_cmp a.hash k.hash ≡ Less → key_cmp a k ≡ Less
+unfolding key_cmp
+less_hash a k h = rw h refl
+
+pub greater_hash : (a k : Key) → nat_cmp a.hash k.hash ≡ Greater → key_cmp a k ≡ Greater
+unfolding key_cmp
+greater_hash a k h = rw h refl
+
 then_equal : (r s : Ordering) → ordering_then r s ≡ Equal → s ≡ Equal
 then_equal Less s h = absurd cc
 then_equal Equal s h = h

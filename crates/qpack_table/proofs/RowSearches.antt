@@ -3,17 +3,18 @@ use Rattle.std.proofs.Common.{◌≡◌, ℕ, ◌+◌, ◌-◌, ◌<◌, ◌≤�
 use Rattle.std.proofs.Common.{sym, ap, subst, ◌∙◌, inl, inr, arith}
 use Rattle.std.specs.Prelude.{Contains}
 use Rattle.std.specs.declared.cmp.Ordering.TheVariants.{Less, Equal, Greater}
+use Rattle.std.specs.Ordering.{nat_cmp}
 use Rattle.std.proofs.lemmas.Bool.{cases_lt}
 use Rattle.std.proofs.lemmas.List.{get_or_default}
 use Rattle.qpack_spec.specs.Field.{Field}
 use Rattle.qpack_table.specs.Rows.{Key, key_cmp, key_at, part_of, part_at, field_at, IsSlot, IsRow, IsMatch}
-use Rattle.qpack_table.specs.Rows.{IsGap, hash_of, index_of}
+use Rattle.qpack_table.specs.Rows.{IsGap, hash_of, index_of, Searching}
 use Rattle.qpack_table.specs.Tables.{live_fields}
 use Rattle.qpack_table.specs.Entries.{Entry}
 use Rattle.qpack_table.specs.declared.dynamic.comparing.Part.{Part}
 use Rattle.qpack_table.specs.declared.dynamic.index.row.Slot.{Slot}
 use Rattle.qpack_table.proofs.RowOrder.{less_through, greater_through, same_part, same_hash, tie_of}
-use Rattle.qpack_table.proofs.RowOrder.{not_less_and_equal, not_greater_and_equal}
+use Rattle.qpack_table.proofs.RowOrder.{not_less_and_equal, not_greater_and_equal, less_hash, greater_hash}
 use Rattle.qpack_table.proofs.Lookups.{fields_long, field_read}
 
 -- the slot that is read there
@@ -22,16 +23,6 @@ pub slot_at : (row slots : List Slot) (position : ℕ) (d : Slot) → slots ≡ 
 slot_at row slots position d same within =
     ap (λ (xs : List Slot). get_or xs position d) same
     ∙ get_or_default row position d (get_or slots position d) within
-
--- what is known between two positions: before the lower one all come before what is sought, and from the higher one
--- on all come after it
-pub record Searching (part : Part) (dropped : ℕ) (live : List Field) (row : List Slot) (k : Key) (low high : ℕ) :
-    Type 0 where
-  pub order : low ≤ high
-  pub within : high ≤ length row
-  pub before : (j : ℕ) (d : Slot) → j < low → key_cmp (key_at part dropped live (get_or row j d)) k ≡ Less
-  pub after : (j : ℕ) (d : Slot) → high ≤ j → j < length row
-      → key_cmp (key_at part dropped live (get_or row j d)) k ≡ Greater
 
 module _ (part : Part) (dropped : ℕ) (live : List Field) (row : List Slot) (is : IsRow part dropped live row)
     (k : Key) where
@@ -91,6 +82,13 @@ module _ (part : Part) (dropped : ℕ) (live : List Field) (row : List Slot) (is
               let same : middle ≡ j = omega (arith, le, g) in
               subst (λ (i : ℕ). key_cmp (key i d) k ≡ Greater) same (at d)
         ]
+
+    -- where hashes alone decide
+    pub looked_higher : nat_cmp slot.hash k.hash ≡ Less → Searching part dropped live row k (middle + 1) high
+    looked_higher less = searching_higher (less_hash (key_at part dropped live slot) k less)
+
+    pub looked_lower : nat_cmp slot.hash k.hash ≡ Greater → Searching part dropped live row k low middle
+    looked_lower greater = searching_lower (greater_hash (key_at part dropped live slot) k greater)
 
   pub ends : (low high : ℕ) → Searching part dropped live row k low high → high ≤ low
       → IsGap part dropped live row k low

@@ -5,7 +5,8 @@ use Rattle.qpack_spec.specs.Field.{Field, is_field}
 use Rattle.qpack_spec.specs.StaticTable.{static_name_index}
 use Rattle.qpack_spec.specs.Table as table
 use Rattle.qpack_spec.specs.Table.{newest_index, insert_count, with_reference, with_entry, sent_entry}
-use Rattle.qpack_spec.specs.Rule.{instruction_for, entries_left}
+use Rattle.qpack_spec.specs.Chosen as chosen
+use Rattle.qpack_spec.specs.Chosen.{instruction_naming}
 use Rattle.qpack_spec.specs.Handle.{Lookup, AtStatic, AtRelative, AtPostBase, Found, Insertion, Insertable, answer_of}
 use Rattle.qpack_spec.specs.Handle as handle
 use Rattle.qpack_table.specs.declared.dynamic.Error.{Error}
@@ -18,6 +19,8 @@ use Rattle.qpack_table.specs.declared.dynamic.encoder.DynamicInsertionResult.The
 use Rattle.qpack_table.specs.declared.dynamic.encoder.DynamicInsertionResult.TheVariants.{InsertedWithNameRef}
 use Rattle.qpack_table.specs.declared.dynamic.encoder.DynamicInsertionResult.TheVariants.{InsertedWithStaticNameRef}
 use Rattle.qpack_table.specs.declared.dynamic.encoder.DynamicInsertionResult.TheVariants.{NotInserted}
+use Rattle.qpack_table.specs.declared.dynamic.encoder.Naming.{Naming}
+use Rattle.qpack_table.specs.declared.dynamic.encoder.Naming.TheVariants.{Staying, Live}
 use Rattle.qpack_table.specs.declared.dynamic.sought.SoughtField.{SoughtField}
 use Rattle.qpack_table.specs.Indexes.{AreSeededHashesOf}
 
@@ -79,23 +82,28 @@ Inserts (Ok insertion) inserted old new =
     let answer : Insertable = record { insertion = insertion_of insertion; table = new } in inserted ≡ answer
 Inserts (Err e) inserted old new = (e ≡ Memory) × InsertsOrHandsOut inserted.insertion × (new ≡ old)
 
+-- which entries the instruction of an insertion may name
+abbrev pub naming_of : Naming → chosen.Naming
+naming_of Staying = chosen.Staying
+naming_of Live = chosen.Live
+
 -- the result of an insertion, whether or not its entry is referenced
-abbrev pub insertion_at : table.Table → ℕ → Field → Insertion
-insertion_at t base f =
-    answer_of (instruction_for f (entries_left t f)) (insert_count t - base) (insert_count t + 1)
+abbrev pub insertion_at : chosen.Naming → table.Table → ℕ → Field → Insertion
+insertion_at names t base f =
+    answer_of (instruction_naming names t f) (insert_count t - base) (insert_count t + 1)
 
 -- an insertion whose entry the block in progress references
-abbrev pub referenced_insertion : table.Table → ℕ → Field → Insertable
-referenced_insertion t base f =
+abbrev pub referenced_insertion : chosen.Naming → table.Table → ℕ → Field → Insertable
+referenced_insertion names t base f =
     record {
-      insertion = insertion_at t base f;
+      insertion = insertion_at names t base f;
       table = with_reference (with_entry t (sent_entry f)) (insert_count t + 1);
     }
 
 -- an insertion whose entry is not referenced (RFC 9204, section 2.1.2)
-abbrev pub unreferenced_insertion : table.Table → ℕ → Field → Insertable
-unreferenced_insertion t base f =
-    record { insertion = insertion_at t base f; table = with_entry t (sent_entry f) }
+abbrev pub unreferenced_insertion : chosen.Naming → table.Table → ℕ → Field → Insertable
+unreferenced_insertion names t base f =
+    record { insertion = insertion_at names t base f; table = with_entry t (sent_entry f) }
 
 -- a field is inserted as the definition inserts it if it can be, and nothing happens otherwise; memory is refused only
 -- if it can be, and then nothing changes

@@ -123,6 +123,16 @@ pub record IsGap (part : Part) (dropped : ℕ) (live : List Field) (row : List S
     pub after : (j : ℕ) (d : Slot) → position ≤ j → j < length row
         → key_cmp (key_at part dropped live (slice_index_or row j d)) k ≡ Greater
 
+-- what is known between two positions: before the lower one all come before what is sought, and from the higher one
+-- on all come after it
+pub record Searching (part : Part) (dropped : ℕ) (live : List Field) (row : List Slot) (k : Key) (low high : ℕ) :
+    Type 0 where
+  pub order : low ≤ high
+  pub within : high ≤ length row
+  pub before : (j : ℕ) (d : Slot) → j < low → key_cmp (key_at part dropped live (slice_index_or row j d)) k ≡ Less
+  pub after : (j : ℕ) (d : Slot) → high ≤ j → j < length row
+      → key_cmp (key_at part dropped live (slice_index_or row j d)) k ≡ Greater
+
 -- what a search found: where it is, or where it would stand
 abbrev pub IsPlace : Part → ℕ → List Field → List Slot → Key → Result ℕ ℕ → Type 0
 IsPlace part dropped live row k (Ok position) = IsMatch part dropped live row k position

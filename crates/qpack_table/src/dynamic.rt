@@ -26,7 +26,7 @@ mod table;
 
 pub use crate::dynamic::comparing::Steps;
 pub use crate::dynamic::encoder::{
-    DynamicInsertionResult, DynamicLookupResult, DynamicTableEncoder,
+    DynamicInsertionResult, DynamicLookupResult, DynamicTableEncoder, Naming,
 };
 pub use crate::dynamic::entry_index::{EntryIndex, FindsEntries, NoIndex};
 pub use crate::dynamic::index::{Hashes, Index};

@@ -6,6 +6,7 @@ use Rattle.qpack_spec.specs.WrittenLaws.{IsWritableEncoderInstruction, IsWritabl
 use Rattle.qpack_spec.specs.Instruction.{encoder_instruction_form, decoder_instruction_form, SpellsEncoderInstruction}
 use Rattle.qpack_spec.specs.Instruction.{SpellsDecoderInstruction}
 use Rattle.qpack_spec.specs.Instruction.{written_encoder_instruction, written_decoder_instruction}
+use Rattle.qpack_spec.specs.Text.{Always}
 use Rattle.qpack_spec.proofs.FormLaws.{one_form, no_form_begins, form_again}
 use Rattle.qpack_spec.proofs.WrittenForms.{instructions_spelled, decoder_instructions_spelled}
 use Rattle.qpack_wire.specs.Alone.{Unreadable, Foreign, or_unreadable}
@@ -30,13 +31,13 @@ decoder_instruction_ends encoding (inr (Foreign bits, r)) = absurd r
 
 pub written_instructions_spelled : WrittenIsSpelled SpellsEncoderInstruction IsWritableEncoderInstruction
     written_encoder_instruction
-written_instructions_spelled l h = instructions_spelled l h
+written_instructions_spelled l h = instructions_spelled Always l h
 
 pub written_instructions_read_back : WrittenIsReadBack encoder_instruction_at IsWritableEncoderInstruction
     written_encoder_instruction
 written_instructions_read_back l rest h =
     ap or_unreadable (form_again encoder_instruction_form (written_encoder_instruction l) rest l
-    (instructions_spelled l h))
+    (instructions_spelled Always l h))
 
 pub spellings_have_one_instruction : SpellingsHaveOneInstruction SpellsEncoderInstruction
 spellings_have_one_instruction = one_form encoder_instruction_form

@@ -2,7 +2,8 @@
 
 ghost use Rattle.std.specs.Prelude.{◌≡◌, ◌≤◌, ◌++◌, IfErr, Err};
 ghost use Rattle.qpack_spec.specs.Integer.{written_integer};
-ghost use Rattle.qpack_spec.specs.Text.{written_string};
+ghost use Rattle.qpack_spec.specs.Text.{coded_string};
+ghost use Rattle.qpack_base.specs.Codings.{coding_of};
 ghost use Rattle.qpack_base.specs.Writes.{Writes};
 ghost use Rattle.qpack_base.specs.declared.prefix_string.Error.TheVariants.{Memory as NoRoom};
 ghost use Rattle.qpack_base.specs.declared.parse_error.ParseError.TheVariants.{Memory};
@@ -11,6 +12,7 @@ ghost use Rattle.qpack_wire.specs.Answers.{ReadsForm};
 
 use qpack_base::coding::Cursor;
 use qpack_base::parse_error::ParseError;
+use qpack_base::prefix_string::Coding;
 use qpack_base::{prefix_int, prefix_string};
 use std::alloc::Allocator;
 
@@ -40,6 +42,7 @@ const VALUE_FLAGS: u8 = 0;
 /// Appends an index, with a prefix of `size` bits under the flags, and a value. On error the vector is unchanged.
 #[inline(always)]
 pub(crate) fn put_index_and_value<A: Allocator>(
+    coding: Coding,
     size: u8,
     flags: u8,
     index: u64,
@@ -48,12 +51,13 @@ pub(crate) fn put_index_and_value<A: Allocator>(
 ) -> Result<(), prefix_string::Error>
     requires least { 1 ≤ size }
     requires most { size ≤ 8 }
-    ensures writes { Writes (written_integer size flags index ++ written_string 8 0 value.now) buf.old buf.new result }
+    ensures writes { Writes (written_integer size flags index ++ coded_string (coding_of coding) 8 0 value.now)
+        buf.old buf.new result }
     ensures memory { IfErr result (λ e. e ≡ NoRoom) }
 {
     let len = buf.len();
     prefix_int::encode(size, flags, index, buf)?;
-    let answer = prefix_string::encode(VALUE_SIZE, VALUE_FLAGS, value, buf);
+    let answer = prefix_string::encode_under(coding, VALUE_SIZE, VALUE_FLAGS, value, buf);
     if answer.is_err() {
         buf.truncate(len);
     }
@@ -63,6 +67,7 @@ pub(crate) fn put_index_and_value<A: Allocator>(
 /// Appends a name, with a prefix of `size` bits under the flags, and a value. On error the vector is unchanged.
 #[inline(always)]
 pub(crate) fn put_name_and_value<A: Allocator>(
+    coding: Coding,
     size: u8,
     flags: u8,
     name: &[u8],
@@ -71,13 +76,13 @@ pub(crate) fn put_name_and_value<A: Allocator>(
 ) -> Result<(), prefix_string::Error>
     requires least { 2 ≤ size }
     requires most { size ≤ 8 }
-    ensures writes { Writes (written_string size flags name.now ++ written_string 8 0 value.now)
-        buf.old buf.new result }
+    ensures writes { Writes (coded_string (coding_of coding) size flags name.now ++
+        coded_string (coding_of coding) 8 0 value.now) buf.old buf.new result }
     ensures memory { IfErr result (λ e. e ≡ NoRoom) }
 {
     let len = buf.len();
-    prefix_string::encode(size, flags, name, buf)?;
-    let answer = prefix_string::encode(VALUE_SIZE, VALUE_FLAGS, value, buf);
+    prefix_string::encode_under(coding, size, flags, name, buf)?;
+    let answer = prefix_string::encode_under(coding, VALUE_SIZE, VALUE_FLAGS, value, buf);
     if answer.is_err() {
         buf.truncate(len);
     }

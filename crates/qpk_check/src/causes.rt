@@ -50,6 +50,9 @@ pub(crate) const EVICTED: &str =
 /// MaxEntries differs.
 pub(crate) const BAD_COUNT: &str =
     "the ends compute MaxEntries from different maximum capacities: it is that of SETTINGS, not the capacity";
+/// MaxEntries is that of the capacity.
+pub(crate) const BY_CAPACITY: &str =
+    "the encoder computes MaxEntries from the capacity in use, as nghttp3 and neqo do, and not from the maximum of SETTINGS";
 /// The base is below 0.
 pub(crate) const BAD_BASE: &str =
     "the sign of the base is set, and its delta is not below the required insert count";

@@ -3,9 +3,10 @@
 ghost use Rattle.std.specs.Prelude.{◌≡◌, false, IfOk, IsUtf8, string_bytes};
 ghost use Rattle.qpk_check.specs.Findings.{AreVerdict};
 
+use crate::counts::{by_capacity, push_by_capacity};
 use crate::findings::{
     self, Code, Released, Subject, rule_of_bytes, rule_of_hearing, rule_of_instruction,
-    rule_of_line, rule_of_prefix,
+    rule_of_line, rule_of_prefix, rule_of_wait,
 };
 use crate::history;
 use crate::judged::{Judged, Waiting};
@@ -199,7 +200,7 @@ fn judge_shown(
             reading,
         } => {
             judged.count_section(*stream, *was_blocked);
-            judge_reading(judged, report, place, *stream, reading);
+            judge_reading(judged, report, place, *stream, reading, table);
             judge_list(
                 judged,
                 report,
@@ -318,11 +319,13 @@ fn judge_blocked(
     ensures { report.new.json ≡ report.old.json }
 {
     judged.count_section(stream, false);
+    let count = by_capacity(required, observer.table(), judged.duties.evicted());
     report.text.note(judged.wait(Waiting {
         stream,
         required,
         line: place.line,
         end: place.end,
+        by_capacity: count,
     }));
     report
         .text
@@ -377,6 +380,7 @@ fn judge_reading(
     place: Place<'_>,
     stream: u64,
     reading: &Reading,
+    table: &ReceivedTable,
 )
     ensures { report.new.json ≡ report.old.json }
 {
@@ -389,7 +393,7 @@ fn judge_reading(
             base,
             stop: Some(stop),
             ..
-        } => judge_stop(judged, report, place, stream, required, *base, stop),
+        } => judge_stop(judged, report, place, stream, required, *base, stop, table),
         Reading::Refused(refusal) => {
             report.begin(place, Subject::Section(stream, 0));
             reasons::push_prefix_refusal(&mut report.text, refusal);
@@ -408,13 +412,16 @@ fn judge_stop(
     required: usize,
     base: usize,
     stop: &Stop,
+    table: &ReceivedTable,
 )
     ensures { report.new.json ≡ report.old.json }
 {
+    let count = by_capacity(required, table, judged.duties.evicted());
     report.begin(place, Subject::Section(stream, stop.offset));
     reasons::push_line_fault(&mut report.text, &stop.fault);
     history::push_eviction(&mut report.text, &stop.fault, base, &judged.duties);
-    report.end(rule_of_line(&stop.fault, required, base));
+    push_by_capacity(&mut report.text, count);
+    report.end(rule_of_line(&stop.fault, required, base, count));
 }
 
 /// Judges what the end of the input cuts.
@@ -458,5 +465,6 @@ fn judge_wait(report: &mut Report, waiting: &Waiting)
     };
     report.begin(place, Subject::Section(waiting.stream, 0));
     report.text.push_between("blocked until insertion ", &waiting.required, " to the end");
-    report.end(findings::NEVER_UNBLOCKED);
+    push_by_capacity(&mut report.text, waiting.by_capacity);
+    report.end(rule_of_wait(waiting.by_capacity));
 }

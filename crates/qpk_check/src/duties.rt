@@ -102,6 +102,11 @@ impl Duties {
         &self.at_risk
     }
 
+    /// Returns how many entries were evicted.
+    pub(crate) fn evicted(&self) -> usize {
+        self.evicted
+    }
+
     /// Returns the line of the instruction that evicted an entry, if one did.
     pub(crate) fn line_of_eviction(&self, entry: usize) -> Option<usize> {
         let index = self.evictions.partition_point(|e| e.evicted < entry);

@@ -70,11 +70,18 @@ pub(crate) const CUT: Rule = Rule {
     cause: causes::MORE_FOLLOWS,
 };
 /// A section that waits to the end.
-pub(crate) const NEVER_UNBLOCKED: Rule = Rule {
+const NEVER_UNBLOCKED: Rule = Rule {
     standard: Standard::Qpack,
     section: "2.1.2",
     code: Code::None,
     cause: causes::NEVER_COMES,
+};
+/// A section that waits to the end, and would not by the capacity in use.
+const WAITS_BY_MAXIMUM: Rule = Rule {
+    standard: Standard::Qpack,
+    section: "4.5.1.1",
+    code: Code::None,
+    cause: causes::BY_CAPACITY,
 };
 /// A section that may not wait.
 pub(crate) const TOO_MANY_BLOCKED: Rule = Rule {
@@ -238,9 +245,18 @@ fn cause_of_bytes(error: ParseError) -> &'static str {
     }
 }
 
-/// Returns the rule of a line that gives no field, of a section with this required insert count and this base.
-pub(crate) fn rule_of_line(fault: &LineFault, required: usize, base: usize) -> Rule {
+/// Returns the rule of a line that gives no field, of a section with this required insert count and this base; and by the
+/// capacity in use, with another count.
+pub(crate) fn rule_of_line(
+    fault: &LineFault,
+    required: usize,
+    base: usize,
+    by_capacity: Option<usize>,
+) -> Rule {
     let code = Code::Decompression;
+    if by_capacity.is_some() && is_reference(fault) {
+        return broken("4.5.1.1", code, causes::BY_CAPACITY);
+    }
     match fault {
         LineFault::Unreadable(e) => broken(section_of(*e), code, cause_of_bytes(*e)),
         LineFault::PastRequired(_) => broken("2.2.3", code, cause_of_past(required, base)),
@@ -250,6 +266,22 @@ pub(crate) fn rule_of_line(fault: &LineFault, required: usize, base: usize) -> R
         LineFault::Meaningless(_) => {
             broken("2.2.3", code, cause_of_no_reference(fault, required, base))
         }
+    }
+}
+
+/// Returns whether a line references an entry that is not there.
+fn is_reference(fault: &LineFault) -> bool {
+    match fault {
+        LineFault::PastRequired(_) | LineFault::Meaningless(DecoderError::DynamicTable(_)) => true,
+        LineFault::Unreadable(_) | LineFault::Meaningless(_) => false,
+    }
+}
+
+/// Returns the rule of a section that waits to the end. By the capacity in use it has another required insert count.
+pub(crate) fn rule_of_wait(by_capacity: Option<usize>) -> Rule {
+    match by_capacity {
+        Some(_) => WAITS_BY_MAXIMUM,
+        None => NEVER_UNBLOCKED,
     }
 }
 

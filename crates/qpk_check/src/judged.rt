@@ -15,6 +15,8 @@ pub(crate) struct Waiting {
     pub(crate) line: usize,
     /// The end that sent it, if the recording says so.
     pub(crate) end: Option<End>,
+    /// Its required insert count by the capacity in use, if that is in the table.
+    pub(crate) by_capacity: Option<usize>,
 }
 
 /// A decoder instruction that released the oldest section of a stream, or all of them.

@@ -3,6 +3,7 @@
 
 mod causes;
 pub mod check;
+mod counts;
 mod duties;
 mod findings;
 mod history;

@@ -3,18 +3,19 @@
 
 ghost use Rattle.std.specs.Prelude.{◌≡◌, ℕ, false, true};
 ghost use Rattle.qpack_base.specs.HeaderFields.{line_of, field_of};
+ghost use Rattle.qpack_spec.specs.Chosen as chosen;
 ghost use Rattle.qpack_spec.specs.Chosen.{Chosen};
 ghost use Rattle.qpack_spec.specs.Field.{FieldLine as Line, unmarked};
 ghost use Rattle.qpack_spec.specs.StaticTable.{static_name_index};
 ghost use Rattle.qpack_spec.specs.Table.{Table};
-ghost use Rattle.qpack_table.specs.Handles.{AreHashesIn, IsSoughtIn};
+ghost use Rattle.qpack_table.specs.Handles.{AreHashesIn, IsSoughtIn, naming_of};
 ghost use Rattle.qpack_codec.specs.Choices.{chosen_of, inserts_after, line_as_wished, wish_of_mark};
 ghost use Rattle.qpack_codec.specs.declared.encoder.choices.Wish.{Wish as Asked};
 ghost use Rattle.qpack_codec.specs.declared.encoder.choices.Wish.TheVariants.{Unmarked, Never as Refused};
 
 use qpack_base::field::{FieldLine, HeaderField};
 use qpack_base::stored_field::StoredField;
-use qpack_table::dynamic::{DynamicTableEncoder, FindsEntries, SoughtField};
+use qpack_table::dynamic::{DynamicTableEncoder, FindsEntries, Naming, SoughtField};
 
 /// The caller's wish for a field.
 #[derive(Debug, Clone, Copy, PartialEq, Drop)]
@@ -77,6 +78,13 @@ pub trait Chooses<I: FindsEntries, F: StoredField> {
     // choice, and its state after.
     ghost chooses: { Self → ℕ → Table → Line → Asked → Chosen → Self → Type 0 };
 
+    // What an insertion may name.
+    ghost naming: { chosen.Naming };
+
+    /// Returns which entries the instruction of an insertion may name.
+    fn naming(&self) -> Naming
+        ensures { naming_of result ≡ naming };
+
     /// Begins a section: this is called before its first field.
     fn begin(&mut self, block: &DynamicTableEncoder<'_, I, F>);
 
@@ -94,7 +102,7 @@ pub trait Chooses<I: FindsEntries, F: StoredField> {
         requires sought { (line_of field.now).never_indexed ≡ false
             → IsSoughtIn block.now.table.now (line_of field.now).field sought.now }
         ensures { chooses self.old block.now.base block.now.table.now (line_of field.now) wish
-            (chosen_of block.now.table.now (line_of field.now).field result) self.new };
+            (chosen_of naming block.now.table.now (line_of field.now).field result) self.new };
 }
 
 /// What can be borrowed as a field line: a header field, which may be indexed, a field line, and a reference to either.

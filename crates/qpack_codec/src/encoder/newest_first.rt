@@ -3,6 +3,7 @@
 
 ghost use Rattle.std.specs.Prelude.{◌≡◌, false};
 ghost use Rattle.qpack_base.specs.HeaderFields.{line_of};
+ghost use Rattle.qpack_spec.specs.Chosen.{Staying};
 ghost use Rattle.qpack_spec.specs.Field.{Field};
 ghost use Rattle.qpack_spec.specs.Table.{Table};
 ghost use Rattle.qpack_table.specs.Handles.{IsSoughtIn};
@@ -12,7 +13,7 @@ ghost use Rattle.qpack_codec.specs.NewestFirst.{by_newest, literal_first, unmark
 use crate::encoder::choices::{Choice, Chooses, Wish};
 use qpack_base::field::FieldLine;
 use qpack_base::stored_field::StoredField;
-use qpack_table::dynamic::{DynamicTableEncoder, FindsEntries, SoughtField};
+use qpack_table::dynamic::{DynamicTableEncoder, FindsEntries, Naming, SoughtField};
 
 /// Chooses by the table and the field alone.
 #[derive(Debug, Clone, Copy, Drop)]
@@ -22,6 +23,12 @@ impl<I: FindsEntries, F: StoredField> Chooses<I, F> for NewestFirst {
     ghost use Rattle.qpack_codec.specs.declared.encoder.newest_first.NewestFirst.{NewestFirst as State};
 
     ghost chooses = { λ before base t l w c after. by_newest State before base t l w c after };
+
+    ghost naming = { Staying };
+
+    fn naming(&self) -> Naming {
+        Naming::Staying
+    }
 
     fn begin(&mut self, _block: &DynamicTableEncoder<'_, I, F>) {}
 

@@ -4,7 +4,8 @@ ghost use Rattle.std.specs.Prelude.{◌≡◌, ◌≤◌, ◌++◌, map, Ok, IfO
 ghost use Rattle.std.specs.Prelude.{◌-◌, [], length, take, drop};
 ghost use Rattle.std.specs.Iterator.{IsFinite, Drains};
 ghost use Rattle.qpack_spec.specs.Field.{fields_of_lines};
-ghost use Rattle.qpack_spec.specs.Marked.{stateless_block_marked, written_marked_block};
+ghost use Rattle.qpack_spec.specs.Marked.{stateless_block_marked, coded_marked_block};
+ghost use Rattle.qpack_base.specs.Codings.{coding_of};
 ghost use Rattle.qpack_spec.specs.Table.{Table, commit, without_references, insert_count};
 ghost use Rattle.qpack_spec.specs.Prefix.{written_prefix};
 ghost use Rattle.qpack_codec.specs.Encoding.{DrainsLinesOf, EncodesLines, GivesUpLines, StopsEncodingLinesOf};
@@ -22,6 +23,7 @@ use crate::error::EncoderError;
 use crate::stateless::field_lines::append_section;
 use qpack_base::coding::{NoMemory, make_room};
 use qpack_base::field::HeaderField;
+use qpack_base::prefix_string::Coding;
 use qpack_base::stored_field::StoredField;
 use qpack_table::dynamic::{
     DynamicTable, DynamicTableEncoder, EntryIndex, FindsEntries, SortedIndex,
@@ -83,8 +85,8 @@ impl<I: FindsEntries, F: StoredField> EncoderTable<I, F> {
         self.table.release_references();
     }
 
-    /// Encodes a field section for a stream as `write_section` does, but with a choice for each field. Whatever is
-    /// chosen, the section means its fields. At capacity 0 nothing is chosen, and the chooser is not called.
+    /// Encodes a field section for a stream as `write_section` does, but with a choice for each field, and with
+    /// strings coded as the coding says. Whatever is chosen, the section means its fields. At capacity 0 nothing is chosen, and the chooser is not called.
     pub fn write_chosen_section<A: Allocator, B: Allocator, H: AsField, C: Chooses<I, F>>(
         &mut self,
         stream_id: u64,
@@ -92,10 +94,11 @@ impl<I: FindsEntries, F: StoredField> EncoderTable<I, F> {
         encoder_buf: &mut Vec<u8, B>,
         fields: &[H],
         chooser: &mut C,
+        coding: Coding,
     ) -> Result<usize, EncoderError>
-        ensures ok { IfOk result (λ required. EncodesAlong C.chooses stream_id (map H.line fields.now)
+        ensures ok { IfOk result (λ required. EncodesAlong (coding_of coding) C.chooses stream_id (map H.line fields.now)
             (map H.wish fields.now) self.old.table self.new.table block.old.items block.new.items encoder_buf.old.items encoder_buf.new.items required) }
-        ensures err { OnErr result (GivesUpChosen (map H.line fields.now) self.old.table self.new.table
+        ensures err { OnErr result (GivesUpChosen (coding_of coding) (map H.line fields.now) self.old.table self.new.table
             encoder_buf.old.items encoder_buf.new.items) }
         ensures as_before { OnErr result (block.new.items ≡ block.old.items) }
         ensures memory { IfErr result (λ e. e ≡ Memory) }
@@ -107,9 +110,9 @@ impl<I: FindsEntries, F: StoredField> EncoderTable<I, F> {
     {
         if self.table.max_mem_size() == 0 {
             self.give_up();
-            return append_alone(fields, block);
+            return append_alone(coding, fields, block);
         }
-        self.write_along(stream_id, block, encoder_buf, fields, chooser)
+        self.write_along(stream_id, block, encoder_buf, fields, chooser, coding)
     }
 
     /// Encodes a field section as `write_chosen_section` does, at any capacity by what is chosen.
@@ -120,11 +123,12 @@ impl<I: FindsEntries, F: StoredField> EncoderTable<I, F> {
         encoder_buf: &mut Vec<u8, B>,
         fields: &[H],
         chooser: &mut C,
+        coding: Coding,
     ) -> Result<usize, EncoderError>
-        ensures ok { IfOk result (λ required. WritesAlong C.chooses stream_id (map H.line fields.now)
+        ensures ok { IfOk result (λ required. WritesAlong (coding_of coding) C.chooses stream_id (map H.line fields.now)
             (map H.wish fields.now) self.old.table self.new.table block.old.items block.new.items encoder_buf.old.items
             encoder_buf.new.items required) }
-        ensures err { OnErr result (GivesUpAlong C.chooses (map H.line fields.now) (map H.wish fields.now)
+        ensures err { OnErr result (GivesUpAlong (coding_of coding) C.chooses (map H.line fields.now) (map H.wish fields.now)
             self.old.table self.new.table encoder_buf.old.items encoder_buf.new.items) }
         ensures as_before { OnErr result (block.new.items ≡ block.old.items) }
         ensures memory { IfErr result (λ e. e ≡ Memory) }
@@ -136,7 +140,7 @@ impl<I: FindsEntries, F: StoredField> EncoderTable<I, F> {
     {
         let len = block.len();
         let mut handle = self.table.encoder(stream_id);
-        let appended = append_block(&mut handle, block, encoder_buf, fields, chooser);
+        let appended = append_block(&mut handle, block, encoder_buf, fields, chooser, coding);
         let answer = end_block(handle, appended);
         if answer.is_err() {
             block.truncate(len);
@@ -161,9 +165,16 @@ impl WritesSections for EncoderTable {
     ) -> Result<usize, EncoderError> {
         if self.table.max_mem_size() == 0 {
             self.give_up();
-            return append_alone(fields, block);
+            return append_alone(Coding::Always, fields, block);
         }
-        self.write_along(stream_id, block, encoder_buf, fields, &mut NewestFirst)
+        self.write_along(
+            stream_id,
+            block,
+            encoder_buf,
+            fields,
+            &mut NewestFirst,
+            Coding::Always,
+        )
     }
 
     fn give_up(&mut self) {
@@ -174,11 +185,12 @@ impl WritesSections for EncoderTable {
 /// Appends the section of the fields for a table of capacity 0, which has no entries. Returns its required insert
 /// count, which is 0.
 fn append_alone<A: Allocator, H: AsField>(
+    coding: Coding,
     fields: &[H],
     block: &mut Vec<u8, A>,
 ) -> Result<usize, EncoderError>
     ensures ok { IfOk result (λ required. (required ≡ 0) × (block.new.items ≡ block.old.items
-        ++ written_marked_block (map H.line fields.now) (stateless_block_marked (map H.line fields.now)))) }
+        ++ coded_marked_block (coding_of coding) (map H.line fields.now) (stateless_block_marked (map H.line fields.now)))) }
     ensures err { OnErr result (block.new.items ≡ block.old.items) }
     ensures memory { IfErr result (λ e. e ≡ Memory) }
     ensures capacity { vec_capacity block.old ≤ vec_capacity block.new }
@@ -186,7 +198,7 @@ fn append_alone<A: Allocator, H: AsField>(
         (vec_len block.new ≤ vec_capacity block.old → vec_capacity block.new ≡ vec_capacity block.old) }
 {
     let len = block.len();
-    match append_section(block, fields) {
+    match append_section(coding, block, fields) {
         Ok(()) => Ok(0),
         Err(error) => {
             block.truncate(len);
@@ -354,14 +366,15 @@ fn append_block<
     encoder_buf: &mut Vec<u8, B>,
     fields: &[H],
     chooser: &mut C,
+    coding: Coding,
 ) -> Result<usize, NoMemory>
     requires base { handle.old.base ≡ insert_count handle.old.table.now }
     requires begins { handle.old.table.now.referenced ≡ [] }
     ensures same_table { handle.new.table.ghost_name ≡ handle.old.table.ghost_name }
     ensures stream { handle.new.stream_id ≡ handle.old.stream_id }
-    ensures ok { IfOk result (λ required. DraftsAlong C.chooses (map H.line fields.now) (map H.wish fields.now)
+    ensures ok { IfOk result (λ required. DraftsAlong (coding_of coding) C.chooses (map H.line fields.now) (map H.wish fields.now)
         handle.old.table.now handle.new.table.now block.old.items block.new.items encoder_buf.old.items encoder_buf.new.items required) }
-    ensures err { OnErr result (GivesUpAlong C.chooses (map H.line fields.now) (map H.wish fields.now)
+    ensures err { OnErr result (GivesUpAlong (coding_of coding) C.chooses (map H.line fields.now) (map H.wish fields.now)
         handle.old.table.now (without_references handle.new.table.now) encoder_buf.old.items encoder_buf.new.items) }
     ensures as_before { OnErr result (take (vec_len block.old) block.new.items ≡ block.old.items) }
     ensures capacity { vec_capacity block.old ≤ vec_capacity block.new }
@@ -373,7 +386,7 @@ fn append_block<
     let max = handle.agreed_max();
     let len = block.len();
     chooser.begin(handle);
-    append_fields(handle, fields, chooser, block, encoder_buf)?;
+    append_fields(handle, fields, chooser, coding, block, encoder_buf)?;
     let required = handle.required_insert_count();
     let prefix = HeaderPrefix::new(required, handle.base(), handle.total_inserted(), max);
     put_in_front(&prefix, block, len)?;
@@ -393,15 +406,16 @@ fn append_fields<
     handle: &mut DynamicTableEncoder<'_, I, F>,
     fields: &[H],
     chooser: &mut C,
+    coding: Coding,
     lines: &mut Vec<u8, A>,
     encoder_buf: &mut Vec<u8, B>,
 ) -> Result<(), NoMemory>
     ensures same_table { handle.new.table.ghost_name ≡ handle.old.table.ghost_name }
     ensures stream { handle.new.stream_id ≡ handle.old.stream_id }
     ensures base { handle.new.base ≡ handle.old.base }
-    ensures ok { OnOk result (AddsAlong C.chooses (map H.line fields.now) (map H.wish fields.now)
+    ensures ok { OnOk result (AddsAlong (coding_of coding) C.chooses (map H.line fields.now) (map H.wish fields.now)
         handle.old.table.now handle.old.base handle.new.table.now chooser.old chooser.new lines.old.items lines.new.items encoder_buf.old.items encoder_buf.new.items) }
-    ensures err { OnErr result (StopsAlong C.chooses (map H.line fields.now) (map H.wish fields.now)
+    ensures err { OnErr result (StopsAlong (coding_of coding) C.chooses (map H.line fields.now) (map H.wish fields.now)
         handle.old.table.now handle.old.base handle.new.table.now chooser.old encoder_buf.old.items
         encoder_buf.new.items) }
     ensures as_before { OnErr result (take (vec_len lines.old) lines.new.items ≡ lines.old.items) }
@@ -413,6 +427,7 @@ fn append_fields<
 {
     for field in fields {
         append_line(
+            coding,
             handle,
             &field.as_field(),
             field.wish(),

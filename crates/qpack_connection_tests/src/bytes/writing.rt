@@ -3,7 +3,7 @@
 use crate::bytes::reading::read_size;
 use linked_list_allocator::LocalHeap;
 use qpack_base::coding::{BufMutExt, Cursor, NoMemory};
-use qpack_base::prefix_string::{Error, HpackStringEncode};
+use qpack_base::prefix_string::{Coding, Error, HpackStringEncode};
 use qpack_base::{prefix_int, prefix_string};
 use qpack_testing::cases::Call;
 use qpack_wire::block::{
@@ -131,7 +131,8 @@ fn write_item<'a, A: Allocator>(
         "encoder" => write_instruction::<EncoderLine, A>(call, out),
         "decoder" => write_instruction::<DecoderLine, A>(call, out),
         "made" => write_made(call, out),
-        form => write_lent(form, call, out),
+        "shorter" => write_shorter(call, out),
+        form => write_lent(form, Coding::Always, call, out),
     }
 }
 
@@ -160,6 +161,18 @@ fn write_string<A: Allocator>(call: &mut Call<'_>, out: &mut Vec<u8, A>) -> Resu
     let flags = read_byte(call);
     let text = call.text();
     prefix_string::encode(size, flags, &text, out)
+}
+
+/// Writes an item whose strings are coded only where that makes them shorter.
+fn write_shorter<A: Allocator>(call: &mut Call<'_>, out: &mut Vec<u8, A>) -> Result<(), Error> {
+    let form = call.word();
+    if form != "string" {
+        return write_lent(form, Coding::WhereShorter, call, out);
+    }
+    let size = read_size(call, 2);
+    let flags = read_byte(call);
+    let text = call.text();
+    prefix_string::encode_under(Coding::WhereShorter, size, flags, &text, out)
 }
 
 /// Reads a string with a prefix of a size, and writes its text.
@@ -239,6 +252,7 @@ fn write_named<A: Allocator>(
 /// Writes a line or an instruction of an index or a name, and a value, that are lent.
 fn write_lent<A: Allocator>(
     form: &str,
+    coding: Coding,
     call: &mut Call<'_>,
     out: &mut Vec<u8, A>,
 ) -> Result<(), Error> {
@@ -246,13 +260,17 @@ fn write_lent<A: Allocator>(
     let name = call.word().as_bytes();
     let value = call.rest().as_bytes();
     match form {
-        "static-name" => LiteralWithNameRef::write_static(index, value, out),
-        "name" => LiteralWithNameRef::write_dynamic(index, value, out),
-        "post-base-name" => LiteralWithPostBaseNameRef::write(index, value, out),
-        "literal" => Literal::write(name, value, out),
-        "insert-static-name" => InsertWithNameRef::write_static(index, value, out),
-        "insert-name" => InsertWithNameRef::write_dynamic(index, value, out),
-        "insert" => InsertWithoutNameRef::write(name, value, out),
+        "static-name" => {
+            LiteralWithNameRef::write_static_marked(coding, index, value, false, out)
+        }
+        "name" => LiteralWithNameRef::write_dynamic_marked(coding, index, value, false, out),
+        "post-base-name" => {
+            LiteralWithPostBaseNameRef::write_marked(coding, index, value, false, out)
+        }
+        "literal" => Literal::write_marked(coding, name, value, false, out),
+        "insert-static-name" => InsertWithNameRef::write_static(coding, index, value, out),
+        "insert-name" => InsertWithNameRef::write_dynamic(coding, index, value, out),
+        "insert" => InsertWithoutNameRef::write(coding, name, value, out),
         _ => {
             call.fail("there is no such form");
             Ok(())

@@ -3,7 +3,9 @@
 ghost use Rattle.std.specs.Prelude.{◌≡◌, length, Err};
 ghost use Rattle.qpack_ends.specs.Decoders.{end_of};
 ghost use Rattle.qpack_ends.specs.FieldSections.{GrowsWithin};
-ghost use Rattle.qpack_ends.specs.PieceDecoders.{ReadsPiece, Follows, answer_to_next, answer_to_progress, next_here, NeedsMemoryToFollow};
+ghost use Rattle.qpack_ends.specs.PieceDecoders.{ReadsPiece, Follows, answer_to_next, answer_to_progress, next_here};
+ghost use Rattle.qpack_ends.specs.PieceDecoders.{NeedsMemoryForPiece, NeedsMemoryToFollow};
+ghost use Rattle.qpack_ends.specs.Pieces.{KeepsWithin};
 ghost use Rattle.qpack_ends.specs.Unsent.{KeepsRoom};
 ghost use Rattle.qpack_ends.specs.declared.decoder.DecodingError.TheVariants.{Memory};
 
@@ -37,10 +39,17 @@ impl ConnectionDecoder {
         last: bool,
         fields: &mut FieldSection,
     ) -> Result<Progress, DecodingError>
-        ensures reads { ReadsPiece (end_of self.old) (end_of self.new) last reader.old reader.new buf.old.rest buf.new.rest
-            fields.new.fields result }
-        ensures unsent { KeepsRoom (length (answer_to_next reader.old.stream
-            (next_here (end_of self.old) last reader.old buf.old.rest) (end_of self.old))) self.old.unsent self.new.unsent }
+        ensures reads { ReadsPiece (end_of self.old) (end_of self.new) last reader.old.section reader.new.section
+            buf.old.rest buf.new.rest fields.new.fields result }
+        // Memory is refused only for bytes that wait and do not fit; for a line, if `fields` has less room than the limit
+        // allows; if the stream may become blocked and is not counted with this count; or if there is no room for the
+        // acknowledgment and the increments before it.
+        ensures memory { result ≡ Err Memory → NeedsMemoryForPiece self.old last reader.old buf.old.rest fields.old }
+        // No more bytes wait than a section within the limit can have, and there is memory for no more.
+        ensures kept { KeepsWithin self.old.settings.max_section_size reader.old reader.new }
+        ensures unsent { KeepsRoom (length (answer_to_next reader.old.section.stream
+            (next_here (end_of self.old) last reader.old.section buf.old.rest) (end_of self.old))) self.old.unsent
+            self.new.unsent }
         ensures room { GrowsWithin self.old.settings.max_section_size fields.old fields.new }
         ensures total { buf.new.total ≡ buf.old.total }
     {

@@ -1,16 +1,21 @@
 //! Field sections that come in pieces: a call gives one field, and only the bytes of a prefix or of a line that is not
 //! whole are kept (RFC 9204, sections 2.2.1 and 4.5).
 
-ghost use Rattle.std.specs.Prelude.{◌≡◌, ◌+◌, ◌++◌, ◌^◌, ◌≤◌, ◌<◌, ℕ, None, [], List, length, nat_le, if◌then◌else◌};
+ghost use Rattle.std.specs.Prelude.{◌≡◌, ◌+◌, ◌-◌, ◌++◌, ◌≤◌, ◌<◌, ℕ, None, [], List, length, max, nat_le, if◌then◌else◌};
+ghost use Rattle.std.specs.Prelude.{take, vec_capacity, Err, OnOk, OnErr, IfOk};
 ghost use Rattle.qpack_spec.specs.Table.{window};
-ghost use Rattle.qpack_ends.specs.FieldSections.{GrowsWithin};
+ghost use Rattle.qpack_ends.specs.FieldSections.{GrowsWithin, SectionView};
 ghost use Rattle.qpack_ends.specs.Lines.{under};
 ghost use Rattle.qpack_ends.specs.Pieces.{ReadsOn, Answers, fresh, most_read, next_prefix, next_line, part_behind};
+ghost use Rattle.qpack_ends.specs.Pieces.{goes_on, missing_in, KeepsWithin, LacksRoomToWait, NeedsMemoryToFind};
+ghost use Rattle.qpack_ends.specs.Pieces.{NeedsMemoryForNext, NeedsMemoryToReadOn};
 ghost use Rattle.qpack_ends.specs.Missing.{line_missing, prefix_missing};
 ghost use Rattle.qpack_ends.specs.PieceLaws.{PiecesGiveTheFields, PiecesGiveTheSection, PiecesKeepTheReading};
 ghost use Rattle.qpack_ends.specs.PieceLaws.{PiecesLeaveTheReading};
 ghost use Rattle.qpack_ends.specs.Pieces.{front_of, kept_failure};
 ghost use Rattle.qpack_ends.specs.Pieces.{FindsPrefix, GathersPrefix, FindsLine, GathersLine, Gathers, AppendsMissing};
+ghost use Rattle.qpack_ends.specs.declared.section.LineError.TheVariants.{Memory as OutOfMemory};
+ghost use Rattle.qpack_ends.specs.declared.section.SectionError.TheVariants.{Memory};
 ghost use Rattle.qpack_ends.specs.declared.section.missing.Part.TheVariants.{Line};
 ghost use Rattle.qpack_ends.specs.declared.section.reader.Progress.TheVariants.{Waits, Ends};
 
@@ -20,7 +25,7 @@ use crate::section::missing::{Part, missing};
 use crate::section::{
     LineError, Lines, SectionError, SectionPrefix, at_line, longest_section, read_prefix,
 };
-use qpack_base::coding::{Cursor, NoMemory};
+use qpack_base::coding::{Cursor, NoMemory, append_within};
 use qpack_base::stored_field::StoredField;
 use qpack_table::dynamic::{DynamicTable, EntryIndex};
 use std::alloc::Global;
@@ -72,35 +77,42 @@ pub struct SectionReader {
 }
 
 impl Model for SectionReader {
-    ghost use Rattle.qpack_ends.specs.Pieces.{ReaderView, IsReading};
+    ghost use Rattle.std.specs.Prelude.{vec_capacity};
+    ghost use Rattle.qpack_ends.specs.Pieces.{KeptReader, IsKept};
 
-    ghost Value = { ReaderView };
+    ghost Value = { KeptReader };
 
     ghost view = { λ r. record {
-      stream = r.stream;
-      pending = r.pending.items;
-      prefix = r.prefix;
-      lines = r.lines;
-      offset = r.offset;
-      sum = r.sum;
-      failure = r.failure;
+      section = record {
+        stream = r.stream;
+        pending = r.pending.items;
+        prefix = r.prefix;
+        lines = r.lines;
+        offset = r.offset;
+        sum = r.sum;
+        failure = r.failure;
+      };
+      room = vec_capacity r.pending;
     } };
 
-    ghost invariant = { λ r. IsReading (record {
-      stream = r.stream;
-      pending = r.pending.items;
-      prefix = r.prefix;
-      lines = r.lines;
-      offset = r.offset;
-      sum = r.sum;
-      failure = r.failure;
+    ghost invariant = { λ r. IsKept (record {
+      section = record {
+        stream = r.stream;
+        pending = r.pending.items;
+        prefix = r.prefix;
+        lines = r.lines;
+        offset = r.offset;
+        sum = r.sum;
+        failure = r.failure;
+      };
+      room = vec_capacity r.pending;
     }) };
 }
 
 impl SectionReader {
     /// Returns a reader of a section that comes on this stream, at its start. Takes no memory.
     pub fn new(alloc: Global, stream: u64) -> SectionReader
-        ensures { result ≡ fresh stream }
+        ensures { result ≡ record { section = fresh stream; room = 0 } }
     {
         SectionReader {
             stream,
@@ -115,23 +127,24 @@ impl SectionReader {
 
     /// Returns the stream.
     pub fn stream(&self) -> u64
-        ensures { result ≡ self.now.stream }
+        ensures { result ≡ self.now.section.stream }
     {
         self.stream
     }
 
     /// Returns how many bytes are kept.
     pub fn waiting(&self) -> usize
-        ensures { result ≡ length self.now.pending }
+        ensures { result ≡ length self.now.section.pending }
     {
         self.pending.len()
     }
 
     /// Returns to the start of a section.
     pub(crate) fn begin(&mut self)
-        ensures { self.new ≡ fresh self.old.stream }
+        ensures section { self.new.section ≡ fresh self.old.section.stream }
+        ensures room { self.new.room ≤ self.old.room }
     {
-        self.pending.clear();
+        drop_all(&mut self.pending);
         self.prefix = None;
         self.lines = 0;
         self.offset = 0;
@@ -156,8 +169,13 @@ impl SectionReader {
         fields: &mut FieldSection,
     ) -> Result<Progress, SectionError>
         requires { fields.old.fields ≡ [] }
-        ensures reads { ReadsOn (window table.now) limit last self.old self.new buf.old.rest buf.new.rest
-            fields.new.fields result self.old.failure }
+        ensures reads { ReadsOn (window table.now) limit last self.old.section self.new.section buf.old.rest
+            buf.new.rest fields.new.fields result self.old.section.failure }
+        // Memory is refused only for bytes that wait and do not fit, or for a line, if `fields` has less room than a
+        // section within the limit can use.
+        ensures memory { result ≡ Err Memory
+            → NeedsMemoryToReadOn (window table.now) limit last self.old buf.old.rest fields.old }
+        ensures kept { KeepsWithin limit self.old self.new }
         ensures total { buf.new.total ≡ buf.old.total }
         ensures room { GrowsWithin limit fields.old fields.new }
     {
@@ -168,7 +186,7 @@ impl SectionReader {
             return Err(self.refuse(SectionError::TooLong));
         }
         let Some(prefix) = self.prefix else {
-            return self.read_prefix(table, last, buf);
+            return self.read_prefix(table, limit, last, buf);
         };
         if prefix.required > table.total_inserted() {
             return Ok(Progress::Blocked {
@@ -186,7 +204,7 @@ impl SectionReader {
 
     /// Returns whether the section is not too long with this many bytes more.
     fn may_take(&self, more: usize, limit: u64) -> bool
-        ensures { result ≡ nat_le (self.now.offset + length self.now.pending + more) (most_read limit) }
+        ensures { result ≡ nat_le (self.now.section.offset + length self.now.section.pending + more) (most_read limit) }
     {
         let Some(before) = self.offset.checked_add(self.pending.len()) else {
             return false;
@@ -197,10 +215,18 @@ impl SectionReader {
         }
     }
 
+    /// Returns how many bytes may wait, of a section that is not too long.
+    fn most_waiting(&self, limit: u64) -> usize
+        ensures { result ≡ most_read limit - self.now.section.offset }
+    {
+        (longest_section(limit) as usize).saturating_sub(self.offset)
+    }
+
     /// Returns the error, and keeps it unless it is out of memory.
     fn refuse(&mut self, error: SectionError) -> SectionError
         ensures is { result ≡ error }
-        ensures kept { self.new ≡ kept_failure error self.old }
+        ensures kept { self.new.section ≡ kept_failure error self.old.section }
+        ensures room { self.new.room ≡ self.old.room }
     {
         match error {
             SectionError::Memory => {}
@@ -213,16 +239,25 @@ impl SectionReader {
     fn read_prefix<I: EntryIndex, F: StoredField>(
         &mut self,
         table: &DynamicTable<I, F>,
+        limit: u64,
         last: bool,
         buf: &mut Cursor,
     ) -> Result<Progress, SectionError>
-        requires { self.old.prefix ≡ None }
-        ensures reads { let all : List ℕ = self.old.pending ++ buf.old.rest in
-            Answers (next_prefix (window table.now) last all) self.old self.new all buf.old.rest buf.new.rest [] result }
+        requires none { self.old.section.prefix ≡ None }
+        requires fits { self.old.section.offset + length self.old.section.pending + length buf.old.rest
+            ≤ most_read limit }
+        ensures reads { let all : List ℕ = self.old.section.pending ++ buf.old.rest in
+            Answers (next_prefix (window table.now) last all) self.old.section self.new.section all buf.old.rest
+            buf.new.rest [] result }
+        ensures memory { result ≡ Err Memory → (fields : SectionView) → NeedsMemoryForNext
+            (next_prefix (window table.now) last (self.old.section.pending ++ buf.old.rest)) limit self.old buf.old.rest
+            fields }
+        ensures kept { KeepsWithin limit self.old self.new }
         ensures total { buf.new.total ≡ buf.old.total }
     {
         let waited = self.pending.len();
-        match find_prefix(table, last, buf.chunk(), &mut self.pending) {
+        let most = self.most_waiting(limit);
+        match find_prefix(table, last, buf.chunk(), most, &mut self.pending) {
             Ok(Some(prefix)) => {
                 buf.advance(prefix.length - waited);
                 self.prefix = Some(prefix);
@@ -247,12 +282,17 @@ impl SectionReader {
         buf: &mut Cursor,
         fields: &mut FieldSection,
     ) -> Result<Progress, SectionError>
-        requires prefix { part_behind self.old.prefix ≡ Line }
+        requires prefix { part_behind self.old.section.prefix ≡ Line }
         requires none { fields.old.fields ≡ [] }
-        requires few { self.old.offset + length self.old.pending + length buf.old.rest < 2 ^ 64 }
-        ensures reads { let all : List ℕ = self.old.pending ++ buf.old.rest in
-            Answers (next_line (under lines.now 0) last self.old all) self.old self.new all buf.old.rest buf.new.rest
-            fields.new.fields result }
+        requires fits { self.old.section.offset + length self.old.section.pending + length buf.old.rest
+            ≤ most_read lines.now.limit }
+        ensures reads { let all : List ℕ = self.old.section.pending ++ buf.old.rest in
+            Answers (next_line (under lines.now 0) last self.old.section all) self.old.section self.new.section all
+            buf.old.rest buf.new.rest fields.new.fields result }
+        ensures memory { result ≡ Err Memory → NeedsMemoryForNext
+            (next_line (under lines.now 0) last self.old.section (self.old.section.pending ++ buf.old.rest))
+            lines.now.limit self.old buf.old.rest fields.old }
+        ensures kept { KeepsWithin lines.now.limit self.old self.new }
         ensures total { buf.new.total ≡ buf.old.total }
         ensures room { GrowsWithin lines.now.limit fields.old fields.new }
     {
@@ -260,11 +300,13 @@ impl SectionReader {
         if waited == 0 && buf.remaining() == 0 {
             return Ok(at_end(lines.required, last));
         }
+        let most = self.most_waiting(lines.limit);
         match find_line(
             lines,
             self.sum,
             last,
             buf.chunk(),
+            most,
             &mut self.pending,
             fields,
         ) {
@@ -305,21 +347,29 @@ struct Taken {
 /// The most bytes of memory that are kept while none wait.
 const KEPT_ROOM: usize = 64;
 
-/// Finds the prefix in the bytes, which continue those that wait. If it is not whole and the bytes are not the last, they
-/// all wait. On error what waits is unchanged.
+/// Finds the prefix in the bytes, which continue those that wait, of which there may be at most `most`. If it is not whole
+/// and the bytes are not the last, they all wait. On error what waits is unchanged.
 fn find_prefix<I: EntryIndex, F: StoredField>(
     table: &DynamicTable<I, F>,
     last: bool,
     bytes: &[u8],
+    most: usize,
     pending: &mut Vec<u8>,
 ) -> Result<Option<SectionPrefix>, SectionError>
-    requires { 0 < prefix_missing pending.old.items }
-    ensures { FindsPrefix (window table.now) last pending.old.items pending.new.items bytes.now result }
+    requires cut { 0 < prefix_missing pending.old.items }
+    requires fits { length pending.old.items + length bytes.now ≤ most }
+    requires little { pending.old.items ≡ [] → vec_capacity pending.old ≤ 64 }
+    ensures finds { FindsPrefix (window table.now) last pending.old.items pending.new.items bytes.now result }
+    ensures memory { result ≡ Err Memory → LacksRoomToWait
+        (goes_on last (prefix_missing (pending.old.items ++ bytes.now))) (vec_capacity pending.old) pending.old.items
+        bytes.now }
+    ensures room { vec_capacity pending.new ≤ max (vec_capacity pending.old) most }
+    ensures little { pending.new.items ≡ [] → vec_capacity pending.new ≤ 64 }
 {
     let waited = pending.len();
-    let found = gather_prefix(table, last, bytes, pending);
+    let found = gather_prefix(table, last, bytes, most, pending);
     if found.is_err() {
-        pending.truncate(waited);
+        cut_back(pending, waited);
     }
     found
 }
@@ -329,12 +379,20 @@ fn gather_prefix<I: EntryIndex, F: StoredField>(
     table: &DynamicTable<I, F>,
     last: bool,
     bytes: &[u8],
+    most: usize,
     pending: &mut Vec<u8>,
 ) -> Result<Option<SectionPrefix>, SectionError>
-    requires { 0 < prefix_missing pending.old.items }
-    ensures { GathersPrefix (window table.now) last pending.old.items pending.new.items bytes.now result }
+    requires cut { 0 < prefix_missing pending.old.items }
+    requires fits { length pending.old.items + length bytes.now ≤ most }
+    requires little { pending.old.items ≡ [] → vec_capacity pending.old ≤ 64 }
+    ensures finds { GathersPrefix (window table.now) last pending.old.items pending.new.items bytes.now result }
+    ensures memory { result ≡ Err Memory → LacksRoomToWait
+        (goes_on last (prefix_missing (pending.old.items ++ bytes.now))) (vec_capacity pending.old) pending.old.items
+        bytes.now }
+    ensures room { vec_capacity pending.new ≤ max (vec_capacity pending.old) most }
+    ensures little { IfOk result (λ found. pending.new.items ≡ [] → vec_capacity pending.new ≤ 64) }
 {
-    if !gather(Part::Prefix, last, bytes, pending)? {
+    if !gather(Part::Prefix, last, bytes, most, pending)? {
         return Ok(None);
     }
     let prefix = read_prefix(table, front(pending, bytes))?;
@@ -342,27 +400,34 @@ fn gather_prefix<I: EntryIndex, F: StoredField>(
     Ok(Some(prefix))
 }
 
-/// Finds the next line in the bytes, which continue those that wait, and appends its field. If it is not whole and the
-/// bytes are not the last, they all wait. On error what waits is unchanged.
+/// Finds the next line in the bytes, which continue those that wait, of which there may be at most `most`, and appends its
+/// field. If it is not whole and the bytes are not the last, they all wait. On error what waits is unchanged.
 fn find_line<I: EntryIndex, F: StoredField>(
     lines: &Lines<I, F>,
     sum: u64,
     last: bool,
     bytes: &[u8],
+    most: usize,
     pending: &mut Vec<u8>,
     fields: &mut FieldSection,
 ) -> Result<Option<Taken>, LineError>
     requires cut { 0 < line_missing pending.old.items }
     requires some { 0 < length pending.old.items + length bytes.now }
     requires none { fields.old.fields ≡ [] }
+    requires fits { length pending.old.items + length bytes.now ≤ most }
+    requires little { pending.old.items ≡ [] → vec_capacity pending.old ≤ 64 }
     ensures finds { FindsLine (under lines.now 0) sum last pending.old.items pending.new.items bytes.now
         fields.new.fields result }
+    ensures memory { result ≡ Err OutOfMemory → NeedsMemoryToFind last lines.now.limit (vec_capacity pending.old)
+        pending.old.items bytes.now fields.old }
+    ensures kept { vec_capacity pending.new ≤ max (vec_capacity pending.old) most }
+    ensures little { pending.new.items ≡ [] → vec_capacity pending.new ≤ 64 }
     ensures room { GrowsWithin lines.now.limit fields.old fields.new }
 {
     let waited = pending.len();
-    let found = gather_line(lines, sum, last, bytes, pending, fields);
+    let found = gather_line(lines, sum, last, bytes, most, pending, fields);
     if found.is_err() {
-        pending.truncate(waited);
+        cut_back(pending, waited);
     }
     found
 }
@@ -373,17 +438,24 @@ fn gather_line<I: EntryIndex, F: StoredField>(
     sum: u64,
     last: bool,
     bytes: &[u8],
+    most: usize,
     pending: &mut Vec<u8>,
     fields: &mut FieldSection,
 ) -> Result<Option<Taken>, LineError>
     requires cut { 0 < line_missing pending.old.items }
     requires some { 0 < length pending.old.items + length bytes.now }
     requires none { fields.old.fields ≡ [] }
+    requires fits { length pending.old.items + length bytes.now ≤ most }
+    requires little { pending.old.items ≡ [] → vec_capacity pending.old ≤ 64 }
     ensures finds { GathersLine (under lines.now 0) sum last pending.old.items pending.new.items bytes.now
         fields.new.fields result }
+    ensures memory { result ≡ Err OutOfMemory → NeedsMemoryToFind last lines.now.limit (vec_capacity pending.old)
+        pending.old.items bytes.now fields.old }
+    ensures kept { vec_capacity pending.new ≤ max (vec_capacity pending.old) most }
+    ensures little { IfOk result (λ found. pending.new.items ≡ [] → vec_capacity pending.new ≤ 64) }
     ensures room { GrowsWithin lines.now.limit fields.old fields.new }
 {
-    if !gather(Part::Line, last, bytes, pending)? {
+    if !gather(Part::Line, last, bytes, most, pending)? {
         return Ok(None);
     }
     let mut buf = Cursor::new(front(pending, bytes));
@@ -396,23 +468,42 @@ fn gather_line<I: EntryIndex, F: StoredField>(
 /// Appends bytes to those that wait, until these hold the part. If none wait, and the bytes hold it or are the last, it
 /// appends none. Returns whether the part can be read from what `front` returns; else all bytes were appended. On error
 /// more bytes may wait.
-fn gather(part: Part, last: bool, bytes: &[u8], pending: &mut Vec<u8>) -> Result<bool, NoMemory>
-    ensures { Gathers part last pending.old.items pending.new.items bytes.now result }
+fn gather(
+    part: Part,
+    last: bool,
+    bytes: &[u8],
+    most: usize,
+    pending: &mut Vec<u8>,
+) -> Result<bool, NoMemory>
+    requires { length pending.old.items + length bytes.now ≤ most }
+    ensures gathers { Gathers part last pending.old.items pending.new.items bytes.now result }
+    ensures lacks { OnErr result (LacksRoomToWait (goes_on last (missing_in part (pending.old.items ++ bytes.now)))
+        (vec_capacity pending.old) pending.old.items bytes.now) }
+    ensures room { vec_capacity pending.new ≤ max (vec_capacity pending.old) most }
+    ensures still { OnOk result (pending.new.items ≡ [] → vec_capacity pending.new ≡ vec_capacity pending.old) }
 {
     if pending.is_empty() {
         if last || missing(part, bytes) == 0 {
             return Ok(true);
         }
-        pending.extend_from_slice(bytes)?;
+        keep(bytes, most, pending)?;
         return Ok(false);
     }
-    append_missing(part, bytes, pending)?;
+    append_missing(part, bytes, most, pending)?;
     Ok(last || missing(part, pending) == 0)
 }
 
 /// Appends bytes to those that wait, until these hold the part or none is left.
-fn append_missing(part: Part, bytes: &[u8], pending: &mut Vec<u8>) -> Result<(), NoMemory>
-    ensures { AppendsMissing part pending.old.items pending.new.items bytes.now result }
+fn append_missing(
+    part: Part,
+    bytes: &[u8],
+    most: usize,
+    pending: &mut Vec<u8>,
+) -> Result<(), NoMemory>
+    requires { length pending.old.items + length bytes.now ≤ most }
+    ensures appends { AppendsMissing part pending.old.items pending.new.items bytes.now result }
+    ensures lacks { OnErr result (vec_capacity pending.old < length pending.old.items + length bytes.now) }
+    ensures room { vec_capacity pending.new ≤ max (vec_capacity pending.old) most }
 {
     let mut rest = bytes;
     while !rest.is_empty() {
@@ -420,8 +511,24 @@ fn append_missing(part: Part, bytes: &[u8], pending: &mut Vec<u8>) -> Result<(),
         if count == 0 {
             return Ok(());
         }
-        pending.extend_from_slice(&rest[..count])?;
+        keep(&rest[..count], most, pending)?;
         rest = &rest[count..];
+    }
+    Ok(())
+}
+
+/// Appends bytes to those that wait, of which there may be at most `most`. On error none is appended.
+fn keep(bytes: &[u8], most: usize, pending: &mut Vec<u8>) -> Result<(), NoMemory>
+    requires { length pending.old.items + length bytes.now ≤ most }
+    ensures ok { OnOk result (pending.new.items ≡ pending.old.items ++ bytes.now) }
+    ensures err { OnErr result (pending.new.items ≡ pending.old.items) }
+    ensures lacks { OnErr result (vec_capacity pending.old < length pending.old.items + length bytes.now) }
+    ensures kept { vec_capacity pending.old ≤ vec_capacity pending.new }
+    ensures room { vec_capacity pending.new ≤ max (vec_capacity pending.old) most }
+    ensures still { bytes.now ≡ [] → vec_capacity pending.new ≡ vec_capacity pending.old }
+{
+    if !bytes.is_empty() {
+        append_within(bytes, most - pending.len(), pending)?;
     }
     Ok(())
 }
@@ -433,9 +540,24 @@ fn front<'a>(pending: &'a [u8], bytes: &'a [u8]) -> &'a [u8]
     if pending.is_empty() { bytes } else { pending }
 }
 
+/// Drops the bytes after the first ones, of which there are this many. If none is left, gives memory of more than
+/// `KEPT_ROOM` bytes back.
+fn cut_back(pending: &mut Vec<u8>, many: usize)
+    ensures items { pending.new.items ≡ take many pending.old.items }
+    ensures room { vec_capacity pending.new ≤ vec_capacity pending.old }
+    ensures little { pending.new.items ≡ [] → vec_capacity pending.new ≤ 64 }
+{
+    pending.truncate(many);
+    if pending.is_empty() {
+        drop_all(pending);
+    }
+}
+
 /// Drops all bytes that wait, and gives memory of more than `KEPT_ROOM` bytes back.
 fn drop_all(pending: &mut Vec<u8>)
-    ensures { pending.new.items ≡ [] }
+    ensures items { pending.new.items ≡ [] }
+    ensures room { vec_capacity pending.new ≤ vec_capacity pending.old }
+    ensures little { vec_capacity pending.new ≤ 64 }
 {
     pending.clear();
     shrink_within(pending, KEPT_ROOM);

@@ -3,7 +3,7 @@
 ghost use Rattle.std.specs.Prelude.{◌≡◌, ◌<◌, ◌≤◌, ◌^◌, ◌&&◌, IfSome};
 ghost use Rattle.std.specs.Option.{option_map};
 ghost use Rattle.qpack_base.specs.HeaderFields.{field_of, line_of};
-ghost use Rattle.qpack_spec.specs.Chosen.{passes_at};
+ghost use Rattle.qpack_spec.specs.Chosen.{passed_over, passes_at};
 ghost use Rattle.qpack_spec.specs.Field.{field_size, has_name, is_field, total_size};
 ghost use Rattle.qpack_spec.specs.Handle.{find_field, insert_field};
 ghost use Rattle.qpack_spec.specs.Reading.{greatest_of};
@@ -13,7 +13,8 @@ ghost use Rattle.qpack_spec.specs.Table.{newest_index, window, without_reference
 ghost use Rattle.qpack_spec.specs.Handle.{found_entry};
 ghost use Rattle.qpack_spec.specs.Window.{absolute_entry, maximum_capacity};
 ghost use Rattle.qpack_table.specs.Handles.{Finds, Inserts, Commits, IsSoughtIn};
-ghost use Rattle.qpack_table.specs.Handles.{AreHashesIn, InsertsIf, referenced_insertion, unreferenced_insertion};
+ghost use Rattle.qpack_table.specs.Handles.{AreHashesIn, InsertsIf, naming_of, referenced_insertion};
+ghost use Rattle.qpack_table.specs.Handles.{unreferenced_insertion};
 
 use crate::dynamic::Error;
 use crate::dynamic::entry_index::FindsEntries;
@@ -66,6 +67,27 @@ pub enum DynamicInsertionResult {
     },
     /// Not inserted: one more block may not be blocked, or there is no room.
     NotInserted(DynamicLookupResult),
+}
+
+/// Which entries the instruction of an insertion may name, to duplicate one or to take its name.
+#[derive(Debug, Clone, Copy, PartialEq, Drop)]
+pub enum Naming {
+    /// Those that stay when the field is inserted.
+    Staying,
+    /// Every live one, so also one that the insertion evicts (RFC 9204, section 3.2.2).
+    Live,
+}
+
+impl Naming {
+    /// Returns how many of the oldest entries are not named, if this many are evicted.
+    pub(super) fn passed_over(self, evicted: usize) -> usize
+        ensures { result ≡ passed_over (naming_of self) evicted }
+    {
+        match self {
+            Naming::Staying => evicted,
+            Naming::Live => 0,
+        }
+    }
 }
 
 impl<I: FindsEntries, F: StoredField> DynamicTable<I, F> {
@@ -246,12 +268,14 @@ impl<I: FindsEntries, F: StoredField> DynamicTableEncoder<'_, I, F> {
     }
 
     /// Inserts a field that was sought, if one more block may be blocked and there is room, and references the new
-    /// entry. Otherwise does nothing. On error, which is for memory only, nothing changes.
+    /// entry. `naming` says which entries its instruction may name. Otherwise does nothing. On error, which is for
+    /// memory only, nothing changes.
     #[inline(always)]
     pub fn insert_sought(
         &mut self,
         field: &FieldLine<'_>,
         sought: &SoughtField,
+        naming: Naming,
     ) -> Result<Option<DynamicInsertionResult>, Error>
         requires { IsSoughtIn self.old.table.now (line_of field.now).field sought.now }
         ensures same_table { self.new.table.ghost_name ≡ self.old.table.ghost_name }
@@ -259,29 +283,33 @@ impl<I: FindsEntries, F: StoredField> DynamicTableEncoder<'_, I, F> {
         ensures base { self.new.base ≡ self.old.base }
         ensures inserted { InsertsIf
             (below_limit self.old.table.now && has_room self.old.table.now (line_of field.now).field) result
-            (referenced_insertion self.old.table.now self.old.base (line_of field.now).field) self.old.table.now
-            self.new.table.now }
+            (referenced_insertion (naming_of naming) self.old.table.now self.old.base (line_of field.now).field)
+            self.old.table.now self.new.table.now }
     {
-        self.table.insert_referenced(self.base, field, sought)
+        self.table
+            .insert_referenced(self.base, field, sought, naming)
     }
 
-    /// Inserts a field that was sought, if there is room, and references nothing (RFC 9204, section 2.1.2). Otherwise
-    /// does nothing. On error, which is for memory only, nothing changes.
+    /// Inserts a field that was sought, if there is room, and references nothing (RFC 9204, section 2.1.2). `naming` says
+    /// which entries its instruction may name. Otherwise does nothing. On error, which is for memory only, nothing
+    /// changes.
     #[inline(always)]
     pub fn insert_unreferenced(
         &mut self,
         field: &FieldLine<'_>,
         sought: &SoughtField,
+        naming: Naming,
     ) -> Result<Option<DynamicInsertionResult>, Error>
         requires { IsSoughtIn self.old.table.now (line_of field.now).field sought.now }
         ensures same_table { self.new.table.ghost_name ≡ self.old.table.ghost_name }
         ensures stream { self.new.stream_id ≡ self.old.stream_id }
         ensures base { self.new.base ≡ self.old.base }
         ensures inserted { InsertsIf (has_room self.old.table.now (line_of field.now).field) result
-            (unreferenced_insertion self.old.table.now self.old.base (line_of field.now).field) self.old.table.now
-            self.new.table.now }
+            (unreferenced_insertion (naming_of naming) self.old.table.now self.old.base (line_of field.now).field)
+            self.old.table.now self.new.table.now }
     {
-        self.table.insert_unreferenced(self.base, field, sought)
+        self.table
+            .insert_unreferenced(self.base, field, sought, naming)
     }
 
     /// Ends the block, whose required insert count is this. It waits for an acknowledgment if it references an entry,

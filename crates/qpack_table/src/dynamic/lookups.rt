@@ -5,17 +5,18 @@ ghost use Rattle.std.specs.Prelude.{◌≡◌, ◌+◌, ◌-◌, ◌^◌, ◌<�
 ghost use Rattle.std.specs.Prelude.{◌&&◌, drop, length};
 ghost use Rattle.qpack_base.specs.HeaderFields.{line_of};
 ghost use Rattle.qpack_spec.specs.Handle.{found_entry, find_field, found_name, insert_field, answer_of};
-ghost use Rattle.qpack_spec.specs.Rule.{instruction_for, entries_left};
+ghost use Rattle.qpack_spec.specs.Chosen.{instruction_naming};
+ghost use Rattle.qpack_spec.specs.Rule.{instruction_for};
 ghost use Rattle.qpack_spec.specs.StaticTable.{static_name_index, IsLeastStatic};
 ghost use Rattle.qpack_spec.specs.Table.{insert_count, has_room, eviction_count_for, below_limit, may_reference};
 ghost use Rattle.qpack_spec.specs.Table.{with_reference, with_entry, sent_entry, fields_in};
 ghost use Rattle.qpack_table.specs.declared.dynamic.Error.TheVariants.{Memory as NoRoom};
 ghost use Rattle.qpack_spec.specs.Handle as handle;
 ghost use Rattle.qpack_table.specs.Handles.{Finds, Inserts, InsertsIf, IsSoughtIn, lookup_of, insertion_of, kept_index};
-ghost use Rattle.qpack_table.specs.Handles.{referenced_insertion, unreferenced_insertion};
+ghost use Rattle.qpack_table.specs.Handles.{naming_of, referenced_insertion, unreferenced_insertion};
 
 use crate::dynamic::Error;
-use crate::dynamic::encoder::{DynamicInsertionResult, DynamicLookupResult};
+use crate::dynamic::encoder::{DynamicInsertionResult, DynamicLookupResult, Naming};
 use crate::dynamic::entry_index::FindsEntries;
 use crate::dynamic::sought::SoughtField;
 use crate::dynamic::table::{DynamicTable, MOST_INSERTIONS};
@@ -157,7 +158,7 @@ impl<I: FindsEntries, F: StoredField> DynamicTable<I, F> {
         ensures { Inserts result (insert_field self.old base (line_of field.now).field) self.old self.new }
     {
         if let Some(evicted) = self.insertable(field) {
-            return self.insert_in_room(base, field, sought, evicted);
+            return self.insert_in_room(base, field, sought, evicted, Naming::Staying);
         }
         let lookup = self.find_sought_name(base, field, sought)?;
         Ok(DynamicInsertionResult::NotInserted(lookup))
@@ -172,18 +173,19 @@ impl<I: FindsEntries, F: StoredField> DynamicTable<I, F> {
         field: &FieldLine<'_>,
         sought: &SoughtField,
         evicted: usize,
+        naming: Naming,
     ) -> Result<DynamicInsertionResult, Error>
         requires room { has_room self.old (line_of field.now).field ≡ true }
         requires evicted { evicted ≡ eviction_count_for self.old (line_of field.now).field }
         requires sought { IsSoughtIn self.old (line_of field.now).field sought.now }
         ensures ok { IfOk result (λ r. insertion_of r ≡ answer_of
-            (instruction_for (line_of field.now).field (entries_left self.old (line_of field.now).field))
+            (instruction_naming (naming_of naming) self.old (line_of field.now).field)
             (insert_count self.old - base) (insert_count self.old + 1)) }
         ensures new { OnOk result (self.new ≡ with_reference
             (with_entry self.old (sent_entry (line_of field.now).field)) (insert_count self.old + 1)) }
         ensures err { IfErr result (λ e. (e ≡ NoRoom) × (self.new ≡ self.old)) }
     {
-        let insertion = self.insertion_of(base, field, sought, evicted);
+        let insertion = self.insertion_of(base, field, sought, naming.passed_over(evicted));
         let key = self.key_of_sought(field, sought);
         let copy = F::copy_of(self.allocator(), field, sought.static_name)?;
         self.insert_sent(copy, key, evicted)?;
@@ -198,15 +200,16 @@ impl<I: FindsEntries, F: StoredField> DynamicTable<I, F> {
         base: usize,
         field: &FieldLine<'_>,
         sought: &SoughtField,
+        naming: Naming,
     ) -> Result<Option<DynamicInsertionResult>, Error>
         requires sought { IsSoughtIn self.old (line_of field.now).field sought.now }
         ensures { InsertsIf (below_limit self.old && has_room self.old (line_of field.now).field) result
-            (referenced_insertion self.old base (line_of field.now).field) self.old self.new }
+            (referenced_insertion (naming_of naming) self.old base (line_of field.now).field) self.old self.new }
     {
         let Some(evicted) = self.insertable(field) else {
             return Ok(None);
         };
-        let insertion = self.insert_in_room(base, field, sought, evicted)?;
+        let insertion = self.insert_in_room(base, field, sought, evicted, naming)?;
         Ok(Some(insertion))
     }
 
@@ -217,15 +220,16 @@ impl<I: FindsEntries, F: StoredField> DynamicTable<I, F> {
         base: usize,
         field: &FieldLine<'_>,
         sought: &SoughtField,
+        naming: Naming,
     ) -> Result<Option<DynamicInsertionResult>, Error>
         requires sought { IsSoughtIn self.old (line_of field.now).field sought.now }
         ensures { InsertsIf (has_room self.old (line_of field.now).field) result
-            (unreferenced_insertion self.old base (line_of field.now).field) self.old self.new }
+            (unreferenced_insertion (naming_of naming) self.old base (line_of field.now).field) self.old self.new }
     {
         let Some(evicted) = self.room_for(field) else {
             return Ok(None);
         };
-        let insertion = self.insert_alone_in_room(base, field, sought, evicted)?;
+        let insertion = self.insert_alone_in_room(base, field, sought, evicted, naming)?;
         Ok(Some(insertion))
     }
 
@@ -238,43 +242,43 @@ impl<I: FindsEntries, F: StoredField> DynamicTable<I, F> {
         field: &FieldLine<'_>,
         sought: &SoughtField,
         evicted: usize,
+        naming: Naming,
     ) -> Result<DynamicInsertionResult, Error>
         requires room { has_room self.old (line_of field.now).field ≡ true }
         requires evicted { evicted ≡ eviction_count_for self.old (line_of field.now).field }
         requires sought { IsSoughtIn self.old (line_of field.now).field sought.now }
         ensures ok { IfOk result (λ r. insertion_of r ≡ answer_of
-            (instruction_for (line_of field.now).field (entries_left self.old (line_of field.now).field))
+            (instruction_naming (naming_of naming) self.old (line_of field.now).field)
             (insert_count self.old - base) (insert_count self.old + 1)) }
         ensures new { OnOk result (self.new ≡ with_entry self.old (sent_entry (line_of field.now).field)) }
         ensures err { IfErr result (λ e. (e ≡ NoRoom) × (self.new ≡ self.old)) }
     {
-        let insertion = self.insertion_of(base, field, sought, evicted);
+        let insertion = self.insertion_of(base, field, sought, naming.passed_over(evicted));
         let key = self.key_of_sought(field, sought);
         let copy = F::copy_of(self.allocator(), field, sought.static_name)?;
         self.insert_hashed(copy, true, evicted, key)?;
         Ok(insertion)
     }
 
-    /// Returns how a field that was sought is inserted once this many of the oldest entries are evicted: by the newest
-    /// equal entry that stays, by a static field's name, by the newest entry of its name that stays, or with a literal
-    /// name.
+    /// Returns how a field that was sought is inserted by the entries after this many of the oldest: by the newest equal
+    /// one, by a static field's name, by the newest one of its name, or with a literal name.
     fn insertion_of(
         &self,
         base: usize,
         field: &FieldLine<'_>,
         sought: &SoughtField,
-        evicted: usize,
+        passed: usize,
     ) -> DynamicInsertionResult
         requires sought { IsSoughtIn self.now (line_of field.now).field sought.now }
         requires few { insert_count self.now < 2 ^ 62 }
-        requires evicted { evicted ≤ length self.now.live }
+        requires passed { passed ≤ length self.now.live }
         ensures { insertion_of result ≡ answer_of
-            (instruction_for (line_of field.now).field (drop evicted (fields_in self.now.live)))
+            (instruction_for (line_of field.now).field (drop passed (fields_in self.now.live)))
             (insert_count self.now - base) (insert_count self.now + 1) }
     {
         let total = self.total_inserted();
         let (postbase, absolute) = (total.saturating_sub(base), total + 1);
-        let dropped = self.vas.total_dropped() + evicted;
+        let dropped = self.vas.total_dropped() + passed;
         if let Some(newest) = above(sought.newest, dropped) {
             return DynamicInsertionResult::Duplicated {
                 relative: total - newest,

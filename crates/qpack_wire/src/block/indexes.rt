@@ -52,7 +52,7 @@ impl Indexed {
     /// Appends the written spelling of the line. On error the vector is unchanged; with free room for the spelling it
     /// succeeds and takes no memory.
     #[inline(always)]
-    #[tactic(auto, unfolding(qpack_spec::specs::Line::written_line))]
+    #[tactic(auto, unfolding(qpack_spec::specs::Line::coded_line))]
     pub fn encode<A: Allocator>(&self, buf: &mut Vec<u8, A>) -> Result<(), NoMemory>
         ensures writes { Writes (written_line (line_of_indexed self.now)) buf.old buf.new result }
     {
@@ -110,7 +110,7 @@ impl IndexedWithPostBase {
     /// Appends the written spelling of the line. On error the vector is unchanged; with free room for the spelling it
     /// succeeds and takes no memory.
     #[inline(always)]
-    #[tactic(auto, unfolding(qpack_spec::specs::Line::written_line))]
+    #[tactic(auto, unfolding(qpack_spec::specs::Line::coded_line))]
     pub fn encode<A: Allocator>(&self, buf: &mut Vec<u8, A>) -> Result<(), NoMemory>
         ensures writes { Writes (written_line (line_of_indexed_with_post_base self.now)) buf.old buf.new result }
     {

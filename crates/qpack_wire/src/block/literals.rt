@@ -2,7 +2,8 @@
 
 ghost use Rattle.std.specs.Prelude.{◌≡◌, Err, IfErr};
 ghost use Rattle.qpack_spec.specs.Line.{NamedStatic, NamedDynamic, NamedPostBase, Literal as LiteralLine, written_line};
-ghost use Rattle.qpack_spec.specs.Line.{written_marked_line};
+ghost use Rattle.qpack_spec.specs.Line.{coded_marked_line};
+ghost use Rattle.qpack_base.specs.Codings.{coding_of};
 ghost use Rattle.qpack_base.specs.Writes.{Writes};
 ghost use Rattle.qpack_base.specs.declared.prefix_string.Error.TheVariants.{Memory as NoRoom};
 ghost use Rattle.qpack_base.specs.declared.parse_error.ParseError.TheVariants.{Memory};
@@ -16,6 +17,7 @@ ghost use Rattle.qpack_wire.specs.Memory.{AsksForMemory, AsksAt};
 use crate::form::{VALUE_SIZE, put_index_and_value, put_name_and_value};
 use qpack_base::coding::Cursor;
 use qpack_base::parse_error::ParseError;
+use qpack_base::prefix_string::Coding;
 use qpack_base::{prefix_int, prefix_string};
 use std::alloc::{Allocator, Global};
 
@@ -107,7 +109,7 @@ impl LiteralWithNameRef {
 
     /// Appends the written spelling of a line with a borrowed value and a name of the static table, as `encode` does.
     #[inline(always)]
-    #[tactic(auto, unfolding(qpack_spec::specs::Line::written_marked_line, qpack_spec::specs::Line::written_line))]
+    #[tactic(auto, unfolding(qpack_spec::specs::Line::coded_marked_line, qpack_spec::specs::Line::coded_line))]
     pub fn write_static<A: Allocator>(
         index: usize,
         value: &[u8],
@@ -116,19 +118,21 @@ impl LiteralWithNameRef {
         ensures writes { Writes (written_line (NamedStatic index value.now)) buf.old buf.new result }
         ensures memory { IfErr result (λ e. e ≡ NoRoom) }
     {
-        LiteralWithNameRef::write_static_marked(index, value, false, buf)
+        LiteralWithNameRef::write_static_marked(Coding::Always, index, value, false, buf)
     }
 
-    /// Appends the line as `write_static` does; N is 1 if the field is never to be indexed (RFC 9204, section 7.1.3).
+    /// Appends the line as `write_static` does; N is 1 if the field is never to be indexed (RFC 9204, section 7.1.3). The
+    /// coding says which strings are coded.
     #[inline(always)]
-    #[tactic(auto, unfolding(qpack_spec::specs::Line::written_marked_line, qpack_spec::specs::Line::written_line))]
+    #[tactic(auto, unfolding(qpack_spec::specs::Line::coded_marked_line, qpack_spec::specs::Line::coded_line))]
     pub fn write_static_marked<A: Allocator>(
+        coding: Coding,
         index: usize,
         value: &[u8],
         never_indexed: bool,
         buf: &mut Vec<u8, A>,
     ) -> Result<(), prefix_string::Error>
-        ensures writes { Writes (written_marked_line never_indexed (NamedStatic index value.now))
+        ensures writes { Writes (coded_marked_line (coding_of coding) never_indexed (NamedStatic index value.now))
             buf.old buf.new result }
         ensures memory { IfErr result (λ e. e ≡ NoRoom) }
     {
@@ -137,12 +141,12 @@ impl LiteralWithNameRef {
         } else {
             NAMED_STATIC
         };
-        put_index_and_value(NAMED_SIZE, flags, index as u64, value, buf)
+        put_index_and_value(coding, NAMED_SIZE, flags, index as u64, value, buf)
     }
 
     /// Appends the written spelling of a line with a borrowed value and a name of the dynamic table, as `encode` does.
     #[inline(always)]
-    #[tactic(auto, unfolding(qpack_spec::specs::Line::written_marked_line, qpack_spec::specs::Line::written_line))]
+    #[tactic(auto, unfolding(qpack_spec::specs::Line::coded_marked_line, qpack_spec::specs::Line::coded_line))]
     pub fn write_dynamic<A: Allocator>(
         index: usize,
         value: &[u8],
@@ -151,19 +155,21 @@ impl LiteralWithNameRef {
         ensures writes { Writes (written_line (NamedDynamic index value.now)) buf.old buf.new result }
         ensures memory { IfErr result (λ e. e ≡ NoRoom) }
     {
-        LiteralWithNameRef::write_dynamic_marked(index, value, false, buf)
+        LiteralWithNameRef::write_dynamic_marked(Coding::Always, index, value, false, buf)
     }
 
-    /// Appends the line as `write_dynamic` does; N is 1 if the field is never to be indexed (RFC 9204, section 7.1.3).
+    /// Appends the line as `write_dynamic` does; N is 1 if the field is never to be indexed (RFC 9204, section 7.1.3). The
+    /// coding says which strings are coded.
     #[inline(always)]
-    #[tactic(auto, unfolding(qpack_spec::specs::Line::written_marked_line, qpack_spec::specs::Line::written_line))]
+    #[tactic(auto, unfolding(qpack_spec::specs::Line::coded_marked_line, qpack_spec::specs::Line::coded_line))]
     pub fn write_dynamic_marked<A: Allocator>(
+        coding: Coding,
         index: usize,
         value: &[u8],
         never_indexed: bool,
         buf: &mut Vec<u8, A>,
     ) -> Result<(), prefix_string::Error>
-        ensures writes { Writes (written_marked_line never_indexed (NamedDynamic index value.now))
+        ensures writes { Writes (coded_marked_line (coding_of coding) never_indexed (NamedDynamic index value.now))
             buf.old buf.new result }
         ensures memory { IfErr result (λ e. e ≡ NoRoom) }
     {
@@ -172,7 +178,7 @@ impl LiteralWithNameRef {
         } else {
             NAMED_DYNAMIC
         };
-        put_index_and_value(NAMED_SIZE, flags, index as u64, value, buf)
+        put_index_and_value(coding, NAMED_SIZE, flags, index as u64, value, buf)
     }
 }
 
@@ -259,7 +265,7 @@ impl LiteralWithPostBaseNameRef {
 
     /// Appends the written spelling of a line with a borrowed value, as `encode` does.
     #[inline(always)]
-    #[tactic(auto, unfolding(qpack_spec::specs::Line::written_marked_line, qpack_spec::specs::Line::written_line))]
+    #[tactic(auto, unfolding(qpack_spec::specs::Line::coded_marked_line, qpack_spec::specs::Line::coded_line))]
     pub fn write<A: Allocator>(
         index: usize,
         value: &[u8],
@@ -268,19 +274,21 @@ impl LiteralWithPostBaseNameRef {
         ensures writes { Writes (written_line (NamedPostBase index value.now)) buf.old buf.new result }
         ensures memory { IfErr result (λ e. e ≡ NoRoom) }
     {
-        LiteralWithPostBaseNameRef::write_marked(index, value, false, buf)
+        LiteralWithPostBaseNameRef::write_marked(Coding::Always, index, value, false, buf)
     }
 
-    /// Appends the line as `write` does; N is 1 if the field is never to be indexed (RFC 9204, section 7.1.3).
+    /// Appends the line as `write` does; N is 1 if the field is never to be indexed (RFC 9204, section 7.1.3). The
+    /// coding says which strings are coded.
     #[inline(always)]
-    #[tactic(auto, unfolding(qpack_spec::specs::Line::written_marked_line, qpack_spec::specs::Line::written_line))]
+    #[tactic(auto, unfolding(qpack_spec::specs::Line::coded_marked_line, qpack_spec::specs::Line::coded_line))]
     pub fn write_marked<A: Allocator>(
+        coding: Coding,
         index: usize,
         value: &[u8],
         never_indexed: bool,
         buf: &mut Vec<u8, A>,
     ) -> Result<(), prefix_string::Error>
-        ensures writes { Writes (written_marked_line never_indexed (NamedPostBase index value.now))
+        ensures writes { Writes (coded_marked_line (coding_of coding) never_indexed (NamedPostBase index value.now))
             buf.old buf.new result }
         ensures memory { IfErr result (λ e. e ≡ NoRoom) }
     {
@@ -289,7 +297,14 @@ impl LiteralWithPostBaseNameRef {
         } else {
             POST_BASE_NAMED
         };
-        put_index_and_value(POST_BASE_NAMED_SIZE, flags, index as u64, value, buf)
+        put_index_and_value(
+            coding,
+            POST_BASE_NAMED_SIZE,
+            flags,
+            index as u64,
+            value,
+            buf,
+        )
     }
 }
 
@@ -373,7 +388,7 @@ impl Literal {
 
     /// Appends the written spelling of a line with a borrowed name and value, as `encode` does.
     #[inline(always)]
-    #[tactic(auto, unfolding(qpack_spec::specs::Line::written_marked_line, qpack_spec::specs::Line::written_line))]
+    #[tactic(auto, unfolding(qpack_spec::specs::Line::coded_marked_line, qpack_spec::specs::Line::coded_line))]
     pub fn write<A: Allocator>(
         name: &[u8],
         value: &[u8],
@@ -382,19 +397,21 @@ impl Literal {
         ensures writes { Writes (written_line (LiteralLine name.now value.now)) buf.old buf.new result }
         ensures memory { IfErr result (λ e. e ≡ NoRoom) }
     {
-        Literal::write_marked(name, value, false, buf)
+        Literal::write_marked(Coding::Always, name, value, false, buf)
     }
 
-    /// Appends the line as `write` does; N is 1 if the field is never to be indexed (RFC 9204, section 7.1.3).
+    /// Appends the line as `write` does; N is 1 if the field is never to be indexed (RFC 9204, section 7.1.3). The
+    /// coding says which strings are coded.
     #[inline(always)]
-    #[tactic(auto, unfolding(qpack_spec::specs::Line::written_marked_line, qpack_spec::specs::Line::written_line))]
+    #[tactic(auto, unfolding(qpack_spec::specs::Line::coded_marked_line, qpack_spec::specs::Line::coded_line))]
     pub fn write_marked<A: Allocator>(
+        coding: Coding,
         name: &[u8],
         value: &[u8],
         never_indexed: bool,
         buf: &mut Vec<u8, A>,
     ) -> Result<(), prefix_string::Error>
-        ensures writes { Writes (written_marked_line never_indexed (LiteralLine name.now value.now))
+        ensures writes { Writes (coded_marked_line (coding_of coding) never_indexed (LiteralLine name.now value.now))
             buf.old buf.new result }
         ensures memory { IfErr result (λ e. e ≡ NoRoom) }
     {
@@ -403,7 +420,7 @@ impl Literal {
         } else {
             LITERAL
         };
-        put_name_and_value(LITERAL_SIZE, flags, name, value, buf)
+        put_name_and_value(coding, LITERAL_SIZE, flags, name, value, buf)
     }
 }
 

@@ -2,7 +2,8 @@
 
 ghost use Rattle.std.specs.Prelude.{◌≡◌, Err, IfErr};
 ghost use Rattle.qpack_spec.specs.Instruction.{InsertStaticName, InsertDynamicName, InsertLiteralName};
-ghost use Rattle.qpack_spec.specs.Instruction.{written_encoder_instruction};
+ghost use Rattle.qpack_spec.specs.Instruction.{coded_encoder_instruction, written_encoder_instruction};
+ghost use Rattle.qpack_base.specs.Codings.{coding_of};
 ghost use Rattle.qpack_base.specs.Writes.{Writes};
 ghost use Rattle.qpack_base.specs.declared.prefix_string.Error.TheVariants.{Memory as NoRoom};
 ghost use Rattle.qpack_base.specs.declared.parse_error.ParseError.TheVariants.{Memory};
@@ -21,6 +22,7 @@ use crate::form::{VALUE_SIZE, put_index_and_value, put_name_and_value, read_numb
 use crate::stream::lines::or_none;
 use qpack_base::coding::{Cursor, NoMemory};
 use qpack_base::parse_error::ParseError;
+use qpack_base::prefix_string::Coding;
 use qpack_base::{prefix_int, prefix_string};
 use std::alloc::{Allocator, Global};
 
@@ -53,7 +55,7 @@ impl DynamicTableSizeUpdate {
 
     /// Appends the written spelling of the instruction. On error the vector is unchanged; with free room for the
     /// spelling it succeeds and takes no memory.
-    #[tactic(auto, unfolding(qpack_spec::specs::Instruction::written_encoder_instruction))]
+    #[tactic(auto, unfolding(qpack_spec::specs::Instruction::coded_encoder_instruction))]
     pub fn encode<A: Allocator>(&self, buf: &mut Vec<u8, A>) -> Result<(), NoMemory>
         ensures writes { Writes
             (written_encoder_instruction (encoder_instruction_of_dynamic_table_size_update self.now)) buf.old
@@ -149,42 +151,44 @@ impl InsertWithNameRef {
     {
         match self {
             InsertWithNameRef::Static { index, value } => {
-                InsertWithNameRef::write_static(*index, value, buf)
+                InsertWithNameRef::write_static(Coding::Always, *index, value, buf)
             }
             InsertWithNameRef::Dynamic { index, value } => {
-                InsertWithNameRef::write_dynamic(*index, value, buf)
+                InsertWithNameRef::write_dynamic(Coding::Always, *index, value, buf)
             }
         }
     }
 
     /// Appends the written spelling of the instruction with a borrowed value under a name of the static
-    /// table, as `encode` does.
-    #[tactic(auto, unfolding(qpack_spec::specs::Instruction::written_encoder_instruction))]
+    /// table, as `encode` does. The coding says which strings are coded.
+    #[tactic(auto, unfolding(qpack_spec::specs::Instruction::coded_encoder_instruction))]
     pub fn write_static<A: Allocator>(
+        coding: Coding,
         index: usize,
         value: &[u8],
         buf: &mut Vec<u8, A>,
     ) -> Result<(), prefix_string::Error>
-        ensures writes { Writes
-            (written_encoder_instruction (InsertStaticName index value.now)) buf.old buf.new result }
+        ensures writes { Writes (coded_encoder_instruction (coding_of coding) (InsertStaticName index value.now))
+            buf.old buf.new result }
         ensures memory { IfErr result (λ e. e ≡ NoRoom) }
     {
-        put_index_and_value(NAMED_SIZE, NAMED_STATIC, index as u64, value, buf)
+        put_index_and_value(coding, NAMED_SIZE, NAMED_STATIC, index as u64, value, buf)
     }
 
     /// Appends the written spelling of the instruction with a borrowed value under a name of the dynamic
-    /// table, as `encode` does.
-    #[tactic(auto, unfolding(qpack_spec::specs::Instruction::written_encoder_instruction))]
+    /// table, as `encode` does. The coding says which strings are coded.
+    #[tactic(auto, unfolding(qpack_spec::specs::Instruction::coded_encoder_instruction))]
     pub fn write_dynamic<A: Allocator>(
+        coding: Coding,
         index: usize,
         value: &[u8],
         buf: &mut Vec<u8, A>,
     ) -> Result<(), prefix_string::Error>
-        ensures writes { Writes
-            (written_encoder_instruction (InsertDynamicName index value.now)) buf.old buf.new result }
+        ensures writes { Writes (coded_encoder_instruction (coding_of coding) (InsertDynamicName index value.now))
+            buf.old buf.new result }
         ensures memory { IfErr result (λ e. e ≡ NoRoom) }
     {
-        put_index_and_value(NAMED_SIZE, NAMED_DYNAMIC, index as u64, value, buf)
+        put_index_and_value(coding, NAMED_SIZE, NAMED_DYNAMIC, index as u64, value, buf)
     }
 }
 
@@ -269,21 +273,23 @@ impl InsertWithoutNameRef {
             buf.old buf.new result }
         ensures memory { IfErr result (λ e. e ≡ NoRoom) }
     {
-        InsertWithoutNameRef::write(&self.name, &self.value, buf)
+        InsertWithoutNameRef::write(Coding::Always, &self.name, &self.value, buf)
     }
 
-    /// Appends the written spelling of the instruction with a borrowed name and value, as `encode` does.
-    #[tactic(auto, unfolding(qpack_spec::specs::Instruction::written_encoder_instruction))]
+    /// Appends the written spelling of the instruction with a borrowed name and value, as `encode` does. The
+    /// coding says which strings are coded.
+    #[tactic(auto, unfolding(qpack_spec::specs::Instruction::coded_encoder_instruction))]
     pub fn write<A: Allocator>(
+        coding: Coding,
         name: &[u8],
         value: &[u8],
         buf: &mut Vec<u8, A>,
     ) -> Result<(), prefix_string::Error>
-        ensures writes { Writes
-            (written_encoder_instruction (InsertLiteralName name.now value.now)) buf.old buf.new result }
+        ensures writes { Writes (coded_encoder_instruction (coding_of coding) (InsertLiteralName name.now value.now))
+            buf.old buf.new result }
         ensures memory { IfErr result (λ e. e ≡ NoRoom) }
     {
-        put_name_and_value(LITERAL_SIZE, LITERAL, name, value, buf)
+        put_name_and_value(coding, LITERAL_SIZE, LITERAL, name, value, buf)
     }
 }
 
@@ -336,7 +342,7 @@ impl Duplicate {
 
     /// Appends the written spelling of the instruction. On error the vector is unchanged; with free room for the
     /// spelling it succeeds and takes no memory.
-    #[tactic(auto, unfolding(qpack_spec::specs::Instruction::written_encoder_instruction))]
+    #[tactic(auto, unfolding(qpack_spec::specs::Instruction::coded_encoder_instruction))]
     pub fn encode<A: Allocator>(&self, buf: &mut Vec<u8, A>) -> Result<(), NoMemory>
         ensures writes { Writes
             (written_encoder_instruction (encoder_instruction_of_duplicate self.now)) buf.old buf.new result }

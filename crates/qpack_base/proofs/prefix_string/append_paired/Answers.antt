@@ -1,8 +1,10 @@
-use Rattle.std.proofs.Common.{◌≡◌, ◌-◌, length, ap, List, ℕ, arith}
+use Rattle.std.proofs.Common.{◌≡◌, ◌-◌, ◌++◌, ◌∙◌, length, ap, sym, List, ℕ, true, arith}
 use Rattle.std.proofs.lemmas.List.{length-append}
 use Rattle.qpack_spec.specs.Huffman.{payload_of}
+use Rattle.qpack_spec.specs.Text.{is_coded}
+use Rattle.qpack_base.specs.Codings.{coding_of}
 use Rattle.qpack_base.proofs.CodeRoom.{payload_most}
-use Rattle.qpack_base.proofs.PutStrings.{literal_paired}
+use Rattle.qpack_base.proofs.PutStrings.{literal_paired, string_coded}
 use Rattle.qpack_base.proofs.prefix_string.append_paired.Goals as goal
 
 pub put_payload-requires : goal.put_payload-requires
@@ -21,6 +23,8 @@ put_payload-requires g c =
 pub returns-clause-done : goal.returns-clause-done
 returns-clause-done g c = λ done.
     let value = c.args.value.now in
+    let coded : is_coded (coding_of c.args.coding) value ≡ true =
+    sym c.codes.ensures ∙ c.if-not-codes.false in
     let old = c.args.buf.now in
     let one = c.push_reserved.new.self in
     let two = c.push_reserved-2.new.self in
@@ -39,6 +43,8 @@ returns-clause-done g c = λ done.
       length-append two.items (payload_of value),
     ) in
     literal_paired c.args.size c.args.flags (c.len.result - c.len-start.result - 2) c.len-start.result
-    c.in-Some.first c.in-Some.second value old.items one.items two.items put.items start
+    c.in-Some.first c.in-Some.second (payload_of value) old.items one.items two.items put.items start
     c.push_reserved.ensures.items c.push_reserved-2.ensures.items c.put_payload.ensures.items len
     c.in-Some.ensures
+    ∙ ap (λ (l : List ℕ). old.items ++ l) (sym (string_coded (coding_of c.args.coding) c.args.size c.args.flags value
+    coded))

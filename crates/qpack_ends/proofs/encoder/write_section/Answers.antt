@@ -1,5 +1,6 @@
 use Rattle.std.proofs.Common.{◌≡◌, ◌∙◌, ℕ, ap, sym, subst, map}
 use Rattle.qpack_spec.specs.Table.{Table}
+use Rattle.qpack_spec.specs.Text.{WhereShorter}
 use Rattle.qpack_codec.specs.ChosenSections.{EncodesAlong, EncodesChosen, GivesUpChosen}
 use Rattle.qpack_ends.specs.declared.choosing.Chooser.{Chooser}
 use Rattle.qpack_ends.specs.Risk.{with_limit, limit_for}
@@ -23,10 +24,10 @@ returns-in-Ok-clause-section g c =
     ] in
     let table : c.limit_blocked.new.table ≡ with_limit (limit_for c.args.may_block) t =
     c.limit_blocked.ensures ∙ ap (λ (m : ℕ). with_limit m t) n in
-    subst (λ (x : Table). EncodesChosen c.args.stream lines t x before after written more c.in-Ok.required)
+    subst (λ (x : Table). EncodesChosen WhereShorter c.args.stream lines t x before after written more c.in-Ok.required)
     (sym c.limit_blocked-2.ensures)
     (encodes_lifted c.args.may_block c.args.stream lines t v before after written more c.in-Ok.required c.requires
-    (subst (λ (x : Table). EncodesChosen c.args.stream lines x v before after written more c.in-Ok.required) table
+    (subst (λ (x : Table). EncodesChosen WhereShorter c.args.stream lines x v before after written more c.in-Ok.required) table
     c.in-Ok.ensures.ok.section))
 
 pub returns-in-Ok-clause-known : goal.returns-in-Ok-clause-known
@@ -45,7 +46,7 @@ returns-in-Ok-clause-known g c none =
     let table : c.limit_blocked.new.table ≡ with_limit (limit_for c.args.may_block) t =
     c.limit_blocked.ensures ∙ ap (λ (m : ℕ). with_limit m t) n in
     lowered_known c.args.may_block c.args.stream lines t v before after written more c.in-Ok.required none
-    (subst (λ (x : Table). EncodesChosen c.args.stream lines x v before after written more c.in-Ok.required) table
+    (subst (λ (x : Table). EncodesChosen WhereShorter c.args.stream lines x v before after written more c.in-Ok.required) table
     c.in-Ok.ensures.ok.section)
 
 pub returns-in-Ok-clause-wishes : goal.returns-in-Ok-clause-wishes
@@ -64,11 +65,11 @@ returns-in-Ok-clause-wishes g c =
     ] in
     let table : c.limit_blocked.new.table ≡ with_limit (limit_for c.args.may_block) t =
     c.limit_blocked.ensures ∙ ap (λ (m : ℕ). with_limit m t) n in
-    let k : EncodesAlong (by_wish Chooser) c.args.stream lines wishes (with_limit (limit_for c.args.may_block) t) v before
+    let k : EncodesAlong WhereShorter (by_wish Chooser) c.args.stream lines wishes (with_limit (limit_for c.args.may_block) t) v before
     after written more c.in-Ok.required =
-    subst (λ (x : Table). EncodesAlong (by_wish Chooser) c.args.stream lines wishes x v before after written more
+    subst (λ (x : Table). EncodesAlong WhereShorter (by_wish Chooser) c.args.stream lines wishes x v before after written more
     c.in-Ok.required) table c.in-Ok.ensures.ok in
-    subst (λ (x : Table). EncodesAlong (by_wish Chooser) c.args.stream lines wishes (with_limit (limit_for c.args.may_block) t)
+    subst (λ (x : Table). EncodesAlong WhereShorter (by_wish Chooser) c.args.stream lines wishes (with_limit (limit_for c.args.may_block) t)
     x before after written more c.in-Ok.required)
     (sym (ap (λ (x : Table). with_limit (limit_for c.args.may_block) x) c.limit_blocked-2.ensures
     ∙ limit_written c.args.stream lines t v before after written more c.in-Ok.required (limit_for c.args.may_block)
@@ -87,6 +88,6 @@ returns-in-Err-clause-err g c =
     ] in
     let table : c.limit_blocked.new.table ≡ with_limit (limit_for c.args.may_block) t =
     c.limit_blocked.ensures ∙ ap (λ (m : ℕ). with_limit m t) n in
-    subst (λ (x : Table). GivesUpChosen lines t x written more) (sym c.limit_blocked-2.ensures)
+    subst (λ (x : Table). GivesUpChosen WhereShorter lines t x written more) (sym c.limit_blocked-2.ensures)
     (gives_up_lifted c.args.may_block lines t v written more c.requires
-    (subst (λ (x : Table). GivesUpChosen lines x v written more) table c.in-Err.ensures.err))
+    (subst (λ (x : Table). GivesUpChosen WhereShorter lines x v written more) table c.in-Err.ensures.err))

@@ -5,6 +5,7 @@ ghost use Rattle.std.specs.Prelude.{◌≡◌, ℕ, ◌+◌, ◌-◌, ◌^◌, �
 ghost use Rattle.std.specs.Prelude.{vec_capacity};
 ghost use Rattle.qpack_table.specs.Rows.{part_at, key_cmp, key_at, key_of, field_of_sought, IsHashed, IsSlot};
 ghost use Rattle.qpack_table.specs.Rows.{HasRoom, IsRow, IsRowOf, IsPlace, HasIndexAt, HasNoIndex};
+ghost use Rattle.qpack_table.specs.Rows.{Searching};
 ghost use Rattle.qpack_table.specs.Rows.{Counts, GrowsSlots, grown_slots, index_of};
 ghost use Rattle.qpack_table.specs.Indexes.{FindsNewest};
 ghost use Rattle.qpack_table.specs.Tables.{live_fields};
@@ -19,6 +20,9 @@ use std::cmp::Ordering;
 
 /// A row of at most this many slots is searched for an index without a look at an entry.
 const MOST_SCANNED: usize = 16;
+
+/// At how many slots a search looks at most before it halves what is left.
+const MOST_LOOKS: usize = 8;
 
 /// One more than the greatest number that 32 bits hold.
 const WRAP: usize = 1 << 32;
@@ -74,6 +78,15 @@ fn compare<F: StoredField>(
     }
 }
 
+/// Returns where a hash would be in a row of this length if the hashes were spread evenly.
+#[inline(always)]
+fn likely_position(hash: u32, len: usize) -> usize
+    requires { 0 < len }
+    ensures { result < len }
+{
+    ((hash as usize).wrapping_mul(len) / WRAP).min(len - 1)
+}
+
 /// Returns the position of the oldest entry's slot. It looks at one slot after the other.
 fn scan(slots: &[Slot], dropped: usize) -> Option<usize>
     ensures some { IfSome result (λ position. HasIndexAt dropped slots.now (dropped + 1) position) }
@@ -125,6 +138,108 @@ impl Row {
         self.slots.reserve_exact(growth(self.slots.len(), SLOTS))
     }
 
+    /// Returns between which positions what is sought is, as a few looks at hashes tell: at where its hash is if hashes are
+    /// spread evenly, and then beside that.
+    #[inline(always)]
+    fn narrow<F: StoredField>(
+        &self,
+        entries: &Entries<F>,
+        dropped: usize,
+        sought: &Sought<'_>,
+    ) -> (usize, usize)
+        requires { IsRow sought.now.part dropped (live_fields entries.now.items) self.now.slots.items }
+        ensures { Searching sought.now.part dropped (live_fields entries.now.items) self.now.slots.items
+            (key_of sought.now) result.0 result.1 }
+    {
+        let mut low = 0;
+        let mut high = self.slots.len();
+        if high == 0 {
+            return (low, high);
+        }
+        let mut at = likely_position(sought.hash, high);
+        for _ in 0..MOST_LOOKS {
+            match self.slots[at].hash.cmp(&sought.hash) {
+                Ordering::Less => {
+                    low = at + 1;
+                    if low == high {
+                        return (low, high);
+                    }
+                    at = low;
+                }
+                Ordering::Greater => {
+                    high = at;
+                    if low == high {
+                        return (low, high);
+                    }
+                    at -= 1;
+                }
+                Ordering::Equal => break,
+            }
+        }
+        let low = self.after_lesser(entries, dropped, sought, low, high, at);
+        (
+            low,
+            self.before_greater(entries, dropped, sought, low, high, at),
+        )
+    }
+
+    /// Returns the position if the slot before it has a lesser hash, and else the lower end.
+    #[inline(always)]
+    fn after_lesser<F: StoredField>(
+        &self,
+        entries: &Entries<F>,
+        dropped: usize,
+        sought: &Sought<'_>,
+        low: usize,
+        high: usize,
+        at: usize,
+    ) -> usize
+        requires row { IsRow sought.now.part dropped (live_fields entries.now.items) self.now.slots.items }
+        requires parted { Searching sought.now.part dropped (live_fields entries.now.items) self.now.slots.items
+            (key_of sought.now) low high }
+        requires within { at < high }
+        requires from { low ≤ at }
+        ensures parted { Searching sought.now.part dropped (live_fields entries.now.items) self.now.slots.items
+            (key_of sought.now) result high }
+        ensures most { result ≤ at }
+    {
+        if low == at {
+            return low;
+        }
+        match self.slots[at - 1].hash.cmp(&sought.hash) {
+            Ordering::Less => at,
+            _ => low,
+        }
+    }
+
+    /// Returns the next position if the slot there has a greater hash, and else the higher end.
+    #[inline(always)]
+    fn before_greater<F: StoredField>(
+        &self,
+        entries: &Entries<F>,
+        dropped: usize,
+        sought: &Sought<'_>,
+        low: usize,
+        high: usize,
+        at: usize,
+    ) -> usize
+        requires row { IsRow sought.now.part dropped (live_fields entries.now.items) self.now.slots.items }
+        requires parted { Searching sought.now.part dropped (live_fields entries.now.items) self.now.slots.items
+            (key_of sought.now) low high }
+        requires within { at < high }
+        requires from { low ≤ at }
+        ensures parted { Searching sought.now.part dropped (live_fields entries.now.items) self.now.slots.items
+            (key_of sought.now) low result }
+    {
+        if at + 1 == high {
+            return high;
+        }
+        match self.slots[at + 1].hash.cmp(&sought.hash) {
+            Ordering::Greater => at + 1,
+            _ => high,
+        }
+    }
+
     /// Returns where the slot with what is sought is, or where it would be. Each comparison leaves at most half of the
     /// slots.
     fn search<F: StoredField>(
@@ -139,8 +254,7 @@ impl Row {
             (key_of sought.now) result }
         ensures steps { Counts (length self.now.slots.items) steps.old.count steps.new.count }
     {
-        let mut low = 0;
-        let mut high = self.slots.len();
+        let (mut low, mut high) = self.narrow(entries, dropped, sought);
         while low < high {
             let middle = low + (high - low) / 2;
             match compare(sought, self.slots[middle], entries, dropped, steps) {

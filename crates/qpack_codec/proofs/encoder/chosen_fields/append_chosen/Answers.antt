@@ -3,13 +3,14 @@ use Rattle.std.proofs.lemmas.Result.{err_from_is_err_and}
 use Rattle.qpack_spec.specs.Table.{Table, without_references}
 use Rattle.qpack_base.specs.HeaderFields.{line_of}
 use Rattle.qpack_codec.proofs.ChosenLines.{new_unmarked, adds_uninserted, line_keeps}
+use Rattle.qpack_table.specs.Handles.{naming_of}
 use Rattle.qpack_codec.proofs.InstructionsRoom.{grows_none}
 use Rattle.qpack_codec.proofs.WrittenBlocks.{take-append_front}
 use Rattle.qpack_codec.proofs.encoder.chosen_fields.append_chosen.Goals as goal
 
 pub returns-in-Inserted-clause-ok : goal.returns-in-Inserted-clause-ok
 returns-in-Inserted-clause-ok g c =
-    new_unmarked c.args.block.now.table.now c.append_insertion_or_alone.new.block.table.now c.args.block.now.base
+    new_unmarked (naming_of c.args.naming) c.args.block.now.table.now c.append_insertion_or_alone.new.block.table.now c.args.block.now.base
     (line_of c.args.field.now) c.args.choice c.args.lines.now.items c.append_insertion_or_alone.new.lines.items
     c.args.encoder_buf.now.items c.append_insertion_or_alone.new.encoder_buf.items c.requires.unmarked
     c.in-Inserted.is c.in_ok-append_insertion_or_alone.ensures.ok
@@ -44,9 +45,9 @@ returns g c =
       same_table = c.append_uninserted.ensures.same_table;
       stream = c.append_uninserted.ensures.stream;
       base = c.append_uninserted.ensures.base;
-      ok = adds_uninserted c.args.block.now.table.now c.append_uninserted.new.block.table.now c.args.block.now.base
+      ok = adds_uninserted (naming_of c.args.naming) c.args.block.now.table.now c.append_uninserted.new.block.table.now c.args.block.now.base
           (line_of c.args.field.now) c.args.choice c.args.lines.now.items c.append_uninserted.new.lines.items
-          c.args.encoder_buf.now.items c.requires.unmarked
+          c.args.encoder_buf.now.items c.requires.unmarked c.in_default.not-Inserted
           (sym c.inserts_after.ensures ∙ c.if-inserts_after.false) c.in_ok-append_uninserted.ensures.ok;
       err = tt;
       as_before = tt;

@@ -1,4 +1,4 @@
-use Rattle.std.proofs.Common.{Some, sym, ap, ◌∙◌}
+use Rattle.std.proofs.Common.{Some, refl, sym, ap, ◌∙◌}
 use Rattle.std.proofs.lemmas.Result.{err_from_is_err_and}
 use Rattle.qpack_spec.specs.Field.{is_field}
 use Rattle.qpack_spec.specs.Line.{IndexedDynamic, IndexedPostBase}
@@ -47,7 +47,7 @@ returns-in_ok-encode-in-Relative-clause-ok g c =
     adds_equal c.args.block.now.table.now c.reference.new.self.table.now c.args.block.now.base l c.args.entry
     (lookup_of c.in-Ok.lookup) (IndexedDynamic c.in-Relative.index) c.args.lines.now.items c.encode.new.buf.items
     c.requires.unmarked (sym c.is_equal.ensures ∙ c.if-not-is_equal.false) c.requires.no_static c.in-Ok.ensures.found
-    (ap (λ (x : DynamicLookupResult). equal_line l.field (lookup_of x)) c.in-Relative.is)
+    (ap (λ (x : DynamicLookupResult). equal_line l.field (lookup_of x)) c.in-Relative.is) refl
     c.in_ok-encode-in-Relative.ensures.writes.ok
 
 pub returns-in_ok-encode-in-Relative-clause-sought : goal.returns-in_ok-encode-in-Relative-clause-sought
@@ -63,7 +63,7 @@ returns-in_ok-encode-in-PostBase-clause-ok g c =
     (lookup_of c.in-Ok.lookup) (IndexedPostBase c.in-PostBase.index) c.args.lines.now.items
     c.encode-in-PostBase.new.buf.items c.requires.unmarked (sym c.is_equal.ensures ∙ c.if-not-is_equal.false)
     c.requires.no_static c.in-Ok.ensures.found
-    (ap (λ (x : DynamicLookupResult). equal_line l.field (lookup_of x)) c.in-PostBase.is)
+    (ap (λ (x : DynamicLookupResult). equal_line l.field (lookup_of x)) c.in-PostBase.is) refl
     c.in_ok-encode-in-PostBase.ensures.writes.ok
 
 pub returns-in_ok-encode-in-PostBase-clause-sought : goal.returns-in_ok-encode-in-PostBase-clause-sought

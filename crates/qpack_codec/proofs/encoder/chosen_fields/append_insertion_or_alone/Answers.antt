@@ -5,18 +5,19 @@ use Rattle.qpack_spec.specs.Field.{field_size}
 use Rattle.qpack_spec.specs.Table.{below_limit, has_room}
 use Rattle.qpack_base.specs.HeaderFields.{line_of}
 use Rattle.qpack_table.proofs.Insertions.{room_fits}
-use Rattle.qpack_table.specs.Handles.{insertion_of}
+use Rattle.qpack_table.specs.Handles.{insertion_of, naming_of}
 use Rattle.qpack_codec.specs.Encoding.{written_insertion}
 use Rattle.qpack_codec.proofs.ChosenLines.{IsInserted, adds_new, stops_new, adds_not_new, inserts_some, inserts_nothing}
 use Rattle.qpack_codec.proofs.InstructionsRoom.{MakesRoom, grows_written}
 use Rattle.qpack_codec.proofs.Rooms.{no_err}
+use Rattle.qpack_base.specs.Codings.{coding_of}
 use Rattle.qpack_codec.proofs.encoder.chosen_fields.append_insertion_or_alone.Goals as goal
 
 pub returns-in_default-inserted-clause-ok : goal.returns-in_default-inserted-clause-ok
 returns-in_default-inserted-clause-ok g c =
     let none = inserts_nothing _ c.in-Ok.inserted _ c.args.block.now.table.now c.insert_sought.new.self.table.now
     c.in_default-inserted.is c.in-Ok.ensures.inserted in
-    adds_not_new c.args.block.now.table.now c.insert_sought.new.self.table.now c.args.block.now.base
+    adds_not_new (naming_of c.args.naming) c.args.block.now.table.now c.insert_sought.new.self.table.now c.args.block.now.base
     (line_of c.args.field.now) c.args.lines.now.items c.append_alone.new.lines.items c.args.encoder_buf.now.items
     c.make_room.new.buf.items none.0 none.1 c.requires.no_static c.requires.unmarked
     c.in_ok-append_alone.ensures.writes.ok c.in_ok-make_room.ensures.items
@@ -27,7 +28,7 @@ returns-in_err-write_instruction-clause-err g c =
     let some = inserts_some _ c.in-Ok.inserted c.in-Some.insertion _ c.args.block.now.table.now
     c.insert_sought.new.self.table.now c.in-Some.is c.in-Ok.ensures.inserted in
     let enough = c.instruction_room.ensures.any (room_fits c.args.block.now.table.now f (and_parts (below_limit c.args.block.now.table.now) (has_room c.args.block.now.table.now f) some.0).1)
-    (insertion_of c.in-Some.insertion) in
+    (coding_of c.args.coding) (insertion_of c.in-Some.insertion) in
     absurd (no_err c.write_instruction.result _
     (c.write_instruction.ensures.writes.succeeds (omega (arith, enough, c.in_ok-make_room.ensures.ok)))
     c.in_err-write_instruction.was)
@@ -39,12 +40,12 @@ returns-in_err-append_inserted-clause-err g c =
     let f = (line_of c.args.field.now).field in
     let some = inserts_some _ c.in-Ok.inserted c.in-Some.insertion _ c.args.block.now.table.now
     c.insert_sought.new.self.table.now c.in-Some.is c.in-Ok.ensures.inserted in
-    let inserted : IsInserted c.args.block.now.table.now c.args.block.now.base f (insertion_of c.in-Some.insertion)
+    let inserted : IsInserted (coding_of c.args.coding) (naming_of c.args.naming) c.args.block.now.table.now c.args.block.now.base f (insertion_of c.in-Some.insertion)
     c.insert_sought.new.self.table.now c.args.encoder_buf.now.items c.write_instruction.new.buf.items = record {
       can = some.0;
       is = some.1;
       written = c.in_ok-write_instruction.ensures.writes.ok
-          ∙ ap (λ (x : List ℕ). x ++ written_insertion f (insertion_of c.in-Some.insertion))
+          ∙ ap (λ (x : List ℕ). x ++ written_insertion (coding_of c.args.coding) f (insertion_of c.in-Some.insertion))
           c.in_ok-make_room.ensures.items;
     } in
     rw p.1 (stops_new inserted)
@@ -54,12 +55,12 @@ returns-clause-ok g c =
     let f = (line_of c.args.field.now).field in
     let some = inserts_some _ c.in-Ok.inserted c.in-Some.insertion _ c.args.block.now.table.now
     c.insert_sought.new.self.table.now c.in-Some.is c.in-Ok.ensures.inserted in
-    let inserted : IsInserted c.args.block.now.table.now c.args.block.now.base f (insertion_of c.in-Some.insertion)
+    let inserted : IsInserted (coding_of c.args.coding) (naming_of c.args.naming) c.args.block.now.table.now c.args.block.now.base f (insertion_of c.in-Some.insertion)
     c.insert_sought.new.self.table.now c.args.encoder_buf.now.items c.write_instruction.new.buf.items = record {
       can = some.0;
       is = some.1;
       written = c.in_ok-write_instruction.ensures.writes.ok
-          ∙ ap (λ (x : List ℕ). x ++ written_insertion f (insertion_of c.in-Some.insertion))
+          ∙ ap (λ (x : List ℕ). x ++ written_insertion (coding_of c.args.coding) f (insertion_of c.in-Some.insertion))
           c.in_ok-make_room.ensures.items;
     } in
     adds_new inserted c.args.lines.now.items c.append_inserted.new.buf.items c.in_ok-append_inserted.ensures.writes.ok
@@ -78,7 +79,7 @@ returns-in_err-write_instruction-clause-instructions g c =
       capacity = c.make_room.ensures.capacity;
     } in
     grows_written makes _ c.write_instruction.new.buf c.write_instruction.result c.in_ok-make_room.ensures.ok
-    (c.instruction_room.ensures.any (room_fits c.args.block.now.table.now f (and_parts (below_limit c.args.block.now.table.now) (has_room c.args.block.now.table.now f) some.0).1) (insertion_of c.in-Some.insertion))
+    (c.instruction_room.ensures.any (room_fits c.args.block.now.table.now f (and_parts (below_limit c.args.block.now.table.now) (has_room c.args.block.now.table.now f) some.0).1) (coding_of c.args.coding) (insertion_of c.in-Some.insertion))
     c.write_instruction.ensures.writes
 
 pub returns-in_err-append_inserted-clause-instructions : goal.returns-in_err-append_inserted-clause-instructions
@@ -95,7 +96,7 @@ returns-in_err-append_inserted-clause-instructions g c =
       capacity = c.make_room.ensures.capacity;
     } in
     grows_written makes _ c.write_instruction.new.buf c.write_instruction.result c.in_ok-make_room.ensures.ok
-    (c.instruction_room.ensures.any (room_fits c.args.block.now.table.now f (and_parts (below_limit c.args.block.now.table.now) (has_room c.args.block.now.table.now f) some.0).1) (insertion_of c.in-Some.insertion))
+    (c.instruction_room.ensures.any (room_fits c.args.block.now.table.now f (and_parts (below_limit c.args.block.now.table.now) (has_room c.args.block.now.table.now f) some.0).1) (coding_of c.args.coding) (insertion_of c.in-Some.insertion))
     c.write_instruction.ensures.writes
 
 pub returns-clause-instructions : goal.returns-clause-instructions
@@ -112,5 +113,5 @@ returns-clause-instructions g c =
       capacity = c.make_room.ensures.capacity;
     } in
     grows_written makes _ c.write_instruction.new.buf c.write_instruction.result c.in_ok-make_room.ensures.ok
-    (c.instruction_room.ensures.any (room_fits c.args.block.now.table.now f (and_parts (below_limit c.args.block.now.table.now) (has_room c.args.block.now.table.now f) some.0).1) (insertion_of c.in-Some.insertion))
+    (c.instruction_room.ensures.any (room_fits c.args.block.now.table.now f (and_parts (below_limit c.args.block.now.table.now) (has_room c.args.block.now.table.now f) some.0).1) (coding_of c.args.coding) (insertion_of c.in-Some.insertion))
     c.write_instruction.ensures.writes

@@ -14,7 +14,7 @@ use Rattle.qpack_codec.proofs.encoder.chosen_fields.append_line.Goals.{in-Some-N
 pub returns-in_err-append_never_indexed-clause-err : goal.returns-in_err-append_never_indexed-clause-err
 returns-in_err-append_never_indexed-clause-err g c =
     let p = err_from_is_err_and c.from_residual.result c.from_residual.ensures.1 in
-    let chosen = chosen_of c.args.block.now.table.now (line_of c.args.field.now).field c.choose-choice.result in
+    let chosen = chosen_of g.C.Chooses.naming c.args.block.now.table.now (line_of c.args.field.now).field c.choose-choice.result in
     rw p.1 (record {
       choice = chosen;
       after = c.choose-choice.new.self;
@@ -26,7 +26,7 @@ returns-in_err-append_never_indexed-clause-err g c =
 
 pub returns-then-field-clause-ok : goal.returns-then-field-clause-ok
 returns-then-field-clause-ok g c =
-    let chosen = chosen_of c.args.block.now.table.now (line_of c.args.field.now).field c.choose-choice.result in
+    let chosen = chosen_of g.C.Chooses.naming c.args.block.now.table.now (line_of c.args.field.now).field c.choose-choice.result in
     record {
       choice = chosen;
       chose = asked_marked g.C.Chooses.chooses c.args.chooser.now c.choose-choice.new.self c.args.block.now.base
@@ -68,7 +68,7 @@ pub returns-in_err-append_chosen-clause-err : goal.returns-in_err-append_chosen-
 returns-in_err-append_chosen-clause-err g c =
     let p = err_from_is_err_and c.from_residual-in_err-append_chosen.result
     c.from_residual-in_err-append_chosen.ensures.1 in
-    let chosen = chosen_of c.args.block.now.table.now (line_of c.args.field.now).field c.choose-choice-2.result in
+    let chosen = chosen_of g.C.Chooses.naming c.args.block.now.table.now (line_of c.args.field.now).field c.choose-choice-2.result in
     let none : static_index (line_of c.args.field.now).field ≡ None =
     elim c.match-lookup.branch [
       | in-Some-Name w ↦
@@ -81,12 +81,12 @@ returns-in_err-append_chosen-clause-err g c =
       after = c.choose-choice-2.new.self;
       chose = asked_new g.C.Chooses.chooses c.args.chooser.now c.choose-choice-2.new.self c.args.block.now.base
           c.args.block.now.table.now (line_of c.args.field.now) c.args.wish chosen none c.choose-choice-2.ensures;
-      stops = c.in_err-append_chosen.ensures.err;
+      stops = rw (← c.naming-naming.ensures) c.in_err-append_chosen.ensures.err;
     })
 
 pub returns-clause-ok : goal.returns-clause-ok
 returns-clause-ok g c =
-    let chosen = chosen_of c.args.block.now.table.now (line_of c.args.field.now).field c.choose-choice-2.result in
+    let chosen = chosen_of g.C.Chooses.naming c.args.block.now.table.now (line_of c.args.field.now).field c.choose-choice-2.result in
     let none : static_index (line_of c.args.field.now).field ≡ None =
     elim c.match-lookup.branch [
       | in-Some-Name w ↦
@@ -99,5 +99,5 @@ returns-clause-ok g c =
       chose = asked_new g.C.Chooses.chooses c.args.chooser.now c.choose-choice-2.new.self c.args.block.now.base
           c.args.block.now.table.now
           (line_of c.args.field.now) c.args.wish chosen none c.choose-choice-2.ensures;
-      adds = c.in_ok-append_chosen.ensures.ok;
+      adds = rw (← c.naming-naming.ensures) c.in_ok-append_chosen.ensures.ok;
     }

@@ -1,11 +1,12 @@
 use Rattle.std.proofs.Common.{◌++◌, sym, ap, ◌∙◌}
 use Rattle.std.proofs.lemmas.Result.{err_from_is_err_and}
-use Rattle.qpack_spec.specs.Line.{Line, written_marked_line}
+use Rattle.qpack_spec.specs.Line.{Line, coded_marked_line}
 use Rattle.qpack_base.specs.HeaderFields.{line_of}
 use Rattle.qpack_table.proofs.Newest.{newest_above, newest_inserted}
 use Rattle.qpack_table.specs.Handles.{lookup_of}
 use Rattle.qpack_codec.proofs.ChosenLines.{adds_named, named_of, found_keeps, sought_still}
 use Rattle.qpack_codec.proofs.Stills.{still_written}
+use Rattle.qpack_base.specs.Codings.{coding_of}
 use Rattle.qpack_codec.proofs.encoder.chosen_fields.append_named.Goals as goal
 
 pub reference-requires-clause-live : goal.reference-requires-clause-live
@@ -49,7 +50,7 @@ returns g c =
           c.newest_name-newest.result (lookup_of c.in-Ok.lookup) c.args.lines.now.items c.append_literal.new.buf.items
           c.newest_name-newest.ensures c.in-Ok.ensures.found
           (c.in_ok-append_literal.ensures.writes.ok
-          ∙ ap (λ (x : Line). c.args.lines.now.items ++ written_marked_line l.never_indexed x)
+          ∙ ap (λ (x : Line). c.args.lines.now.items ++ coded_marked_line (coding_of c.args.coding) l.never_indexed x)
           (sym (named_of l.field c.in-Ok.lookup c.in_default-lookup.not-NotFound)));
       sought = sought_still c.args.block.now.table.now c.reference.new.self.table.now c.args.block.now.base
           c.newest_name-newest.result (lookup_of c.in-Ok.lookup) (line_of c.args.field.now).field c.args.sought.now

@@ -7,6 +7,7 @@ use Rattle.qpack_codec.proofs.ChosenFields.{along_none, along_next, stops_along_
 use Rattle.qpack_codec.proofs.WrittenBlocks.{take-append_front}
 use Rattle.qpack_codec.proofs.Stills.{still_next, longer_written}
 use Rattle.qpack_codec.proofs.InstructionsRoom.{grows_none, grows_next, grows_front}
+use Rattle.qpack_base.specs.Codings.{coding_of}
 use Rattle.qpack_codec.proofs.encoder.sections.append_fields.Goals as goal
 
 pub loop-field-init : goal.loop-field-init
@@ -80,7 +81,7 @@ returns-clause-ok g c =
     omega (arith, c.loop-field-test.false, c.loop-field.auto.field-index-end) in
     let whole : take c.loop-field.field-index c.args.fields.now ≡ c.args.fields.now =
     ap (λ (n : ℕ). take n c.args.fields.now) end ∙ take-length c.args.fields.now in
-    subst (λ (xs : List g.row.H.Denot). AddsAlong g.C.Chooses.chooses (map g.H.AsField.line xs)
+    subst (λ (xs : List g.row.H.Denot). AddsAlong (coding_of c.args.coding) g.C.Chooses.chooses (map g.H.AsField.line xs)
     (map g.H.AsField.wish xs) c.args.handle.now.table.now c.args.handle.now.base c.loop-field.handle.table.now
     c.args.chooser.now c.loop-field.chooser c.args.lines.now.items c.loop-field.lines.items c.args.encoder_buf.now.items
     c.loop-field.encoder_buf.items) whole c.loop-field.invariant.adds

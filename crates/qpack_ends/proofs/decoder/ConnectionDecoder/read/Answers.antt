@@ -10,14 +10,14 @@ pub returns-in-Ends-clause-reads : goal.returns-in-Ends-clause-reads
 returns-in-Ends-clause-reads c = (
   rw (sym c.stream-stream.ensures) c.in_ok-check.ensures.checks,
   (
-    c.read.new.self,
+    c.read.new.self.section,
     record {
       is = subst (λ (v : DecoderView). ReadsOn (window v.table) v.settings.max_section_size c.args.last
-          c.args.reader.now c.read.new.self c.args.buf.now.rest c.read.new.buf.rest c.read.new.fields.fields
-          (Ok c.in-Ok.progress) c.args.reader.now.failure) c.self.view_is c.in-Ok.ensures.reads;
+          c.args.reader.now.section c.read.new.self.section c.args.buf.now.rest c.read.new.buf.rest c.read.new.fields.fields
+          (Ok c.in-Ok.progress) c.args.reader.now.section.failure) c.self.view_is c.in-Ok.ensures.reads;
     },
     rw (sym c.stream-stream.ensures) c.in_ok-follow-in-Ok.ensures.follows,
-    c.begin.ensures ∙ ap (λ p. begun_after p c.read.new.self) (sym c.in-Ends.is),
+    c.begin.ensures.section ∙ ap (λ p. begun_after p c.read.new.self.section) (sym c.in-Ends.is),
   ),
 )
 
@@ -25,14 +25,14 @@ pub returns-in_default-clause-reads : goal.returns-in_default-clause-reads
 returns-in_default-clause-reads c = (
   rw (sym c.stream-stream.ensures) c.in_ok-check.ensures.checks,
   (
-    c.read.new.self,
+    c.read.new.self.section,
     record {
       is = subst (λ (v : DecoderView). ReadsOn (window v.table) v.settings.max_section_size c.args.last
-          c.args.reader.now c.read.new.self c.args.buf.now.rest c.read.new.buf.rest c.read.new.fields.fields
-          (Ok c.in-Ok.progress) c.args.reader.now.failure) c.self.view_is c.in-Ok.ensures.reads;
+          c.args.reader.now.section c.read.new.self.section c.args.buf.now.rest c.read.new.buf.rest c.read.new.fields.fields
+          (Ok c.in-Ok.progress) c.args.reader.now.section.failure) c.self.view_is c.in-Ok.ensures.reads;
     },
     rw (sym c.stream-stream.ensures) c.in_ok-follow-in-Ok.ensures.follows,
-    not_ended c.in-Ok.progress c.read.new.self c.in_default.not-Ends,
+    not_ended c.in-Ok.progress c.read.new.self.section c.in_default.not-Ends,
   ),
 )
 

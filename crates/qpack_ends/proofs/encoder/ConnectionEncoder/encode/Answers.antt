@@ -3,6 +3,7 @@ use Rattle.std.proofs.Common.{ℕ, Result, inr}
 use Rattle.std.specs.Prelude.{OnErr}
 use Rattle.qpack_spec.specs.Field.{FieldLine}
 use Rattle.qpack_spec.specs.Table.{Table}
+use Rattle.qpack_spec.specs.Text.{WhereShorter}
 use Rattle.qpack_codec.specs.declared.encoder.choices.Wish.{Wish}
 use Rattle.qpack_codec.specs.declared.error.EncoderError.TheVariants as codec
 use Rattle.qpack_codec.proofs.ChosenBlocks.{gives_up_chosen_alone}
@@ -125,9 +126,9 @@ invariant_of-self g c =
     ap (λ (x : EncodingEnd). x.wanted) (c.self.view_is ∙ c.in_ok-begin.ensures) ∙ begun_wants c.args.self.now in (
       sound_with d u d.unsent none c.self.invariant.0,
       tracks_given_up c.self.inside.at_risk.streams.items [] d.table u d.unsent d.unsent
-          (gives_up_chosen_alone [] (Err codec.Memory) d.table u d.unsent c.give_up.ensures) c.self.invariant.1,
+          (gives_up_chosen_alone WhereShorter [] (Err codec.Memory) d.table u d.unsent c.give_up.ensures) c.self.invariant.1,
       λ zero. (given_up_bare [] d.table u d.unsent d.unsent
-          (gives_up_chosen_alone [] (Err codec.Memory) d.table u d.unsent c.give_up.ensures)
+          (gives_up_chosen_alone WhereShorter [] (Err codec.Memory) d.table u d.unsent c.give_up.ensures)
           (c.self.invariant.2 zero)).0,
     )
 

@@ -1,4 +1,5 @@
 use Rattle.std.proofs.Common.{map}
+use Rattle.qpack_spec.specs.Text.{WhereShorter}
 use Rattle.qpack_ends.specs.Wishes.{by_wish}
 use Rattle.qpack_ends.specs.declared.choosing.Chooser.{Chooser}
 use Rattle.qpack_ends.proofs.SentBytes.{section_written}
@@ -6,7 +7,7 @@ use Rattle.qpack_ends.proofs.unsent.Unsent.write_section.Goals as goal
 
 pub returns-clause-ok : goal.returns-clause-ok
 returns-clause-ok g c =
-    rw (← c.self.view_is) (section_written (by_wish Chooser) c.self.inside.sent c.args.stream
+    rw (← c.self.view_is) (section_written WhereShorter (by_wish Chooser) c.self.inside.sent c.args.stream
     (map g.H.AsField.line c.args.fields.now) (map g.H.AsField.wish c.args.fields.now) c.args.table.now.table
     c.write_chosen_section.new.self.table c.args.section.now.items c.write_chosen_section.new.block.items
     c.self.inside.bytes.items c.write_chosen_section.new.encoder_buf.items c.write_chosen_section.result

@@ -1,6 +1,7 @@
 use Rattle.std.proofs.Common.{◌∙◌, map}
 use Rattle.qpack_codec.proofs.ChosenBlocks.{each_wish, gives_up_section, writes_along}
 use Rattle.qpack_codec.proofs.DraftedBlocks.{count_begins, none_begins}
+use Rattle.qpack_base.specs.Codings.{coding_of}
 use Rattle.qpack_codec.proofs.encoder.sections.EncoderTable.write_along.Goals as goal
 
 pub append_block-appended-requires-clause-base : goal.append_block-appended-requires-clause-base
@@ -13,7 +14,7 @@ append_block-appended-requires-clause-begins g c =
 
 pub returns-then-is_err-clause-err : goal.returns-then-is_err-clause-err
 returns-then-is_err-clause-err g c =
-    gives_up_section g.C.Chooses.chooses (map g.H.AsField.wish c.args.fields.now)
+    gives_up_section (coding_of c.args.coding) g.C.Chooses.chooses (map g.H.AsField.wish c.args.fields.now)
     (map g.H.AsField.line c.args.fields.now) c.append_block-appended.result c.end_block-answer.result
     c.args.self.now.table c.encoder-handle.result.table.now c.append_block-appended.new.handle.table.now _
     c.args.block.now.items c.append_block-appended.new.block.items c.args.encoder_buf.now.items
@@ -23,7 +24,7 @@ returns-then-is_err-clause-err g c =
 
 pub returns-else-is_err-clause-ok : goal.returns-else-is_err-clause-ok
 returns-else-is_err-clause-ok g c =
-    writes_along g.C.Chooses.chooses (map g.H.AsField.wish c.args.fields.now)
+    writes_along (coding_of c.args.coding) g.C.Chooses.chooses (map g.H.AsField.wish c.args.fields.now)
     (map g.H.AsField.line c.args.fields.now) c.append_block-appended.result c.end_block-answer.result
     c.args.self.now.table c.encoder-handle.result.table.now c.append_block-appended.new.handle.table.now _
     c.args.stream_id c.append_block-appended.new.handle.stream_id c.args.block.now.items

@@ -4,4 +4,8 @@ use Rattle.qpack_ends.proofs.section.reader.SectionReader.begin.Goals as goal
 
 pub invariant_of-self : goal.invariant_of-self
 invariant_of-self c =
-    record { cut = nothing_is_prefix _ c.clear.ensures.items; placed = (refl, refl, refl) }
+    record {
+      reading = record { cut = nothing_is_prefix _ c.drop_all.ensures.items; placed = (refl, refl, refl) };
+      little = λ none. c.drop_all.ensures.little;
+      told = λ e. cc;
+    }

@@ -1,18 +1,22 @@
 use Rattle.std.proofs.Common.{◌≡◌, ◌∙◌, ◌++◌, ◌-◌, ℕ, List, [], Some, Ok, ap, subst, arith, refl, length, drop, rules}
 use Rattle.qpack_spec.specs.Table.{window}
-use Rattle.qpack_ends.specs.Pieces.{ReaderView, Answers, next_prefix, opened, FindsPrefix}
+use Rattle.qpack_ends.specs.Pieces.{ReaderView, KeptReader, Answers, next_prefix, opened, FindsPrefix}
 use Rattle.qpack_ends.specs.declared.section.reader.Progress.TheVariants.{Prefix}
 use Rattle.qpack_ends.proofs.PieceParts.{none_placed, no_line_waits, answers_opens}
 use Rattle.qpack_ends.proofs.section.reader.SectionReader.read_prefix.Goals as goal
 
 pub invariant_of-self : goal.invariant_of-self
 invariant_of-self g c =
-    let found = rw c.in-Ok-Some.field-0-is at c.in-Ok-Some.ensures in
-    let none = none_placed c.self.inside.prefix _ (ap (λ (r : ReaderView). r.prefix) c.self.view_is ∙ c.requires)
-    c.self.invariant.placed in
+    let found = rw c.in-Ok-Some.field-0-is at c.in-Ok-Some.ensures.finds in
+    let none = none_placed c.self.inside.prefix _ (ap (λ (v : KeptReader). v.section.prefix) c.self.view_is ∙ c.requires.none)
+    c.self.invariant.reading.placed in
     record {
-      cut = no_line_waits (Some c.in-Ok-Some.prefix) c.find_prefix.new.pending.items refl found.1;
-      placed = omega (arith, none);
+      reading = record {
+        cut = no_line_waits (Some c.in-Ok-Some.prefix) c.find_prefix.new.pending.items refl found.1;
+        placed = omega (arith, none);
+      };
+      little = λ empty. c.in-Ok-Some.ensures.little empty;
+      told = c.self.invariant.told;
     }
 
 pub returns-in-Ok-Some-clause-reads : goal.returns-in-Ok-Some-clause-reads
@@ -41,9 +45,9 @@ returns-in-Ok-Some-clause-reads g c =
     (Ok (Some c.in-Ok-Some.prefix)) =
     subst (λ (x : List ℕ). FindsPrefix (window c.args.table.now) c.args.last old.pending
     c.find_prefix.new.pending.items x (Ok (Some c.in-Ok-Some.prefix))) c.chunk.ensures
-    (rw c.in-Ok-Some.field-0-is at c.in-Ok-Some.ensures) in
+    (rw c.in-Ok-Some.field-0-is at c.in-Ok-Some.ensures.finds) in
     subst (λ (o : ReaderView). Answers (next_prefix (window c.args.table.now) c.args.last (o.pending ++ rest)) o new
-    (o.pending ++ rest) rest c.advance.new.self.rest [] (Ok (Prefix c.in-Ok-Some.prefix.required))) c.self.view_is
+    (o.pending ++ rest) rest c.advance.new.self.rest [] (Ok (Prefix c.in-Ok-Some.prefix.required))) (ap (λ (v : KeptReader). v.section) c.self.view_is)
     (answers_opens (window c.args.table.now) c.args.last old new c.find_prefix.new.pending.items rest
     c.advance.new.self.rest c.in-Ok-Some.prefix found
     (c.advance.ensures.rest ∙ ap (λ (n : ℕ). drop (c.in-Ok-Some.prefix.length - n) rest) waited)

@@ -1,14 +1,15 @@
 use Rattle.qpack_spec.specs.Field.{Field, field_size}
 use Rattle.std.proofs.Common.{ap, arith}
 use Rattle.qpack_base.proofs.FirstIndexes.{name_found}
-use Rattle.qpack_table.proofs.Insertions.{room_fits, room_few, room_within}
+use Rattle.qpack_table.proofs.Insertions.{room_fits, room_few, passed_within}
 use Rattle.qpack_table.proofs.dynamic.table.DynamicTable.insert_alone_in_room.Goals as goal
 
 pub insertion_of-insertion-requires-clause-few : goal.insertion_of-insertion-requires-clause-few
 insertion_of-insertion-requires-clause-few g c = room_few _ _ c.requires.room
 
-pub insertion_of-insertion-requires-clause-evicted : goal.insertion_of-insertion-requires-clause-evicted
-insertion_of-insertion-requires-clause-evicted g c = room_within _ _ _ c.requires.room c.requires.evicted
+pub insertion_of-insertion-requires-clause-passed : goal.insertion_of-insertion-requires-clause-passed
+insertion_of-insertion-requires-clause-passed g c =
+    passed_within _ _ _ _ _ c.requires.room c.requires.evicted c.passed_over.ensures
 
 pub insert_hashed-requires-clause-few : goal.insert_hashed-requires-clause-few
 insert_hashed-requires-clause-few g c = room_few _ _ c.requires.room

@@ -1,8 +1,7 @@
 use Rattle.std.proofs.Common.{◌-◌, length}
-use Rattle.qpack_table.specs.Rows.{key_of}
+use Rattle.qpack_table.specs.Rows.{key_of, Searching}
 use Rattle.qpack_table.specs.Tables.{live_fields}
 use Rattle.qpack_table.proofs.Halvings.{CountsHalved}
-use Rattle.qpack_table.proofs.RowSearches.{Searching}
 use Rattle.qpack_table.proofs.dynamic.index.row.Row.search.Given as goal
 
 abbrev pub invariant-loop-low : goal.invariant-loop-low
