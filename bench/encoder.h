@@ -12,11 +12,12 @@
 
 /* ---- The lists of one direction, as an encoder looks at them */
 
-/* A string by the Huffman code (RFC 7541, section 5.2). */
+/* A string by the Huffman code (RFC 7541, section 5.2) if that makes it shorter, else plain. */
 typedef struct {
   uint8_t *bytes;
   size_t len;
-} coded;
+  int is_coded;
+} literal;
 
 typedef struct {
   const h3_qpack_nv *nv;
@@ -26,7 +27,7 @@ typedef struct {
   int static_field, static_name;
   /* What its entry takes, in bytes. */
   size_t size;
-  coded name, value;
+  literal name, value;
 } field;
 
 typedef struct {
@@ -38,9 +39,9 @@ typedef struct {
   size_t numbers, name_numbers;
 } corpus;
 
-static inline coded encode_text(const uint8_t *text, size_t len) {
+static inline literal encode_text(const uint8_t *text, size_t len) {
   /* No code is longer than 30 bits. */
-  coded c = {malloc(4 * len + 1), 0};
+  literal c = {malloc(4 * len + 1), 0, 1};
   uint64_t pending = 0;
   int have = 0;
   CHECK(c.bytes);
@@ -49,6 +50,10 @@ static inline coded encode_text(const uint8_t *text, size_t len) {
     for (have += CODES[text[i]].bits; have >= 8; have -= 8) c.bytes[c.len++] = (uint8_t)(pending >> (have - 8));
   }
   if (have) c.bytes[c.len++] = (uint8_t)(pending << (8 - have) | 0xff >> have);
+  if (c.len < len) return c;
+  memcpy(c.bytes, text, len);
+  c.len = len;
+  c.is_coded = 0;
   return c;
 }
 
@@ -151,9 +156,9 @@ static inline void write_integer(output *o, uint8_t flags, int bits, uint64_t va
   write_bytes(o, at, write_int(at, flags, bits, value));
 }
 
-/* Writes a coded string after flags; the bit before the prefix says that it is coded (section 4.1.2). */
-static inline void write_string(output *o, uint8_t flags, int bits, const coded *c) {
-  write_integer(o, (uint8_t)(flags | 1 << bits), bits, c->len);
+/* Writes a string after flags; the bit before the prefix says whether it is coded (section 4.1.2). */
+static inline void write_string(output *o, uint8_t flags, int bits, const literal *c) {
+  write_integer(o, (uint8_t)(flags | c->is_coded << bits), bits, c->len);
   write_bytes(o, c->bytes, c->len);
 }
 
@@ -174,7 +179,7 @@ typedef struct {
 typedef struct {
   const corpus *from;
   size_t capacity, blocked;
-  /* Whether a duplicate may name the entry that its insertion evicts (RFC 9204, section 3.2.2). */
+  /* Whether an insertion may name an entry that it evicts (RFC 9204, section 3.2.2). */
   int names_evicted;
   /* The entries by their absolute indexes, which begin at 1; those up to |dropped| were evicted. */
   entry *entries;
@@ -352,7 +357,7 @@ static inline void write_named(encoder *e, const field *f, size_t absolute) {
 /* The instruction that inserts a field, where entries up to |gone| can't be named (sections 4.3.2 to 4.3.4). */
 static inline void write_insertion(encoder *e, const field *f, size_t gone) {
   size_t equal = newest_equal(e, f), named = newest_named(e, f);
-  if (equal > (e->names_evicted ? 0 : gone)) {
+  if (equal > gone) {
     write_integer(&e->stream, 0, 5, e->inserted - equal);
     return;
   }
@@ -369,7 +374,7 @@ static inline void write_insertion(encoder *e, const field *f, size_t gone) {
 /* Inserts a field for which there is room. */
 static inline void insert(encoder *e, const field *f) {
   size_t gone = last_evicted(e, f->size);
-  write_insertion(e, f, gone);
+  write_insertion(e, f, e->names_evicted ? 0 : gone);
   while (e->dropped < gone) e->used -= e->entries[++e->dropped].f->size;
   e->entries[++e->inserted] = (entry){f, 0};
   e->used += f->size;

@@ -1,6 +1,7 @@
 /* huffman CORPUS ROUNDS: what the Huffman code costs a decoder, of this library and of nghttp3, in ns a string and a
- * byte. Each name and each value of the corpus is the value of a line, and a list is a section. Every section is decoded
- * with its strings in code, and with them as they are. The cost is the difference, between the least of the rounds. */
+ * byte. Each name and each value of the corpus that the code makes shorter is the value of a line, and a list is a
+ * section. Every section is decoded with its strings in code, and with them as they are. The cost is the difference,
+ * between the least of the rounds. */
 #include "libraries.h"
 
 static const library *const libraries[] = {&this_library, &nghttp3};
@@ -36,14 +37,14 @@ static size_t encode_value(uint8_t *section, size_t room, const uint8_t *value, 
   return all.len;
 }
 
-/* Adds a string to both sections, unless it is empty. */
+/* Adds a string to both sections, if the code makes it shorter. */
 static void add_string(pair *p, const uint8_t *bytes, size_t len) {
   static uint8_t alone[1 << 16];
   uint8_t length[11];
   if (!len) return;
   size_t front = encode_value(alone, sizeof alone, bytes, 0) - 1; /* the prefix and the name, without the length 0 */
   size_t all = encode_value(alone, sizeof alone, bytes, len);
-  CHECK(alone[front] & 0x80); /* in code */
+  if (!(alone[front] & 0x80)) return; /* plain */
   append(p->coded, alone + 2, all - 2);
   append(p->plain, alone + 2, front - 2);
   append(p->plain, length, write_int(length, 0, 7, len)); /* without the mark of a string in code */

@@ -30,6 +30,7 @@ PARTS = {
     "unlikely values are not, even where there is room": {"UNLIKELY": "-1"},
     "long values have scores of their own": {"LONG": NEVER},
     "fields are inserted for their names": {"MOST_FOR_NAMES": "0"},
+    "insertions name what they evict": {"NAMES_EVICTED": "0"},
     "small tables keep what was referenced lately": {"LARGE": "1"},
     "insertions are paid at the limit": {"FIRST_BYTES": NEVER, "MOST_BYTES": NEVER},
 }

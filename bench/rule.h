@@ -4,8 +4,8 @@
 #ifndef RULE_H
 #define RULE_H
 
-/* Whether a duplicate may name the entry that its insertion evicts. */
-#define NAMES_EVICTED 0
+/* Whether an insertion may name an entry that it evicts (RFC 9204, section 3.2.2). */
+#define NAMES_EVICTED 1
 
 /* After an insertion found no room, the table is tight for this many lists. */
 #define LISTS_WITHOUT_ROOM 32
@@ -278,13 +278,14 @@ static inline int is_worth_a_copy(const rule *r, const encoder *e, const field *
          size_of_rest(r, e) + f->size <= e->capacity;
 }
 
-/* Whether a field can be inserted. In a small table nothing is evicted for it that was referenced lately. */
-static inline int can_insert(const rule *r, const encoder *e, const field *f) {
+/* Whether a field can be inserted. In a small table nothing is evicted for it that was referenced lately, except an entry that
+ * it replaces; 0 is none. */
+static inline int can_insert(const rule *r, const encoder *e, const field *f, size_t replaced) {
   if (!has_room(e, f)) return 0;
   if (e->capacity >= LARGE) return 1;
   size_t last = last_evicted(e, f->size);
   for (size_t i = e->dropped + 1; i <= last; i++)
-    if (used_last(r, i) == RECENT) return 0;
+    if (i != replaced && used_last(r, i) == RECENT) return 0;
   return 1;
 }
 
@@ -295,13 +296,13 @@ static inline choice choose_equal(rule *r, const encoder *e, const field *f, siz
   if (f->nv->flags & H3_QPACK_NV_FLAG_REUSE || entry < newest_equal(e, f)) return refer;
   if (!drains(r, entry) && !is_worth_a_copy(r, e, f, entry, last)) return refer;
   if (!e->may_block) {
-    if (can_insert(r, e, f) && !has_too_many_copies(r, e)) {
+    if (can_insert(r, e, f, 0) && !has_too_many_copies(r, e)) {
       note_copy(r, e, entry);
       refer.inserts = 1;
     }
     return refer;
   }
-  if (can_insert(r, e, f)) {
+  if (can_insert(r, e, f, last == RECENT ? 0 : entry)) {
     mark_used(r, e->inserted + 1);
     return (choice){.form = INSERTED};
   }
@@ -348,7 +349,7 @@ static inline reason wants(rule *r, const encoder *e, const field *f) {
 
 /* Whether a field is inserted that its line does not reference, which it pays for. */
 static inline int affords(rule *r, const encoder *e, const field *f) {
-  if (!can_insert(r, e, f) || length(f) > r->bytes_left) return 0;
+  if (!can_insert(r, e, f, 0) || length(f) > r->bytes_left) return 0;
   r->bytes_left -= length(f);
   return 1;
 }
@@ -384,7 +385,7 @@ static inline choice choose_new(rule *r, const encoder *e, const field *f) {
     if (inserts) note_insertion(r, e, why);
     return choose_literal(r, e, f, inserts);
   }
-  if (why == ASKED ? has_room(e, f) : can_insert(r, e, f)) {
+  if (why == ASKED ? has_room(e, f) : can_insert(r, e, f, 0)) {
     note_insertion(r, e, why);
     return (choice){.form = INSERTED};
   }

@@ -23,7 +23,9 @@
 #define COUNTED 100
 
 static const library *const libraries[] = {&this_library, &nghttp3};
-static const size_t capacities[] = {4096, 65536}, turns[] = {12, 80};
+static const size_t capacities[] = {4096, 16384, 65536}, turns[] = {12, 80};
+
+#define COUNT(array) (sizeof(array) / sizeof *(array))
 
 typedef struct {
   const library *library;
@@ -195,13 +197,13 @@ static void print_row(const char *name, setting s, const costs *c) {
 static void compare(const char *name, setting s, size_t rounds) {
   costs least[2];
   for (size_t r = 0; r < rounds; r++)
-    for (size_t l = 0; l < 2; l++) {
+    for (size_t l = 0; l < COUNT(libraries); l++) {
       s.library = libraries[l];
       costs c = run_apart(take_times, s);
       if (!r) least[l] = c;
       keep_least(&least[l], c);
     }
-  for (size_t l = 0; l < 2; l++) {
+  for (size_t l = 0; l < COUNT(libraries); l++) {
     setting few = s;
     s.library = few.library = libraries[l];
     if (few.connections > COUNTED) few.connections = COUNTED;
@@ -222,8 +224,8 @@ int main(int argc, char **argv) {
   fflush(stdout);
   for (size_t k = 0; k < TRAFFICS; k++) {
     add_traffic(&traffics[k], argv[1]);
-    for (size_t c = 0; c < 2; c++)
-      for (size_t t = 0; t < 2; t++) {
+    for (size_t c = 0; c < COUNT(capacities); c++)
+      for (size_t t = 0; t < COUNT(turns); t++) {
         setting s = {NULL, capacities[c], turns[t], connections};
         compare(traffics[k].name, s, rounds);
       }
