@@ -4,7 +4,7 @@
 #include <string.h>
 #include "server.h"
 
-options option = {.port = 4433, .capacity = 4096, .blocked = 16, .limit = 65536, .encoder_capacity = 4096,
+options option = {.port = 4433, .capacity = 4096, .blocked = 16, .limit = 65536, .encoder_capacity = 16384,
                   .folder = "www", .certificate = "certificate.pem", .key = "key.pem"};
 
 static const char usage[] =
@@ -16,7 +16,7 @@ static const char usage[] =
     "  --capacity N          SETTINGS_QPACK_MAX_TABLE_CAPACITY, in bytes; 4096\n"
     "  --blocked N           SETTINGS_QPACK_BLOCKED_STREAMS; 16\n"
     "  --limit N             SETTINGS_MAX_FIELD_SECTION_SIZE, in bytes; 65536\n"
-    "  --encoder-capacity N  capacity of the encoder's table, in bytes; 4096\n"
+    "  --encoder-capacity N  capacity of the encoder's table, in bytes; 16384\n"
     "  --late N              hold the encoder stream back for N milliseconds, so that sections arrive first; 0\n"
     "  --lose N              lose one datagram in N that arrive; 0: none\n"
     "  --log FILE            write a line of JSON for each event of QPACK\n";

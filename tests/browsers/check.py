@@ -33,7 +33,7 @@ HERE = os.path.dirname(os.path.abspath(__file__))
 SERVER = os.path.join(HERE, '..', '..', 'examples', 'http3-server')
 SETTINGS = {
     'no table': ['--capacity', '0', '--blocked', '0', '--encoder-capacity', '0'],
-    'a table of 4,096 bytes': [],
+    'a table of 4,096 bytes': ['--encoder-capacity', '4096'],
     'the encoder stream 5 ms late': ['--late', '5'],
     'a table of 65,536 bytes, one datagram in 20 lost': [
         '--capacity', '65536', '--encoder-capacity', '65536', '--blocked', '100', '--lose', '20'],

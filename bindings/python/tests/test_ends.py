@@ -326,7 +326,7 @@ class EndsTest(unittest.TestCase):
 
     def test_out_of_memory(self) -> None:
         most = 2**30 - 1
-        fields = [Field(b"x", 16 * MEGABYTE * b"\xff", wish=Wish.INSERT)]
+        fields = [Field(b"x", 16 * MEGABYTE * b"a", wish=Wish.INSERT)]
         with Encoder(max_capacity=most, max_blocked=1, capacity=most) as encoder:
             with little_memory():
                 self.refused(OutOfMemory, encoder.encode, 0, fields)
