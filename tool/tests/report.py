@@ -521,12 +521,13 @@ def test_a_recording_of_the_interop():
 
 
 def test_other_capacities():
-    """The library takes at capacity 0 what is counted without a table, and less with one."""
+    """The library takes at capacity 0 at most what is counted without a table, with every string coded; less with one."""
     library = Path(BUILT.name) / "libh3_qpack.so.0"
     if library.exists():
         for found in ask_json("stats", RECORDING, "--try", "0,4096", H3_QPACK_LIBRARY=str(library)):
             plain, usual = found["tried"]
-            check(plain, capacity=0, encoder_stream_bytes=0, bytes=found["without_table_bytes"])
+            check(plain, capacity=0, encoder_stream_bytes=0)
+            assert 0.99 * found["without_table_bytes"] < plain["bytes"] <= found["without_table_bytes"]
             assert usual["bytes"] == usual["section_bytes"] + usual["encoder_stream_bytes"] < plain["bytes"] / 2
     assert "run `make -C " in refuse("stats", RECORDING, "--try", "0", H3_QPACK_LIBRARY="/nonexistent")
 
