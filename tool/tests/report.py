@@ -521,13 +521,15 @@ def test_a_recording_of_the_interop():
 
 
 def test_other_capacities():
-    """The library takes at capacity 0 at most what is counted without a table, with every string coded; less with one."""
+    """The library takes at capacity 0 what is counted without a table, less a byte for a string that is longer in code, and
+    less with one."""
     library = Path(BUILT.name) / "libh3_qpack.so.0"
     if library.exists():
-        for found in ask_json("stats", RECORDING, "--try", "0,4096", H3_QPACK_LIBRARY=str(library)):
+        connections = ask_json("stats", RECORDING, "--try", "0,4096", H3_QPACK_LIBRARY=str(library))
+        assert len(connections) == 2
+        for found, longer in zip(connections, (0, 1)):
             plain, usual = found["tried"]
-            check(plain, capacity=0, encoder_stream_bytes=0)
-            assert 0.99 * found["without_table_bytes"] < plain["bytes"] <= found["without_table_bytes"]
+            check(plain, capacity=0, encoder_stream_bytes=0, bytes=found["without_table_bytes"] - longer)
             assert usual["bytes"] == usual["section_bytes"] + usual["encoder_stream_bytes"] < plain["bytes"] / 2
     assert "run `make -C " in refuse("stats", RECORDING, "--try", "0", H3_QPACK_LIBRARY="/nonexistent")
 
