@@ -113,8 +113,9 @@ def stub(room, crate, kept):
     source = room / "src"
     homes = find_homes(source)
     for path in sorted(source.rglob("*.rt")):
-        stubs += stub_file(path, module_of(path, source), homes,
-                           lambda function: any(function[-len(it) :] == it for it in ends))
+        stubs += stub_file(
+            path, module_of(path, source), homes, lambda function: any(function[-len(it) :] == it for it in ends)
+        )
     for function in stubs:
         folder = room / "proofs" / Path(*function)
         shutil.rmtree(folder, ignore_errors=True)

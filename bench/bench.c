@@ -165,8 +165,8 @@ static times run_alone(void) {
     double since = now();
     h3_qpack_written a = h3_qpack_encode_stateless(lists[i].nv, lists[i].len, section, sizeof section);
     end_phase(&t, ENCODE, &since);
-    h3_qpack_decoded_alone got = h3_qpack_decode_stateless(section, a.len, 1 << 20, fields,
-                                                           sizeof fields / sizeof *fields, bytes, sizeof bytes);
+    h3_qpack_decoded_alone got =
+        h3_qpack_decode_stateless(section, a.len, 1 << 20, fields, sizeof fields / sizeof *fields, bytes, sizeof bytes);
     end_phase(&t, DECODE, &since);
     CHECK(a.status == H3_QPACK_OK && got.status == H3_QPACK_OK && got.fields == lists[i].len);
     t.written += a.len;
@@ -217,10 +217,8 @@ static void add_new_field(list *l) {
                                 "location", "authorization", "origin",     "link",  "if-none-match"};
   char name[40], value[40];
   size_t which = random_below(40);
-  if (which < 30)
-    snprintf(name, sizeof name, "x-custom-header-%zu", which);
-  else
-    snprintf(name, sizeof name, "%s", named[which - 30]);
+  if (which < 30) snprintf(name, sizeof name, "x-custom-header-%zu", which);
+  else snprintf(name, sizeof name, "%s", named[which - 30]);
   snprintf(value, sizeof value, "value-%08zx-%06zu", random_below(0xffffffff), nfields);
   add_field(l, name, strlen(name), value, strlen(value), 0);
 }

@@ -90,7 +90,11 @@ extern "C" {
 extern "C" fn take(list: *mut c_void, name: *const u8, name_len: usize, value: *const u8, value_len: usize) {
     // SAFETY: nghttp3 lends the field for the length of the call, and `decode` the list.
     let (list, name, value) = unsafe {
-        (&mut *list.cast::<Owned>(), std::slice::from_raw_parts(name, name_len), std::slice::from_raw_parts(value, value_len))
+        (
+            &mut *list.cast::<Owned>(),
+            std::slice::from_raw_parts(name, name_len),
+            std::slice::from_raw_parts(value, value_len),
+        )
     };
     list.push((name.to_vec(), value.to_vec()));
 }

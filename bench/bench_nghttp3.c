@@ -27,8 +27,7 @@ size_t bench_encode(ends *ends, const nghttp3_nv *nva, size_t nvlen, uint8_t *se
   nghttp3_buf_reset(&ends->prefix);
   nghttp3_buf_reset(&ends->lines);
   nghttp3_buf_reset(&ends->instructions);
-  if (nghttp3_qpack_encoder_encode(ends->encoder, &ends->prefix, &ends->lines, &ends->instructions, 0, nva, nvlen))
-    abort();
+  if (nghttp3_qpack_encoder_encode(ends->encoder, &ends->prefix, &ends->lines, &ends->instructions, 0, nva, nvlen)) abort();
   size_t front = nghttp3_buf_len(&ends->prefix), rest = nghttp3_buf_len(&ends->lines);
   memcpy(section, ends->prefix.pos, front);
   memcpy(section + front, ends->lines.pos, rest);

@@ -19,13 +19,9 @@ typedef struct {
   size_t *begins, *lists;
 } occurrences;
 
-static size_t field_number(const field *f) {
-  return f->number;
-}
+static size_t field_number(const field *f) { return f->number; }
 
-static size_t name_number(const field *f) {
-  return f->name_number;
-}
+static size_t name_number(const field *f) { return f->name_number; }
 
 static occurrences find_occurrences(const corpus *c, size_t (*number_of)(const field *), size_t numbers) {
   occurrences o = {make_zeros(numbers + 2, sizeof *o.begins), make_zeros(c->nfields + 1, sizeof *o.lists)};
@@ -270,18 +266,14 @@ static size_t exchange_model(void *ends, uint64_t stream_id, const list *l, answ
   return m->model->section.len + m->model->stream.len;
 }
 
-static void hear_by_model(void *ends, const answer *answer) {
-  hear_model(((model_ends *)ends)->model, answer);
-}
+static void hear_by_model(void *ends, const answer *answer) { hear_model(((model_ends *)ends)->model, answer); }
 
 static size_t exchange_ours(void *ends, uint64_t stream_id, const list *l, answer *answer) {
   our_ends *o = ends;
   return exchange_list(&o->encoder, &o->decoder, stream_id, l->nv, l->len, answer);
 }
 
-static void hear_by_ours(void *ends, const answer *answer) {
-  hear(&((our_ends *)ends)->encoder, answer->bytes, answer->len);
-}
+static void hear_by_ours(void *ends, const answer *answer) { hear(&((our_ends *)ends)->encoder, answer->bytes, answer->len); }
 
 /* Returns the bytes of a model. */
 static size_t play_model(direction d, const corpus *c, setting s, chooser by, int names_evicted) {

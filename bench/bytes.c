@@ -34,9 +34,7 @@ static size_t play_one_way(const library *library, setting s, int responses) {
   return bytes;
 }
 
-static size_t play(const library *library, setting s) {
-  return play_one_way(library, s, 0) + play_one_way(library, s, 1);
-}
+static size_t play(const library *library, setting s) { return play_one_way(library, s, 0) + play_one_way(library, s, 1); }
 
 static void print_row(const char *corpus, setting s) {
   size_t ours = play(&this_library, s), theirs = play(&nghttp3, s);

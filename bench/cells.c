@@ -83,9 +83,7 @@ static size_t exchange_model(void *e, uint64_t stream_id, const list *l, answer 
   return add_bytes(&m->tally, wire.section_len + wire.stream_len);
 }
 
-static void hear_by_model(void *e, const answer *answer) {
-  hear_model(((model_ends *)e)->model, answer);
-}
+static void hear_by_model(void *e, const answer *answer) { hear_model(((model_ends *)e)->model, answer); }
 
 static tally play_rule(direction d, const corpus *c, setting s) {
   static const player by_model = {exchange_model, hear_by_model};

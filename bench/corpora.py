@@ -156,9 +156,7 @@ def make_grpc_responses(numbers):
 
 
 HOSTS = ("vod-a.cdn.example.net", "vod-b.cdn.example.net", "audio.cdn.example.net", "img.example.net")
-PLAYER = (
-    "Mozilla/5.0 (X11; Linux x86_64) AppleWebKit/537.36 (KHTML, like Gecko) Chrome/141.0.0.0 Safari/537.36"
-)
+PLAYER = "Mozilla/5.0 (X11; Linux x86_64) AppleWebKit/537.36 (KHTML, like Gecko) Chrome/141.0.0.0 Safari/537.36"
 # How often a track is fetched before its query is signed again.
 FETCHES_A_SIGNATURE = 40
 

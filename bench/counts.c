@@ -58,9 +58,7 @@ void *__wrap_malloc(size_t size) {
   return block;
 }
 
-void *__wrap_calloc(size_t count, size_t size) {
-  return memset(__wrap_malloc(count * size), 0, count * size);
-}
+void *__wrap_calloc(size_t count, size_t size) { return memset(__wrap_malloc(count * size), 0, count * size); }
 
 void __wrap_free(void *p) {
   if (!p) return;
@@ -167,13 +165,9 @@ typedef struct {
 /* Between these, counts.py has callgrind count. Each does something else, so that no compiler makes them one function. */
 static volatile int is_counted;
 
-NAMED static void begin_setting(void) {
-  is_counted = 1;
-}
+NAMED static void begin_setting(void) { is_counted = 1; }
 
-NAMED static void end_setting(void) {
-  is_counted = 0;
-}
+NAMED static void end_setting(void) { is_counted = 0; }
 
 /* Plays a list on a connection, with cold caches before the phase |cold|. The stack of each call begins at a line, as
  * |before| does. */

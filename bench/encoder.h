@@ -231,28 +231,20 @@ static inline void close_model(encoder *e) {
   free(e);
 }
 
-static inline size_t live_or_none(const encoder *e, size_t absolute) {
-  return absolute > e->dropped ? absolute : 0;
-}
+static inline size_t live_or_none(const encoder *e, size_t absolute) { return absolute > e->dropped ? absolute : 0; }
 
 /* Returns the newest entry that equals a field, or 0. */
-static inline size_t newest_equal(const encoder *e, const field *f) {
-  return live_or_none(e, e->newest[f->number]);
-}
+static inline size_t newest_equal(const encoder *e, const field *f) { return live_or_none(e, e->newest[f->number]); }
 
 /* Returns the newest entry with the name of a field, or 0. */
-static inline size_t newest_named(const encoder *e, const field *f) {
-  return live_or_none(e, e->newest_name[f->name_number]);
-}
+static inline size_t newest_named(const encoder *e, const field *f) { return live_or_none(e, e->newest_name[f->name_number]); }
 
 static inline int is_equal(const encoder *e, size_t absolute, const field *f) {
   return absolute > e->dropped && absolute <= e->inserted && e->entries[absolute].f->number == f->number;
 }
 
 /* Whether an entry may be referenced: the section may be blocked, or it is known that the entry was received. */
-static inline int may_reference(const encoder *e, size_t absolute) {
-  return e->may_block || absolute <= e->known;
-}
+static inline int may_reference(const encoder *e, size_t absolute) { return e->may_block || absolute <= e->known; }
 
 /* Returns which entry is the last that has to be evicted for that many bytes, whether it can be or not. */
 static inline size_t last_evicted(const encoder *e, size_t size) {
@@ -305,9 +297,7 @@ typedef struct {
   choice (*choose)(void *state, const encoder *e, const field *f);
 } chooser;
 
-static inline int is_never_indexed(const field *f) {
-  return f->nv->flags & H3_QPACK_NV_FLAG_NEVER_INDEX;
-}
+static inline int is_never_indexed(const field *f) { return f->nv->flags & H3_QPACK_NV_FLAG_NEVER_INDEX; }
 
 /* ---- Lines and instructions */
 

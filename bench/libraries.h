@@ -66,9 +66,7 @@ static void encode_ours(connection *c, uint64_t stream_id, const list *l, wire *
 }
 
 /* All is there already. */
-static void collect_ours(wire *w) {
-  (void)w;
-}
+static void collect_ours(wire *w) { (void)w; }
 
 static void receive_ours(connection *c, const wire *w) {
   h3_qpack_decoder *d = &c->ours.decoder;
@@ -100,17 +98,11 @@ static void report_ours(connection *c, answer *answer) {
   answer->len = h3_qpack_decoder_write_decoder(&c->ours.decoder, answer->bytes, sizeof answer->bytes);
 }
 
-static void hear_ours(connection *c, const answer *answer) {
-  hear(&c->ours.encoder, answer->bytes, answer->len);
-}
+static void hear_ours(connection *c, const answer *answer) { hear(&c->ours.encoder, answer->bytes, answer->len); }
 
-static void close_our_decoder(connection *c) {
-  h3_qpack_decoder_del(&c->ours.decoder);
-}
+static void close_our_decoder(connection *c) { h3_qpack_decoder_del(&c->ours.decoder); }
 
-static void close_our_encoder(connection *c) {
-  h3_qpack_encoder_del(&c->ours.encoder);
-}
+static void close_our_encoder(connection *c) { h3_qpack_encoder_del(&c->ours.encoder); }
 
 /* What all encoders of nghttp3 write to, as all connections of a program do. */
 static nghttp3_buf prefix, lines, instructions;
@@ -128,8 +120,7 @@ static void encode_theirs(connection *c, uint64_t stream_id, const list *l, wire
   nghttp3_buf_reset(&prefix);
   nghttp3_buf_reset(&lines);
   nghttp3_buf_reset(&instructions);
-  CHECK(!nghttp3_qpack_encoder_encode(c->theirs.encoder, &prefix, &lines, &instructions, (int64_t)stream_id, l->ng,
-                                      l->len));
+  CHECK(!nghttp3_qpack_encoder_encode(c->theirs.encoder, &prefix, &lines, &instructions, (int64_t)stream_id, l->ng, l->len));
   w->section_len = nghttp3_buf_len(&prefix) + nghttp3_buf_len(&lines);
   w->stream_len = nghttp3_buf_len(&instructions);
 }
@@ -169,8 +160,8 @@ static size_t copy_theirs(connection *c, uint64_t stream_id, const wire *w) {
   CHECK(!nghttp3_qpack_stream_context_new(&context, (int64_t)stream_id, &their_memory));
   while (!(flags & NGHTTP3_QPACK_DECODE_FLAG_FINAL)) {
     nghttp3_qpack_nv nv;
-    nghttp3_ssize taken = nghttp3_qpack_decoder_read_request(c->theirs.decoder, context, &nv, &flags, from,
-                                                             (size_t)(end - from), 1);
+    nghttp3_ssize taken =
+        nghttp3_qpack_decoder_read_request(c->theirs.decoder, context, &nv, &flags, from, (size_t)(end - from), 1);
     CHECK(taken >= 0 && !(flags & NGHTTP3_QPACK_DECODE_FLAG_BLOCKED));
     from += taken;
     if (!(flags & NGHTTP3_QPACK_DECODE_FLAG_EMIT)) continue;
@@ -194,20 +185,15 @@ static void hear_theirs(connection *c, const answer *answer) {
   CHECK(taken == (nghttp3_ssize)answer->len);
 }
 
-static void close_their_decoder(connection *c) {
-  nghttp3_qpack_decoder_del(c->theirs.decoder);
-}
+static void close_their_decoder(connection *c) { nghttp3_qpack_decoder_del(c->theirs.decoder); }
 
-static void close_their_encoder(connection *c) {
-  nghttp3_qpack_encoder_del(c->theirs.encoder);
-}
+static void close_their_encoder(connection *c) { nghttp3_qpack_encoder_del(c->theirs.encoder); }
 
-static const library this_library = {
-    "h3_qpack", open_ours,   encode_ours, collect_ours,      receive_ours,     decode_ours,
-    copy_ours,  report_ours, hear_ours,   close_our_decoder, close_our_encoder};
-static const library nghttp3 = {
-    "nghttp3",   open_theirs,   encode_theirs, collect_theirs,      receive_theirs,     decode_theirs,
-    copy_theirs, report_theirs, hear_theirs,   close_their_decoder, close_their_encoder};
+static const library this_library = {"h3_qpack", open_ours,   encode_ours, collect_ours,      receive_ours,     decode_ours,
+                                     copy_ours,  report_ours, hear_ours,   close_our_decoder, close_our_encoder};
+static const library nghttp3 = {"nghttp3",      open_theirs,         encode_theirs,      collect_theirs,
+                                receive_theirs, decode_theirs,       copy_theirs,        report_theirs,
+                                hear_theirs,    close_their_decoder, close_their_encoder};
 
 static inline void close_both(const library *library, connection *c) {
   library->close_decoder(c);

@@ -52,8 +52,7 @@ static void print_choices(const encoder *e, const noted *n) {
          e->may_block ? "" : "not ", e->base, e->dropped, e->known, e->used, n->rule.draining);
   for (size_t i = e->from->begins[list]; i < e->from->begins[list + 1]; i++) {
     const field *f = &e->from->fields[i];
-    printf("  %.*s: %.*s: ", (int)f->nv->namelen, (const char *)f->nv->name, (int)f->nv->valuelen,
-           (const char *)f->nv->value);
+    printf("  %.*s: %.*s: ", (int)f->nv->namelen, (const char *)f->nv->name, (int)f->nv->valuelen, (const char *)f->nv->value);
     if (f->static_field >= 0 && !is_never_indexed(f)) {
       printf("static\n");
       continue;

@@ -46,9 +46,7 @@ static inline int begins_with(const list *l, const char *name) {
 }
 
 /* A list without the fields that requests and responses begin with is of trailers. */
-static inline int are_trailers(const list *l) {
-  return !l->len || !l->nv[0].namelen || l->nv[0].name[0] != ':';
-}
+static inline int are_trailers(const list *l) { return !l->len || !l->nv[0].namelen || l->nv[0].name[0] != ':'; }
 
 /* Returns all requests of the lists, or all responses. Trailers go with the list before them. */
 static inline direction lists_of(int responses) {

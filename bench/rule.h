@@ -86,9 +86,7 @@ typedef struct {
   size_t names_left, bytes_left;
 } rule;
 
-static inline size_t least_of(size_t a, size_t b) {
-  return a < b ? a : b;
-}
+static inline size_t least_of(size_t a, size_t b) { return a < b ? a : b; }
 
 /* Returns how many sets the history has. */
 static inline size_t count_sets(size_t capacity) {
@@ -103,13 +101,9 @@ static inline void begin_rule(rule *r, size_t capacity) {
   r->sets = count_sets(capacity);
 }
 
-static inline int drains(const rule *r, size_t absolute) {
-  return absolute <= r->draining;
-}
+static inline int drains(const rule *r, size_t absolute) { return absolute <= r->draining; }
 
-static inline int is_tight(const rule *r) {
-  return r->lists_since <= LISTS_WITHOUT_ROOM;
-}
+static inline int is_tight(const rule *r) { return r->lists_since <= LISTS_WITHOUT_ROOM; }
 
 /* Returns the sizes of the entries after those that drain. */
 static inline size_t size_of_rest(const rule *r, const encoder *e) {
@@ -147,13 +141,9 @@ static inline last_use used_last(const rule *r, size_t absolute) {
   return (r->list + LISTS - (mark - FIRST_LIST)) % LISTS <= LATELY ? RECENT : EARLIER;
 }
 
-static inline void mark_used(rule *r, size_t absolute) {
-  r->marks[absolute % MARKS] = (uint8_t)(r->list + FIRST_LIST);
-}
+static inline void mark_used(rule *r, size_t absolute) { r->marks[absolute % MARKS] = (uint8_t)(r->list + FIRST_LIST); }
 
-static inline void mark_unused(rule *r, size_t absolute, last_use why) {
-  r->marks[absolute % MARKS] = (uint8_t)why;
-}
+static inline void mark_unused(rule *r, size_t absolute, last_use why) { r->marks[absolute % MARKS] = (uint8_t)why; }
 
 /* Notes that the next entry is a copy of this one. */
 static inline void note_copy(rule *r, const encoder *e, size_t original) {
@@ -185,8 +175,7 @@ static inline uint64_t little_endian(const uint8_t *at, size_t len) {
 static inline uint64_t hash_bytes(uint64_t hash, const uint8_t *at, size_t len) {
   static const uint64_t factor = 0xE7037ED1A0B428DBu;
   hash ^= len;
-  for (; len >= 16; at += 16, len -= 16)
-    hash = fold_product(hash ^ little_endian(at, 8), factor ^ little_endian(at + 8, 8));
+  for (; len >= 16; at += 16, len -= 16) hash = fold_product(hash ^ little_endian(at, 8), factor ^ little_endian(at + 8, 8));
   if (len >= 8) return fold_product(hash ^ little_endian(at, 8), factor ^ little_endian(at + len - 8, 8));
   if (len >= 4) return fold_product(hash ^ little_endian(at, 4), factor ^ little_endian(at + len - 4, 4));
   uint64_t few = 0;
@@ -222,21 +211,13 @@ static inline uint8_t *score_of(rule *r, const field *f, hashes h) {
   return &r->scores[(h.name >> 24) ^ of_long];
 }
 
-static inline void raise_score(uint8_t *score) {
-  *score = *score > 255 - SCORE_GAIN ? 255 : (uint8_t)(*score + SCORE_GAIN);
-}
+static inline void raise_score(uint8_t *score) { *score = *score > 255 - SCORE_GAIN ? 255 : (uint8_t)(*score + SCORE_GAIN); }
 
-static inline void lower_score(uint8_t *score) {
-  *score = (uint8_t)(*score - (*score + SCORE_LOSS - 1) / SCORE_LOSS);
-}
+static inline void lower_score(uint8_t *score) { *score = (uint8_t)(*score - (*score + SCORE_LOSS - 1) / SCORE_LOSS); }
 
-static inline size_t length(const field *f) {
-  return f->size - ENTRY_OVERHEAD;
-}
+static inline size_t length(const field *f) { return f->size - ENTRY_OVERHEAD; }
 
-static inline void gain_name(rule *r) {
-  r->names_left = least_of(r->names_left + GAIN, MOST_FOR_NAMES);
-}
+static inline void gain_name(rule *r) { r->names_left = least_of(r->names_left + GAIN, MOST_FOR_NAMES); }
 
 /* Notes that an equal field references an entry, and returns when one did before. */
 static inline last_use note_equal(rule *r, const encoder *e, const field *f, size_t entry) {

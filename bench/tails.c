@@ -50,9 +50,7 @@ typedef struct {
   uint64_t at;
 } mark;
 
-static mark begin(void) {
-  return (mark){allocated, allocations, now()};
-}
+static mark begin(void) { return (mark){allocated, allocations, now()}; }
 
 static void end(costs *c, int call, size_t number, mark m) {
   float ns = (float)(now() - m.at);
@@ -104,9 +102,9 @@ static int compare(const void *one, const void *other) {
 static void print_rows(const library *library, size_t capacity, size_t count, costs *c) {
   for (int call = 0; call < CALLS; call++) {
     qsort(c->ns[call], count, sizeof(float), compare);
-    printf("%s\t%zu\t%s\t%.0f\t%.0f\t%.0f\t%zu\t%zu\n", library->name, capacity, calls[call],
-           (double)c->ns[call][count / 2], (double)c->ns[call][count - 1 - count / 10000],
-           (double)c->ns[call][count - 1], c->allocated[call], c->allocations[call]);
+    printf("%s\t%zu\t%s\t%.0f\t%.0f\t%.0f\t%zu\t%zu\n", library->name, capacity, calls[call], (double)c->ns[call][count / 2],
+           (double)c->ns[call][count - 1 - count / 10000], (double)c->ns[call][count - 1], c->allocated[call],
+           c->allocations[call]);
   }
 }
 

@@ -43,7 +43,7 @@ static inline void add_token(list *l, size_t number) {
 
 /* Calls of a few methods of a service. All but the path, the deadline, the token and the ids are the same. */
 static inline void make_grpc(void) {
-  static const char *const methods[] = {"GetItem",   "ListItems", "GetPrice",   "Search",  "AddToCart", "GetCart",
+  static const char *const methods[] = {"GetItem",    "ListItems", "GetPrice",   "Search",  "AddToCart", "GetCart",
                                         "PlaceOrder", "GetOrder",  "ListOrders", "Reserve", "Release",   "Watch"};
   for (size_t i = 0; i < MADE; i++) {
     char path[64], timeout[16];
@@ -107,8 +107,6 @@ static inline void add_traffic(const traffic *t, const char *data) {
 }
 
 /* The list of a connection in a turn: each begins at another one. */
-static inline const list *list_in_turn(size_t connection, size_t turn) {
-  return &lists[(31 * connection + turn) % nlists];
-}
+static inline const list *list_in_turn(size_t connection, size_t turn) { return &lists[(31 * connection + turn) % nlists]; }
 
 #endif

@@ -84,8 +84,7 @@ static void fill_tables(kind k) {
   end_case("encode into a table that grows", kinds[k], size, 0);
   size_t len = sent.len;
   begin_case();
-  for (size_t i = 0; i < calls; i++)
-    CHECK(heard(&e, encode_as(&e, 0, &f[i], H3_QPACK_NV_FLAG_REUSE, &sent)) == i + 1);
+  for (size_t i = 0; i < calls; i++) CHECK(heard(&e, encode_as(&e, 0, &f[i], H3_QPACK_NV_FLAG_REUSE, &sent)) == i + 1);
   end_case("encode an entry", kinds[k], calls, 0);
   CHECK(sent.len == len);
   begin_case();
@@ -399,7 +398,8 @@ static void send_bytes(void) {
   CHECK(h3_qpack_encoder_encode(&e, 0, &nv, 1, section, sizeof section).required == 1);
   size_t len = h3_qpack_encoder_get_encoder_streamlen(&e);
   begin_case();
-  for (sent = 0; h3_qpack_encoder_write_encoder(&e, &byte, 1); sent++) {}
+  for (sent = 0; h3_qpack_encoder_write_encoder(&e, &byte, 1); sent++) {
+  }
   end_case("write_encoder", "byte by byte", sent, sent);
   CHECK(sent == len && sent > size && !most_taken());
   h3_qpack_encoder_del(&e);
@@ -429,7 +429,11 @@ static void block_all(void) {
   for (size_t i = 0; i < 100; i++) CHECK(h3_qpack_decoder_cancel_stream(&d, most + i) == H3_QPACK_OK);
   end_case("cancel_stream", "beside n blocked streams", 100, 0);
   CHECK(h3_qpack_decoder_get_num_blocked(&d) == most && !h3_qpack_decoder_next_ready(&d, &id));
-  CHECK(h3_qpack_decoder_read_encoder(&d, (const uint8_t *)"\x41" "a\1b", 4).status == H3_QPACK_OK);
+  CHECK(h3_qpack_decoder_read_encoder(&d,
+                                      (const uint8_t *)"\x41"
+                                                       "a\1b",
+                                      4)
+            .status == H3_QPACK_OK);
   begin_case();
   for (size_t i = 0; i < most; i++) {
     CHECK(h3_qpack_decoder_next_ready(&d, &id));
@@ -450,11 +454,9 @@ static void block_all(void) {
 /* ---- Lengths and capacities that are only declared: no memory is asked for. */
 
 static void declare(void) {
-  static const char *const refused[] = {
-      "\x5f\xff\xff\xff\xff\xff\xff\xff\xff\x7f", "\x7f\xff\xff\xff\xff\xff\xff\xff\xff\x7f",
-      "\xc1\xff\xff\xff\xff\xff\xff\xff\xff\x7f", "\x3f\xe0\xff\xff\xff\x03"};
-  static const char *const cut[] = {"\x27\xff\xff\xff\xff\xff\xff\xff\xff\x7f",
-                                    "\x2f\xff\xff\xff\xff\xff\xff\xff\xff\x7f",
+  static const char *const refused[] = {"\x5f\xff\xff\xff\xff\xff\xff\xff\xff\x7f", "\x7f\xff\xff\xff\xff\xff\xff\xff\xff\x7f",
+                                        "\xc1\xff\xff\xff\xff\xff\xff\xff\xff\x7f", "\x3f\xe0\xff\xff\xff\x03"};
+  static const char *const cut[] = {"\x27\xff\xff\xff\xff\xff\xff\xff\xff\x7f", "\x2f\xff\xff\xff\xff\xff\xff\xff\xff\x7f",
                                     "\x51\x7f\xff\xff\xff\xff\xff\xff\xff\x7f"};
   for (size_t i = 0; i < 4; i++) {
     h3_qpack_decoder d;

@@ -112,7 +112,7 @@ typedef struct {
 } field;
 
 static inline void write_digits(uint8_t *at, uint64_t number) {
-  for (int i = 0; i < 16; i++, number /= 16) at[i] = (uint8_t)"0123456789abcdef"[number % 16];
+  for (int i = 0; i < 16; i++, number /= 16) at[i] = (uint8_t) "0123456789abcdef"[number % 16];
 }
 
 /* The factor of the table's hash under the seed 0, which is no secret. */
@@ -207,9 +207,7 @@ static inline size_t heard(h3_qpack_encoder *e, size_t required) {
 }
 
 /* Encodes a field that is to be inserted, and acknowledges its section. */
-static inline size_t encode_heard(h3_qpack_encoder *e, const field *f, bytes *sent) {
-  return heard(e, encode(e, 0, f, sent));
-}
+static inline size_t encode_heard(h3_qpack_encoder *e, const field *f, bytes *sent) { return heard(e, encode(e, 0, f, sent)); }
 
 static inline h3_qpack_decoded decode(h3_qpack_decoder *d, uint64_t stream_id, const bytes *b) {
   return h3_qpack_decoder_decode(d, stream_id, b->at, b->len);

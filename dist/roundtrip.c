@@ -38,8 +38,7 @@ int main(void) {
   if (got.status == H3_QPACK_BLOCKED) printf("blocked until insertion %zu\n", got.required); /* keep the section */
   if (h3_qpack_decoder_read_encoder(&decoder, stream, len).status) return 1;
   uint64_t ready; /* a stream whose section can be decoded now */
-  while (h3_qpack_decoder_next_ready(&decoder, &ready))
-    got = h3_qpack_decoder_decode(&decoder, ready, section, sent.len);
+  while (h3_qpack_decoder_next_ready(&decoder, &ready)) got = h3_qpack_decoder_decode(&decoder, ready, section, sent.len);
   if (got.status) return 1;
   for (size_t i = 0; i < got.fields; i++) {
     h3_qpack_field f = h3_qpack_decoder_field(&decoder, i, text, sizeof text);

@@ -38,7 +38,7 @@ def is_compared(section):
 
 def text_at(table, at):
     """Returns the text that ends in a zero byte."""
-    return table[at:table.index(b"\0", at)].decode()
+    return table[at : table.index(b"\0", at)].decode()
 
 
 def place_of(name, section, value):
@@ -52,11 +52,14 @@ def read_elf(data):
         raise Unread("it is no object of ELF with 64 bits")
     start, size, count, names = (struct.unpack_from("<Q", data, 40)[0], *struct.unpack_from("<HHH", data, 58))
     heads = [struct.unpack_from("<IIQQQQIIQQ", data, start + size * at) for at in range(count)]
-    body = [data[it[4]:it[4] + it[5]] if it[1] != 8 else bytes(it[5]) for it in heads]
+    body = [data[it[4] : it[4] + it[5]] if it[1] != 8 else bytes(it[5]) for it in heads]
     texts = body[names]
     # The flags 2 and 4: it is loaded, and has code. The types 1 and 7: it has bytes of the program, or notes.
-    loaded = {at: Section(text_at(texts, it[0]), "code" if it[2] & 4 else "data", body[at])
-              for at, it in enumerate(heads) if it[2] & 2 and it[1] == 1}
+    loaded = {
+        at: Section(text_at(texts, it[0]), "code" if it[2] & 4 else "data", body[at])
+        for at, it in enumerate(heads)
+        if it[2] & 2 and it[1] == 1
+    }
     loaded = {at: it for at, it in loaded.items() if is_compared(it)}
     order = {at: number for number, at in enumerate(loaded)}
     table = next(at for at, it in enumerate(heads) if it[1] == 2)
@@ -69,9 +72,9 @@ def read_elf(data):
             continue
         for entry in range(0, it[5], 24):
             offset, info, distance = struct.unpack_from("<QQq", body[at], entry)
-            if info & 0xffffffff not in ELF_CALLS:
+            if info & 0xFFFFFFFF not in ELF_CALLS:
                 raise Unread(f"a relocation of the kind {info & 0xffffffff}")
-            loaded[it[7]].relocations.append((offset, ELF_CALLS[info & 0xffffffff], *lead(symbols[info >> 32], distance)))
+            loaded[it[7]].relocations.append((offset, ELF_CALLS[info & 0xFFFFFFFF], *lead(symbols[info >> 32], distance)))
     return list(loaded.values())
 
 
@@ -86,7 +89,7 @@ def read_coff(data):
     machine, count, _, table, symbol_count, _, _ = struct.unpack_from("<HHIIIHH", data)
     if machine != 0x8664:
         raise Unread("it is no object of COFF for x86-64")
-    strings = data[table + 18 * symbol_count:]
+    strings = data[table + 18 * symbol_count :]
 
     def name_of(raw):
         return text_at(strings, struct.unpack("<I", raw[4:])[0]) if raw[:4] == bytes(4) else raw.rstrip(b"\0").decode()
@@ -97,8 +100,8 @@ def read_coff(data):
         name = it[0].rstrip(b"\0").decode()
         name = text_at(strings, int(name[1:])) if name.startswith("/") else name
         kind = "code" if it[9] & 0x20 else "data"  # IMAGE_SCN_CNT_CODE
-        section = Section(name, kind, bytearray(data[it[4]:it[4] + it[3]]))
-        if not it[9] & 0xa80 and is_compared(section):  # it has bytes, is no note, and is not to be removed
+        section = Section(name, kind, bytearray(data[it[4] : it[4] + it[3]]))
+        if not it[9] & 0xA80 and is_compared(section):  # it has bytes, is no note, and is not to be removed
             loaded[at] = section
     order = {at: number for number, at in enumerate(loaded)}
     symbols, at = [], 0
@@ -112,8 +115,8 @@ def read_coff(data):
             size = 8 if kind == COFF_ADDRESS else 4
             if kind != COFF_ADDRESS and not 4 <= kind <= 9:
                 raise Unread(f"a relocation of the kind {kind}")
-            distance = int.from_bytes(section.bytes[offset:offset + size], "little", signed=True)
-            section.bytes[offset:offset + size] = bytes(size)
+            distance = int.from_bytes(section.bytes[offset : offset + size], "little", signed=True)
+            section.bytes[offset : offset + size] = bytes(size)
             # REL32 counts from behind the field, and REL32_n from n bytes further. ELF counts from the field.
             distance -= 0 if kind == COFF_ADDRESS else kind
             section.relocations.append((offset, size, *lead(symbols[symbol], distance)))

@@ -66,8 +66,19 @@ def draw(label, value, color):
     lengths = [round(len(it) * LETTER) for it in (label, value)]
     left, right = (it + 2 * SIDE for it in lengths)
     return BADGE.format(
-        svg=SVG, label=html.escape(label), value=html.escape(value), label_length=lengths[0], value_length=lengths[1],
-        left=left, right=right, width=left + right, value_at=left + SIDE, height=HEIGHT, side=SIDE, grey=GREY, color=color,
+        svg=SVG,
+        label=html.escape(label),
+        value=html.escape(value),
+        label_length=lengths[0],
+        value_length=lengths[1],
+        left=left,
+        right=right,
+        width=left + right,
+        value_at=left + SIDE,
+        height=HEIGHT,
+        side=SIDE,
+        grey=GREY,
+        color=color,
     )
 
 

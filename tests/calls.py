@@ -22,8 +22,19 @@ NAMES = TOP / "docs" / "h3-lacks.tsv"
 OF_H3 = ("h3_qpack", "qpack_codec", "qpack_table", "qpack_wire", "qpack_base", "qpack_rules", "qpack_spec")
 # The crates with calls, those that a user begins with first. The header is over the calls of h3_qpack_c.
 OF_CALLS = [
-    "qpack_ends", "qpack_connection", "h3_qpack", "qpack_codec", "qpack_table", "qpack_wire", "qpack_base", "h3_qpack_c",
-    "qpk_show", "qpk_view", "qpk_check", "qpk_qif", "qpk",
+    "qpack_ends",
+    "qpack_connection",
+    "h3_qpack",
+    "qpack_codec",
+    "qpack_table",
+    "qpack_wire",
+    "qpack_base",
+    "h3_qpack_c",
+    "qpk_show",
+    "qpk_view",
+    "qpk_check",
+    "qpk_qif",
+    "qpk",
 ]
 # What a type, a trait or a call begins with, at the start of a line or in the block of a type.
 BLOCK = re.compile(r"^(?:impl(?:<.*?>)? (?:[\w<>', ]+ for )?|pub trait )(\w+)")
@@ -99,7 +110,7 @@ class Module:
             if not line.strip().startswith("//"):
                 head.append(line)
         text = "\n".join(head)
-        return text[text.find("ensures"):] if "ensures" in text else ""
+        return text[text.find("ensures") :] if "ensures" in text else ""
 
 
 def modules_of(crate, known):

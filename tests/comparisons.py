@@ -43,7 +43,12 @@ COMPARISON = re.compile(r"[^=!<>]==[^=]|!=|\.(?:cmp|partial_cmp|eq|ne|starts_wit
 # A breach of each rule: its file, a text that occurs in it once, what takes its place, and a word of what must be found.
 PLANTED = [
     ("dynamic/comparing.rt", "    fn raise(&mut self)", "    pub(super) fn raise(&mut self)", "private"),
-    ("dynamic/comparing.rt", "    steps.raise();\n    let line = entry.as_line();", "    let line = entry.as_line();", "no function"),
+    (
+        "dynamic/comparing.rt",
+        "    steps.raise();\n    let line = entry.as_line();",
+        "    let line = entry.as_line();",
+        "no function",
+    ),
     ("dynamic/entries.rt", "        self.field.mem_size()", "        self.field().mem_size()", "mem_size reads"),
     (
         "dynamic/sorted.rt",

@@ -39,7 +39,10 @@ for name in null zero full random urandom; do : >"dev/$name" && mount --bind "/d
 for name in "$@"; do mkdir -p ".$name" && mount --bind "$name" ".$name"; done
 chroot=$(PATH=$PATH:/usr/sbin:/sbin command -v chroot)
 exec "$chroot" --userspec=%s:%s "$root" /bin/sh -c 'cd "$0" && eval "$1"' "$folder" "$command"
-""" % (USER, USER)
+""" % (
+    USER,
+    USER,
+)
 # What must hold in it: the user is not root, there is no kit, only a network of its own, and no library.
 HOLDS = f"""[ "$(id -u)" = {USER} ] && ! command -v rt &&
 [ "$(tail -n +3 /proc/net/dev | cut -d : -f 1 | tr -d ' ')" = lo ] &&

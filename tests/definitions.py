@@ -26,7 +26,7 @@ EXAMPLES = re.compile(r"--.*(?:[Ww]orked|examples)")
 
 def plain(comment, mark):
     """Returns the first paragraph of a comment, whose lines begin with the mark, as one line. A diagram ends it too."""
-    lines = [it.strip()[len(mark):].strip() for it in comment.splitlines()]
+    lines = [it.strip()[len(mark) :].strip() for it in comment.splitlines()]
     end = next((at for at, it in enumerate(lines) if not it or "   " in it), len(lines))
     return re.sub(r"\[(`[^`]*`)\]\([^)]*\)", r"\1", " ".join(lines[:end]))
 
@@ -75,6 +75,7 @@ def table(heads, rows):
 
 def write_front(crates):
     """Returns the text at the front, with the comments of the definitions that it names."""
+
     def rows(found):
         lines = []
         for line in found[1].split():
@@ -85,6 +86,7 @@ def write_front(crates):
                 sys.exit(f"tests/definitions.md: {line} has no comment, or is no public definition")
             lines.append((f"`{name}`", cell(comment), f"`{crate}`: `{file}`"))
         return "\n".join(table(("definition", "what it is", "file"), lines))
+
     return re.sub(r"\{\{definitions\n(.*?)\n\}\}", rows, FRONT.read_text(encoding="utf-8"), flags=re.S).rstrip("\n")
 
 
@@ -96,8 +98,13 @@ def write_laws():
         for comment, name in LAW.findall(path.read_text(encoding="utf-8")):
             module = "" if path.stem == "lib" else f"{path.stem}::"
             rows.append((cell(plain(comment, "///")), f"`{crate}::{module}{name}`"))
-    return ["## Laws", "", "Each is proved of the definitions, as the contract of a function that does nothing.", "",
-            *table(("what it says", "function"), rows)]
+    return [
+        "## Laws",
+        "",
+        "Each is proved of the definitions, as the contract of a function that does nothing.",
+        "",
+        *table(("what it says", "function"), rows),
+    ]
 
 
 def write_examples():
@@ -108,8 +115,13 @@ def write_examples():
         if EXAMPLES.match(text):
             said = plain(re.match(r"(?:--.*\n)*", text)[0], "--")
             rows.append((cell(said), f"`{path.relative_to(CRATES).parts[0]}`: `{path.stem}`"))
-    return ["## Worked examples", "", "Each is a definition at worked bytes or values, which the checker computes.", "",
-            *table(("what it is of", "file, in `proofs/`"), rows)]
+    return [
+        "## Worked examples",
+        "",
+        "Each is a definition at worked bytes or values, which the checker computes.",
+        "",
+        *table(("what it is of", "file, in `proofs/`"), rows),
+    ]
 
 
 def write_crate(crate):
@@ -120,8 +132,7 @@ def write_crate(crate):
             continue
         if subject:
             lines += ["", f"**{subject[0].upper()}{subject[1:]}**"]
-        rows = [(f"`{it.name}`", cell(it.comment), ", ".join(f"`{cell(name)}`" for name in it.definitions))
-                for it in files]
+        rows = [(f"`{it.name}`", cell(it.comment), ", ".join(f"`{cell(name)}`" for name in it.definitions)) for it in files]
         lines += ["", *table(("file", "what it is of", "public definitions"), rows)]
     return lines
 

@@ -32,8 +32,7 @@ TRIALS = [
     ({"f": "int ()"}, {"f": "long ()"}, [], ["f: int () is long () now"]),
     ({"struct s": "8, a 0 8"}, {"struct s": "16, a 0 8, b 8 8"}, [], ["struct s: 8, a 0 8 is 16, a 0 8, b 8 8 now"]),
     ({GROWING[0]: "8, a 0 8"}, {GROWING[0]: "16, a 0 8, b 8 8"}, [f"{GROWING[0]}: 16, a 0 8, b 8 8"], []),
-    ({GROWING[0]: "8, a 0 8"}, {GROWING[0]: "16, b 0 8, a 8 8"}, [],
-     [f"{GROWING[0]}: 8, a 0 8 is 16, b 0 8, a 8 8 now"]),
+    ({GROWING[0]: "8, a 0 8"}, {GROWING[0]: "16, b 0 8, a 8 8"}, [], [f"{GROWING[0]}: 8, a 0 8 is 16, b 0 8, a 8 8 now"]),
 ]
 
 
@@ -118,11 +117,15 @@ def main():
         for it in found:
             print(f"{kind}: {it}")
     same = (before, old) == (now, new)
-    print(f"interface: {len(new)} names; {len(broken)} breaks and {len(added)} additions since c/tests/interface.txt of {before}")
+    print(
+        f"interface: {len(new)} names; {len(broken)} breaks and {len(added)} additions since c/tests/interface.txt of {before}"
+    )
     if sys.argv[1:]:
         sys.exit(None if same else "tests/interface.py: run it without --check, if this is meant")
     if not is_allowed(before, now, added, broken):
-        sys.exit(f"tests/interface.py: {before} is released: a break needs a greater major number, an addition a greater minor one")
+        sys.exit(
+            f"tests/interface.py: {before} is released: a break needs a greater major number, an addition a greater minor one"
+        )
     lines = [f"version: {now}", *(f"{name}: {text}" for name, text in new.items())]
     KEPT.write_text("\n".join(lines) + "\n", encoding="utf-8")
 

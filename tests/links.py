@@ -13,10 +13,32 @@ from pathlib import Path
 TOP = Path(__file__).resolve().parent.parent
 DOCUMENTS = ["*.md", "docs/*.md", "docs/dev/*.md", "*/README.md", "bindings/*/README.md", "examples/*/README.md"]
 SOURCES = [
-    "crates/*/src/**/*.rt", "crates/*/specs/**/*.antt", "crates/*/proofs/**/*.antt", "c/**/*.[ch]", "c/**/*.sh",
-    "bench/*", "bindings/rust/*/src/**/*.rs", "dist/*.[ch]", "tool/qpk.1", "dist/Makefile", "dist/generate", "dist/check",
-    "dist/fits", "dist/lists", "dist/modules", "dist/place", "dist/processor", "dist/texts", "dist/tests/*.sh",
-    "tool/**/*.py", "tool/**/*.sh", "tests/*.py", "tests/*.sh", ".ci/*", "test", "qpk",
+    "crates/*/src/**/*.rt",
+    "crates/*/specs/**/*.antt",
+    "crates/*/proofs/**/*.antt",
+    "c/**/*.[ch]",
+    "c/**/*.sh",
+    "bench/*",
+    "bindings/rust/*/src/**/*.rs",
+    "dist/*.[ch]",
+    "tool/qpk.1",
+    "dist/Makefile",
+    "dist/generate",
+    "dist/check",
+    "dist/fits",
+    "dist/lists",
+    "dist/modules",
+    "dist/place",
+    "dist/processor",
+    "dist/texts",
+    "dist/tests/*.sh",
+    "tool/**/*.py",
+    "tool/**/*.sh",
+    "tests/*.py",
+    "tests/*.sh",
+    ".ci/*",
+    "test",
+    "qpk",
 ]
 LINK = re.compile(r"\]\(([^)#\s]*)(?:#([^)\s]*))?\)")
 NAMED = re.compile(r"\bdocs/(?:dev/)?[\w-]+\.(?:md|tsv|png)\b")

@@ -138,8 +138,15 @@ class Page:
         name, _, rest = line[1:].partition(" ")
         words = shlex.split(rest.replace("\\", "\\\\"), posix=True) if '"' in rest else rest.split()
         structure = {
-            "Sh": self.section, "Ss": self.part, "Pp": self.paragraph, "Bl": self.begin_list, "It": self.item,
-            "El": self.end_list, "Bd": self.begin_literal, "Ed": self.end_literal, "Sx": self.reference,
+            "Sh": self.section,
+            "Ss": self.part,
+            "Pp": self.paragraph,
+            "Bl": self.begin_list,
+            "It": self.item,
+            "El": self.end_list,
+            "Bd": self.begin_literal,
+            "Ed": self.end_literal,
+            "Sx": self.reference,
         }
         if name in structure:
             structure[name](words)

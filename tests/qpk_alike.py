@@ -196,7 +196,16 @@ def word_cases() -> Iterator[Case]:
         *("decode 12x", "decode -1", "decode +5", "decode 007", f"decode {2**64 - 1}", f"decode {2**64}"),
         *("decode --hex", "decode --hex --json 1", "run", "run 1", "run a b", "run 1 2 3", "inspect", "inspect x"),
         *(f"inspect {2**63}", "show", "show 1", "show --json --max-blocked", "show --bad", "show --json --json -"),
-        *("check", "check --table", "check --max-capacity x", "explain", "explain 0", "explain 00 --bad", "help show", "help x"),
+        *(
+            "check",
+            "check --table",
+            "check --max-capacity x",
+            "explain",
+            "explain 0",
+            "explain 00 --bad",
+            "help show",
+            "help x",
+        ),
         *("encode --qif", "encode --qif 1 2 3", "encode --qif 1 2 2", "decode --qif 1", "decode --qif 1 x"),
     ):
         yield from word_case(*text.split())

@@ -116,7 +116,7 @@ def seconds_of(text, part, is_at_heading):
     heading, first, end = place_of(text, part)
     begins = [it.start() for it in headings_of(text)]
     passed = [it for it in begins if (heading if is_at_heading else 0) <= it < first and it != heading]
-    paragraphs = PARAGRAPH.findall(text[max([it for it in begins if it < first], default=0):first])
+    paragraphs = PARAGRAPH.findall(text[max([it for it in begins if it < first], default=0) : first])
     return len(passed) * OF_HEADING + len(paragraphs) * OF_PARAGRAPH + count_words(text[first:end]) / WORDS_A_SECOND
 
 

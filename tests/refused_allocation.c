@@ -8,30 +8,22 @@ extern void *__libc_realloc(void *block, size_t size);
 
 static unsigned long made, refused;
 
-__attribute__((constructor)) static void begin(void)
-{
-    const char *number = getenv("REFUSED_ALLOCATION");
-    refused = number ? strtoul(number, NULL, 10) : 0;
-    made = 0;
+__attribute__((constructor)) static void begin(void) {
+  const char *number = getenv("REFUSED_ALLOCATION");
+  refused = number ? strtoul(number, NULL, 10) : 0;
+  made = 0;
 }
 
-__attribute__((destructor)) static void end(void)
-{
-    const char *name = getenv("ALLOCATIONS");
-    const unsigned long count = made;
-    FILE *file = name ? fopen(name, "w") : NULL;
-    if (file) {
-        fprintf(file, "%lu\n", count);
-        fclose(file);
-    }
+__attribute__((destructor)) static void end(void) {
+  const char *name = getenv("ALLOCATIONS");
+  const unsigned long count = made;
+  FILE *file = name ? fopen(name, "w") : NULL;
+  if (file) {
+    fprintf(file, "%lu\n", count);
+    fclose(file);
+  }
 }
 
-void *malloc(size_t size)
-{
-    return ++made == refused ? NULL : __libc_malloc(size);
-}
+void *malloc(size_t size) { return ++made == refused ? NULL : __libc_malloc(size); }
 
-void *realloc(void *block, size_t size)
-{
-    return ++made == refused ? NULL : __libc_realloc(block, size);
-}
+void *realloc(void *block, size_t size) { return ++made == refused ? NULL : __libc_realloc(block, size); }

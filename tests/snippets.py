@@ -30,8 +30,15 @@ TOOLS = ["cc", "c++", "make", "pkg-config", "cargo"]
 SECONDS = 300
 # Commands that are run, by their first word, and the folder of the room where each is run.
 RUN = {
-    "printf": "h3_qpack", "./qpk": "h3_qpack", "make": "h3_qpack", "cmp": "h3_qpack", "sha256sum": "h3_qpack", "cc": "",
-    "cargo": "app", "go": "app-in-go", "python3": "h3_qpack",
+    "printf": "h3_qpack",
+    "./qpk": "h3_qpack",
+    "make": "h3_qpack",
+    "cmp": "h3_qpack",
+    "sha256sum": "h3_qpack",
+    "cc": "",
+    "cargo": "app",
+    "go": "app-in-go",
+    "python3": "h3_qpack",
 }
 # Commands that are not run here: why, and where each is run instead.
 NOT_RUN = {

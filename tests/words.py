@@ -44,8 +44,13 @@ FORBIDDEN_BUT_OF_H3 = {
     r"(?:an?|the|each|its|no|encoded|header|field) blocks?(?! of)": "section",
 }
 OF_H3 = (
-    "docs/DECISIONS.md", "docs/DIFFERENCES.md", "docs/H3-TESTS.md", "docs/PROVED.md", "tests/calls.md",
-    "tests/definitions.md", "bindings/rust/h3_qpack/src/heap.rs",
+    "docs/DECISIONS.md",
+    "docs/DIFFERENCES.md",
+    "docs/H3-TESTS.md",
+    "docs/PROVED.md",
+    "tests/calls.md",
+    "tests/definitions.md",
+    "bindings/rust/h3_qpack/src/heap.rs",
 )
 # Words that are right in few places: behind for a position, stands for what it is short for. They are counted.
 WATCHED = {
@@ -79,9 +84,19 @@ def list_files():
     """Returns the files that are read, each with the function that keeps its prose."""
     patterns = {
         prose_of_markdown: [
-            "*.md", "docs/*.md", "docs/dev/*.md", "dist/README.md", "c/README.md", "bench/README.md",
-            "crates/README.md", "tool/README.md", "tests/*.md", "bindings/README.md", "bindings/*/README.md",
-            "examples/README.md", "examples/*/README.md",
+            "*.md",
+            "docs/*.md",
+            "docs/dev/*.md",
+            "dist/README.md",
+            "c/README.md",
+            "bench/README.md",
+            "crates/README.md",
+            "tool/README.md",
+            "tests/*.md",
+            "bindings/README.md",
+            "bindings/*/README.md",
+            "examples/README.md",
+            "examples/*/README.md",
         ],
         prose_of_c: ["dist/h3_qpack.h"],
         prose_of_rust: ["bindings/rust/h3_qpack/src/**/*.rs"],
@@ -145,7 +160,7 @@ def keep(text, pattern):
     """Blanks out what the pattern does not match."""
     at, parts = 0, []
     for it in pattern.finditer(text):
-        parts += [re.sub(r"[^\n]", " ", text[at:it.start()]), it[0]]
+        parts += [re.sub(r"[^\n]", " ", text[at : it.start()]), it[0]]
         at = it.end()
     return "".join(parts) + re.sub(r"[^\n]", " ", text[at:])
 

@@ -7,9 +7,7 @@
 #include <stdlib.h>
 
 /* Go can't call a macro. */
-static inline size_t h3qpack_longest_section(uint64_t max_section_size) {
-  return h3_qpack_longest_section(max_section_size);
-}
+static inline size_t h3qpack_longest_section(uint64_t max_section_size) { return h3_qpack_longest_section(max_section_size); }
 
 /* A field: its lengths in the text of all names and values, and its flags. */
 typedef struct h3qpack_line {
@@ -35,8 +33,7 @@ static inline h3_qpack_nv *h3qpack_make_fields(const uint8_t *text, const h3qpac
 }
 
 static inline h3_qpack_encoded h3qpack_encode(h3_qpack_encoder *encoder, uint64_t stream_id, const uint8_t *text,
-                                              const h3qpack_line *lines, size_t count, uint8_t *section,
-                                              size_t sectionlen) {
+                                              const h3qpack_line *lines, size_t count, uint8_t *section, size_t sectionlen) {
   h3_qpack_encoded encoded = {H3_QPACK_ERR_NO_MEMORY, 0, 0, 0};
   h3_qpack_nv *fields = h3qpack_make_fields(text, lines, count);
   if (fields) encoded = h3_qpack_encoder_encode(encoder, stream_id, fields, count, section, sectionlen);

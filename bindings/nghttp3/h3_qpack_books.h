@@ -62,8 +62,7 @@ static void note_feedback(nghttp3_qpack_encoder *encoder, const uint8_t *src, si
 static void compare_books(nghttp3_qpack_encoder *encoder) {
   h3_qpack_encoder *end = &encoder->own.end;
   find_equal("Known Received Count", h3_qpack_encoder_get_krcnt(end), encoder->krcnt);
-  find_equal("streams that may be blocked", h3_qpack_encoder_get_num_blocked(end),
-             nghttp3_ksl_len(&encoder->blocked_streams));
+  find_equal("streams that may be blocked", h3_qpack_encoder_get_num_blocked(end), nghttp3_ksl_len(&encoder->blocked_streams));
   find_equal("unacknowledged sections", h3_qpack_encoder_get_num_unacked(end), nghttp3_pq_size(&encoder->min_cnts));
   encoder->ctx.dtable_size = h3_qpack_encoder_get_table_size(end);
 }

@@ -46,8 +46,7 @@ static void note_encoder(nghttp3_qpack_encoder *encoder) {
 }
 
 /* The encoder is made before the peer's settings are known. */
-int nghttp3_qpack_encoder_init(nghttp3_qpack_encoder *encoder, size_t hard_max_dtable_capacity,
-                               const nghttp3_mem *mem) {
+int nghttp3_qpack_encoder_init(nghttp3_qpack_encoder *encoder, size_t hard_max_dtable_capacity, const nghttp3_mem *mem) {
   h3_qpack_encoder_settings settings;
   memset(encoder, 0, sizeof *encoder);
   encoder->ctx.mem = mem;
@@ -122,13 +121,12 @@ static h3_qpack_encoded encode_fields(nghttp3_qpack_encoder *encoder, int64_t st
     h3_qpack_written written = h3_qpack_encode_stateless(fields, count, room, nghttp3_buf_left(section));
     return (h3_qpack_encoded){written.status, written.len, 0, 0};
   }
-  return h3_qpack_encoder_encode(&encoder->own.end, (uint64_t)stream_id, fields, count, room,
-                                 nghttp3_buf_left(section));
+  return h3_qpack_encoder_encode(&encoder->own.end, (uint64_t)stream_id, fields, count, room, nghttp3_buf_left(section));
 }
 
 /* The same with the room made that was missing. */
-static h3_qpack_encoded encode_to(nghttp3_qpack_encoder *encoder, int64_t stream_id, const h3_qpack_nv *fields,
-                                  size_t count, nghttp3_buf *section) {
+static h3_qpack_encoded encode_to(nghttp3_qpack_encoder *encoder, int64_t stream_id, const h3_qpack_nv *fields, size_t count,
+                                  nghttp3_buf *section) {
   int is_held = is_capacity_held(encoder);
   h3_qpack_encoded encoded = encode_fields(encoder, stream_id, fields, count, is_held, section);
   if (encoded.status != H3_QPACK_ERR_NO_ROOM) return encoded;
@@ -211,18 +209,15 @@ nghttp3_ssize nghttp3_qpack_encoder_read_decoder(nghttp3_qpack_encoder *encoder,
 /* Calls that say what an instruction says: it is written and read. */
 static int read_instruction(nghttp3_qpack_encoder *encoder, uint8_t form, uint64_t number, size_t bits) {
   uint8_t text[MOST_INSTRUCTION] = {form}, *end = nghttp3_qpack_put_varint(text, number, bits);
-  return nghttp3_qpack_encoder_read_decoder(encoder, text, (size_t)(end - text)) < 0
-             ? NGHTTP3_ERR_QPACK_DECODER_STREAM_ERROR
-             : 0;
+  return nghttp3_qpack_encoder_read_decoder(encoder, text, (size_t)(end - text)) < 0 ? NGHTTP3_ERR_QPACK_DECODER_STREAM_ERROR
+                                                                                     : 0;
 }
 
 int nghttp3_qpack_encoder_ack_header(nghttp3_qpack_encoder *encoder, int64_t stream_id) {
   return read_instruction(encoder, 0x80, (uint64_t)stream_id, 7);
 }
 
-int nghttp3_qpack_encoder_add_icnt(nghttp3_qpack_encoder *encoder, uint64_t n) {
-  return read_instruction(encoder, 0, n, 6);
-}
+int nghttp3_qpack_encoder_add_icnt(nghttp3_qpack_encoder *encoder, uint64_t n) { return read_instruction(encoder, 0, n, 6); }
 
 void nghttp3_qpack_encoder_cancel_stream(nghttp3_qpack_encoder *encoder, int64_t stream_id) {
   read_instruction(encoder, 0x40, (uint64_t)stream_id, 6);
@@ -238,8 +233,7 @@ size_t nghttp3_qpack_encoder_get_num_blocked_streams(nghttp3_qpack_encoder *enco
   return h3_qpack_encoder_get_num_blocked(&encoder->own.end);
 }
 
-int nghttp3_qpack_encoder_new(nghttp3_qpack_encoder **pencoder, size_t hard_max_dtable_capacity,
-                              const nghttp3_mem *mem) {
+int nghttp3_qpack_encoder_new(nghttp3_qpack_encoder **pencoder, size_t hard_max_dtable_capacity, const nghttp3_mem *mem) {
   nghttp3_qpack_encoder *encoder = nghttp3_mem_malloc(mem, sizeof *encoder);
   int rv = encoder ? nghttp3_qpack_encoder_init(encoder, hard_max_dtable_capacity, mem) : NGHTTP3_ERR_NOMEM;
   if (rv) nghttp3_mem_free(mem, encoder);
@@ -273,8 +267,8 @@ static int fail(nghttp3_qpack_decoder *decoder, int32_t status) {
   }
 }
 
-int nghttp3_qpack_decoder_init(nghttp3_qpack_decoder *decoder, size_t hard_max_dtable_capacity,
-                               size_t max_blocked_streams, const nghttp3_mem *mem) {
+int nghttp3_qpack_decoder_init(nghttp3_qpack_decoder *decoder, size_t hard_max_dtable_capacity, size_t max_blocked_streams,
+                               const nghttp3_mem *mem) {
   h3_qpack_decoder_settings settings;
   int status;
   memset(decoder, 0, sizeof *decoder);
@@ -343,8 +337,7 @@ static uint64_t unreported(const nghttp3_qpack_decoder *decoder) {
 
 /* Whether the peer lets more pile up than nghttp3 allows: two instructions for each stream. */
 static int is_too_much(nghttp3_qpack_decoder *decoder) {
-  return nghttp3_qpack_decoder_get_decoder_streamlen(decoder) >
-         nghttp3_max(decoder->max_concurrent_streams, 100) * 2 * 10;
+  return nghttp3_qpack_decoder_get_decoder_streamlen(decoder) > nghttp3_max(decoder->max_concurrent_streams, 100) * 2 * 10;
 }
 
 size_t nghttp3_qpack_decoder_get_decoder_streamlen(nghttp3_qpack_decoder *decoder) {
@@ -372,11 +365,11 @@ int nghttp3_qpack_decoder_cancel_stream(nghttp3_qpack_decoder *decoder, int64_t 
   return status ? fail(decoder, status) : keep_instructions(decoder);
 }
 
-int nghttp3_qpack_decoder_new(nghttp3_qpack_decoder **pdecoder, size_t hard_max_dtable_capacity,
-                              size_t max_blocked_streams, const nghttp3_mem *mem) {
+int nghttp3_qpack_decoder_new(nghttp3_qpack_decoder **pdecoder, size_t hard_max_dtable_capacity, size_t max_blocked_streams,
+                              const nghttp3_mem *mem) {
   nghttp3_qpack_decoder *decoder = nghttp3_mem_malloc(mem, sizeof *decoder);
-  int rv = decoder ? nghttp3_qpack_decoder_init(decoder, hard_max_dtable_capacity, max_blocked_streams, mem)
-                   : NGHTTP3_ERR_NOMEM;
+  int rv =
+      decoder ? nghttp3_qpack_decoder_init(decoder, hard_max_dtable_capacity, max_blocked_streams, mem) : NGHTTP3_ERR_NOMEM;
   if (rv) nghttp3_mem_free(mem, decoder);
   else *pdecoder = decoder;
   return rv;
@@ -396,9 +389,7 @@ void nghttp3_qpack_stream_context_init(nghttp3_qpack_stream_context *sctx, int64
   sctx->stream_id = stream_id;
 }
 
-void nghttp3_qpack_stream_context_free(nghttp3_qpack_stream_context *sctx) {
-  h3_qpack_section_reader_del(&sctx->own.reader);
-}
+void nghttp3_qpack_stream_context_free(nghttp3_qpack_stream_context *sctx) { h3_qpack_section_reader_del(&sctx->own.reader); }
 
 void nghttp3_qpack_stream_context_reset(nghttp3_qpack_stream_context *sctx) {
   nghttp3_qpack_stream_context_free(sctx);
@@ -484,8 +475,8 @@ static int follow_piece(nghttp3_qpack_decoder *decoder, nghttp3_qpack_stream_con
 }
 
 nghttp3_ssize nghttp3_qpack_decoder_read_request(nghttp3_qpack_decoder *decoder, nghttp3_qpack_stream_context *sctx,
-                                                 nghttp3_qpack_nv *nv, uint8_t *pflags, const uint8_t *src,
-                                                 size_t srclen, int fin) {
+                                                 nghttp3_qpack_nv *nv, uint8_t *pflags, const uint8_t *src, size_t srclen,
+                                                 int fin) {
   h3_qpack_piece piece;
   int rv;
   *pflags = NGHTTP3_QPACK_DECODE_FLAG_NONE;

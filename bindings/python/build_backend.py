@@ -129,9 +129,17 @@ def build_library(text):
         sys.exit(f"h3_qpack: the C compiler {compiler[0]} is not there: install one, or set CC to its name")
     with tempfile.TemporaryDirectory() as room:
         made = Path(room, LIBRARY)
-        kind = ["-dynamiclib"] if sys.platform == "darwin" else [
-            "-shared", f"-Wl,-soname,{LIBRARY}", "-Wl,--version-script,h3_qpack.map", "-Wl,-z,noexecstack", "-Wl,-s",
-        ]
+        kind = (
+            ["-dynamiclib"]
+            if sys.platform == "darwin"
+            else [
+                "-shared",
+                f"-Wl,-soname,{LIBRARY}",
+                "-Wl,--version-script,h3_qpack.map",
+                "-Wl,-z,noexecstack",
+                "-Wl,-s",
+            ]
+        )
         words = [*compiler, "-O2", "-g0", "-fPIC", "-fno-lto", *kind, "-I.", text, "h3_qpack.c", "heap.c", "-o", str(made)]
         ran = subprocess.run(words, cwd=NATIVE, stdin=subprocess.DEVNULL, capture_output=True, text=True, check=False)
         if ran.returncode:

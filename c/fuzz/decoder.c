@@ -28,8 +28,7 @@ static void compare_waiting(connection *c) {
   uint64_t ready = 0;
   int is_ready = h3_qpack_decoder_next_ready(&c->library, &ready);
   int has_ready = 0;
-  for (size_t i = 0; i < MOST_WAITING; i++)
-    has_ready |= c->waiting[i] && c->waiting[i] <= c->strict.insert_count;
+  for (size_t i = 0; i < MOST_WAITING; i++) has_ready |= c->waiting[i] && c->waiting[i] <= c->strict.insert_count;
   CHECK(is_ready == has_ready);
   if (is_ready) CHECK(ready < MOST_WAITING && c->waiting[ready] && c->waiting[ready] <= c->strict.insert_count);
   CHECK(h3_qpack_decoder_get_num_blocked(&c->library) == count_blocked(c));
@@ -125,8 +124,8 @@ static void decode(connection *c, uint64_t stream, const uint8_t *p, size_t len)
   compare_prefix(c, &want, p, len);
   /* every other section in pieces: their size, or 0 for the whole; one that is too long is read up to that alone */
   size_t pieces = stream % 2 && len <= h3_qpack_longest_section(c->limit) ? len % 7 + 1 : 0;
-  h3_qpack_decoded got = pieces ? decode_pieces(c, stream, p, len, pieces, &want.fields)
-                                : h3_qpack_decoder_decode(&c->library, stream, p, len);
+  h3_qpack_decoded got =
+      pieces ? decode_pieces(c, stream, p, len, pieces, &want.fields) : h3_qpack_decoder_decode(&c->library, stream, p, len);
   if (len > h3_qpack_longest_section(c->limit)) { /* no section of so many bytes is within the limit */
     CHECK(got.status == H3_QPACK_ERR_TOO_LARGE && !got.number && !got.offset && !got.fields);
     c->waiting[stream] = 0;

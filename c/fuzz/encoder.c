@@ -51,9 +51,9 @@ typedef struct connection {
   strict_encoder strict;
   strict_decoder peer;
   uint64_t max_capacity, max_blocked, most_unacknowledged;
-  int knows_peer; /* the encoder has the peer's settings */
-  int is_lied_to; /* the peer may have acknowledged what it did not decode or receive */
-  uint64_t told;  /* how many insertions the peer acknowledged or reported */
+  int knows_peer;            /* the encoder has the peer's settings */
+  int is_lied_to;            /* the peer may have acknowledged what it did not decode or receive */
+  uint64_t told;             /* how many insertions the peer acknowledged or reported */
   uint64_t streams[STREAMS]; /* the numbers of the streams that the peer has not given up */
   bytes instructions, answers;
   section *sections[MOST_SECTIONS]; /* in the order in which they were sent */
@@ -105,8 +105,8 @@ static size_t read_string(input *in, uint8_t *to, int is_name) {
 }
 
 static void read_field(input *in, h3_qpack_nv *field, uint8_t *texts) {
-  static const uint8_t flags[] = {0, 0, 0, 0, H3_QPACK_NV_FLAG_INSERT, H3_QPACK_NV_FLAG_INSERT, H3_QPACK_NV_FLAG_REUSE,
-                                  H3_QPACK_NV_FLAG_NEVER_INDEX};
+  static const uint8_t flags[] = {
+      0, 0, 0, 0, H3_QPACK_NV_FLAG_INSERT, H3_QPACK_NV_FLAG_INSERT, H3_QPACK_NV_FLAG_REUSE, H3_QPACK_NV_FLAG_NEVER_INDEX};
   field->flags = flags[next(in) % 8];
   field->name = texts;
   field->namelen = read_string(in, texts, 1);

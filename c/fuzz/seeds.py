@@ -23,13 +23,13 @@ DELIVER, DECODE, HEAR, SETTINGS = 2, 3, 5, 0x16
 
 def decoder_inputs(path):
     """Yields inputs of the front of a recording, with its bytes whole and in pieces."""
-    capacity = int(re.search(r'_(\d+)_', os.path.basename(path))[1])
+    capacity = int(re.search(r"_(\d+)_", os.path.basename(path))[1])
     head = bytes([CAPACITIES.index(capacity)]) + DECODER
     for piece in (None, 7):
         calls = head
-        with open(path, encoding='ascii') as lines:
+        with open(path, encoding="ascii") as lines:
             for number, line in enumerate(lines):
-                calls += call_of(line.rstrip('\n').split('\t'), number, piece)
+                calls += call_of(line.rstrip("\n").split("\t"), number, piece)
                 if len(calls) > MOST:
                     break
                 if number in (3, 20):
@@ -40,18 +40,18 @@ def decoder_inputs(path):
 def call_of(words, number, piece):
     """Returns the calls of a line of a recording."""
     data = bytes.fromhex(words[-1])
-    if words[0] == 'b':
-        return bytes([0x82 | number % 32 << 2]) + len(data).to_bytes(2, 'big') + data
-    if words[0] != 'e':
-        return b''
-    pieces = [data[at:at + piece] for at in range(0, len(data), piece)] if piece else [data]
-    return b''.join(b'\x00' + len(part).to_bytes(2, 'big') + part for part in pieces)
+    if words[0] == "b":
+        return bytes([0x82 | number % 32 << 2]) + len(data).to_bytes(2, "big") + data
+    if words[0] != "e":
+        return b""
+    pieces = [data[at : at + piece] for at in range(0, len(data), piece)] if piece else [data]
+    return b"".join(b"\x00" + len(part).to_bytes(2, "big") + part for part in pieces)
 
 
 def encoder_inputs(path):
     """Yields inputs of the front of lists, each decoded at once, or four lists late."""
-    with open(path, 'rb') as file:
-        lists = [it.split(b'\n') for it in file.read().strip(b'\n').split(b'\n\n')]
+    with open(path, "rb") as file:
+        lists = [it.split(b"\n") for it in file.read().strip(b"\n").split(b"\n\n")]
     for head in ENCODERS:
         for late in (0, 4):
             calls = head
@@ -68,11 +68,11 @@ def encoder_inputs(path):
 
 def encode_of(fields, number):
     """Returns the call that encodes the first of these fields."""
-    texts = [line.split(b'\t', 1) for line in fields[:16]]
+    texts = [line.split(b"\t", 1) for line in fields[:16]]
     call = bytes([number % 32 << 3, len(texts)])
     for name, value in texts:
-        call += b'\x00' + string_of(name) + string_of(value)
-    return call + b'\x00'
+        call += b"\x00" + string_of(name) + string_of(value)
+    return call + b"\x00"
 
 
 def string_of(text):
@@ -83,11 +83,11 @@ def string_of(text):
 
 def frames_inputs(path):
     """Yields streams of the sections of a recording: each in a HEADERS frame, with frames of other types after it."""
-    with open(path, encoding='ascii') as lines:
-        words = [line.rstrip('\n').split('\t') for line in lines]
-    stream = b''
-    for number, section in enumerate(bytes.fromhex(it[-1]) for it in words if it[0] == 'b'):
-        stream += frame_of(1, section) + frame_of(0, section[:number % 64]) + frame_of(0x21 + 0x1f * number, b'')
+    with open(path, encoding="ascii") as lines:
+        words = [line.rstrip("\n").split("\t") for line in lines]
+    stream = b""
+    for number, section in enumerate(bytes.fromhex(it[-1]) for it in words if it[0] == "b"):
+        stream += frame_of(1, section) + frame_of(0, section[: number % 64]) + frame_of(0x21 + 0x1F * number, b"")
         if number in (0, 3, 20):
             for most_kept, piece in ((255, 0), (255, 1), (16, 7)):
                 yield (bytes([most_kept, piece]) + stream)[:MOST]
@@ -95,15 +95,15 @@ def frames_inputs(path):
 
 def frame_of(kind, payload):
     """Returns a frame (RFC 9114, section 7.1), its integers in four bytes."""
-    return b''.join((0x80000000 | it).to_bytes(4, 'big') for it in (kind, len(payload))) + payload
+    return b"".join((0x80000000 | it).to_bytes(4, "big") for it in (kind, len(payload))) + payload
 
 
 def main():
     target, folder, files = sys.argv[1], sys.argv[2], sys.argv[3:]
-    inputs_of = {'decoder': decoder_inputs, 'encoder': encoder_inputs, 'frames': frames_inputs}[target]
+    inputs_of = {"decoder": decoder_inputs, "encoder": encoder_inputs, "frames": frames_inputs}[target]
     for path in files:
         for number, data in enumerate(inputs_of(path)):
-            with open(f'{folder}/{os.path.basename(path)}.{number}', 'wb') as file:
+            with open(f"{folder}/{os.path.basename(path)}.{number}", "wb") as file:
                 file.write(data)
 
 

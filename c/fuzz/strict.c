@@ -132,9 +132,7 @@ void strict_free_fields(strict_fields *fields) {
 
 /* ---- The table (section 3.2) */
 
-void strict_new(strict_decoder *d, uint64_t max_capacity) {
-  *d = (strict_decoder){.max_capacity = max_capacity, .number = 1};
-}
+void strict_new(strict_decoder *d, uint64_t max_capacity) { *d = (strict_decoder){.max_capacity = max_capacity, .number = 1}; }
 
 void strict_del(strict_decoder *d) {
   strict_free_fields(&d->entries);
@@ -186,8 +184,7 @@ static outcome read_insertion_by_name(strict_decoder *d, reader *r, int is_stati
   strict_field named = {NULL, 0, 0, 0};
   if (is_named && is_static)
     named = (strict_field){(uint8_t *)(uintptr_t)STATIC[index].name, strlen(STATIC[index].name), 0, 0};
-  else if (is_named)
-    named = d->entries.at[d->entries.len - 1 - index];
+  else if (is_named) named = d->entries.at[d->entries.len - 1 - index];
   done = read_text(r, 7, &value);
   *is_doomed |= !is_named || named.namelen + value.least + 32 > d->capacity;
   if (done == WHOLE) done = is_named ? insert_named(d, &named, value.p, value.len) : BAD;
@@ -378,13 +375,9 @@ strict_section strict_decode(const strict_decoder *d, const uint8_t *p, size_t l
 
 /* ---- The decoder stream (section 4.4) */
 
-void strict_new_encoder(strict_encoder *e) {
-  *e = (strict_encoder){.number = 1};
-}
+void strict_new_encoder(strict_encoder *e) { *e = (strict_encoder){.number = 1}; }
 
-void strict_del_encoder(strict_encoder *e) {
-  free(e->sent);
-}
+void strict_del_encoder(strict_encoder *e) { free(e->sent); }
 
 void strict_send(strict_encoder *e, uint64_t stream, uint64_t required, uint64_t insert_count) {
   e->insert_count = insert_count;
@@ -450,8 +443,7 @@ size_t strict_count_streams(const strict_sent *sent, size_t len, uint64_t insert
   size_t streams = 0;
   for (size_t i = 0; i < len; i++) {
     int is_first = sent[i].required > insertions;
-    for (size_t j = 0; j < i && is_first; j++)
-      is_first = sent[j].stream != sent[i].stream || sent[j].required <= insertions;
+    for (size_t j = 0; j < i && is_first; j++) is_first = sent[j].stream != sent[i].stream || sent[j].required <= insertions;
     streams += (size_t)is_first;
   }
   return streams;

@@ -7,12 +7,12 @@
 #include <stdlib.h>
 #include <string.h>
 
-#define CHECK(x)                                                  \
-  do {                                                            \
-    if (!(x)) {                                                   \
+#define CHECK(x) \
+  do { \
+    if (!(x)) { \
       fprintf(stderr, "%s:%d: not %s\n", __FILE__, __LINE__, #x); \
-      abort();                                                    \
-    }                                                             \
+      abort(); \
+    } \
   } while (0)
 
 int LLVMFuzzerTestOneInput(const uint8_t *p, size_t len);

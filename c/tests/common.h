@@ -105,8 +105,7 @@ static inline void read_corpus(const char *path, int bodiless) {
 
 /* Adds lists of fields at random: few names, some of them static, values that repeat, all bytes, some sensitive. */
 static inline void add_random_lists(size_t many) {
-  static const char *names[] = {":path",  "cookie",        "x", "x-long-name-that-is-not-static",
-                                "accept", "authorization", ""};
+  static const char *names[] = {":path", "cookie", "x", "x-long-name-that-is-not-static", "accept", "authorization", ""};
   while (many--) {
     list *l = add_list();
     for (size_t left = random_below(12); left; left--) {
@@ -160,8 +159,7 @@ static inline int new_encoder(h3_qpack_encoder *e, uint64_t max_capacity, uint64
 }
 
 /* Makes a decoder of these settings. Returns the status. */
-static inline int new_decoder(h3_qpack_decoder *d, uint64_t max_capacity, uint64_t max_blocked,
-                              uint64_t max_section_size) {
+static inline int new_decoder(h3_qpack_decoder *d, uint64_t max_capacity, uint64_t max_blocked, uint64_t max_section_size) {
   h3_qpack_decoder_settings settings;
   h3_qpack_decoder_settings_default(&settings);
   settings.max_capacity = max_capacity;
@@ -179,8 +177,8 @@ static inline void check_field(h3_qpack_decoder *d, size_t index, const h3_qpack
 }
 
 /* Fields that were written in one call, and their text of so many bytes, are these. */
-static inline void check_written(const h3_qpack_field *fields, const uint8_t *text, size_t textlen,
-                                 const h3_qpack_nv *nva, size_t nvlen) {
+static inline void check_written(const h3_qpack_field *fields, const uint8_t *text, size_t textlen, const h3_qpack_nv *nva,
+                                 size_t nvlen) {
   size_t at = 0;
   for (size_t k = 0; k < nvlen; k++) {
     const h3_qpack_nv *nv = &nva[k];
@@ -219,8 +217,8 @@ typedef struct {
 
 /* Encodes fields for a stream and decodes them, and leaves what the decoder sends. Returns the bytes of the section and of
  * the encoder stream. */
-static inline size_t exchange_list(h3_qpack_encoder *e, h3_qpack_decoder *d, uint64_t stream_id,
-                                   const h3_qpack_nv *nva, size_t nvlen, answer *answer) {
+static inline size_t exchange_list(h3_qpack_encoder *e, h3_qpack_decoder *d, uint64_t stream_id, const h3_qpack_nv *nva,
+                                   size_t nvlen, answer *answer) {
   static _Thread_local uint8_t section[1 << 16], stream[1 << 16];
   h3_qpack_encoded a = h3_qpack_encoder_encode(e, stream_id, nva, nvlen, section, sizeof section);
   CHECK(a.status == H3_QPACK_OK);

@@ -82,8 +82,8 @@ static void connect_both(int is_client, int is_late, size_t capacity, size_t blo
   }
   CHECK(!capacity == !x.waited && (!is_client || !capacity || x.given_up));
   printf("http3: as %s, table %zu, limit %zu, %s: %d requests; %zu sections waited, %zu streams given up\n",
-         is_client ? "client" : "server", capacity, blocked, is_late ? "requests first" : "QPACK first", REQUESTS,
-         x.waited, x.given_up);
+         is_client ? "client" : "server", capacity, blocked, is_late ? "requests first" : "QPACK first", REQUESTS, x.waited,
+         x.given_up);
   finish(&x);
 }
 

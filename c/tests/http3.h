@@ -71,8 +71,8 @@ static inline int read_number(const uint8_t **p, const uint8_t *end, uint64_t *n
 
 /* ---- nghttp3's end */
 
-static inline int take_header(nghttp3_conn *conn, int64_t id, int32_t token, nghttp3_rcbuf *name,
-                              nghttp3_rcbuf *value, uint8_t flags, void *user, void *stream_user) {
+static inline int take_header(nghttp3_conn *conn, int64_t id, int32_t token, nghttp3_rcbuf *name, nghttp3_rcbuf *value,
+                              uint8_t flags, void *user, void *stream_user) {
   side *x = user;
   const list *l = x->is_client ? request_of(id) : response_of(id);
   size_t at = x->peer_fields[id]++;
@@ -83,8 +83,7 @@ static inline int take_header(nghttp3_conn *conn, int64_t id, int32_t token, ngh
   return 0;
 }
 
-static inline int take_data(nghttp3_conn *conn, int64_t id, const uint8_t *data, size_t len, void *user,
-                            void *stream_user) {
+static inline int take_data(nghttp3_conn *conn, int64_t id, const uint8_t *data, size_t len, void *user, void *stream_user) {
   side *x = user;
   (void)conn, (void)stream_user;
   CHECK(x->peer_body[id] + len <= body_of(id) && !memcmp(data, body + x->peer_body[id], len));
@@ -221,8 +220,7 @@ static inline void take_own_stream(side *x, pipe_t *b) {
 /* ---- a connection of the two, of which this library is the client or the server */
 
 static inline void begin_peer(side *x) {
-  static const nghttp3_callbacks callbacks = {
-      .recv_header = take_header, .recv_data = take_data, .end_stream = end_stream};
+  static const nghttp3_callbacks callbacks = {.recv_header = take_header, .recv_data = take_data, .end_stream = end_stream};
   nghttp3_settings settings;
   nghttp3_settings_default(&settings);
   settings.qpack_max_dtable_capacity = settings.qpack_encoder_max_dtable_capacity = x->capacity;

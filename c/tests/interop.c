@@ -69,8 +69,7 @@ static void theirs_to_ours(size_t capacity, size_t limit, int late) {
   for (size_t i = 0; i < nlists; i++) {
     nghttp3_buf_reset(&prefix);
     nghttp3_buf_reset(&lines);
-    CHECK(!nghttp3_qpack_encoder_encode(e, &prefix, &lines, &instructions, (int64_t)(4 * i), lists[i].ng,
-                                        lists[i].len));
+    CHECK(!nghttp3_qpack_encoder_encode(e, &prefix, &lines, &instructions, (int64_t)(4 * i), lists[i].ng, lists[i].len));
     static uint8_t section[SECTION];
     size_t front = nghttp3_buf_len(&prefix), len = front + nghttp3_buf_len(&lines);
     CHECK(len <= sizeof section);

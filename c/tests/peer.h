@@ -45,8 +45,7 @@ static inline void *their_realloc(void *p, size_t size, void *data) {
 static const nghttp3_mem their_memory = {NULL, their_malloc, their_free, their_calloc, their_realloc};
 
 /* Reads a section with nghttp3, and compares its fields with a list. Returns 0 where the section waits. */
-static inline int read_theirs(nghttp3_qpack_decoder *d, int64_t stream_id, const list *l, const uint8_t *p,
-                              size_t len) {
+static inline int read_theirs(nghttp3_qpack_decoder *d, int64_t stream_id, const list *l, const uint8_t *p, size_t len) {
   nghttp3_qpack_stream_context *context;
   CHECK(!nghttp3_qpack_stream_context_new(&context, stream_id, &their_memory));
   size_t k = 0;

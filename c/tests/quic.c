@@ -100,8 +100,7 @@ static int take_stream(ngtcp2_conn *conn, uint32_t flags, int64_t id, uint64_t o
   return 0;
 }
 
-static int take_acknowledgment(ngtcp2_conn *conn, int64_t id, uint64_t offset, uint64_t len, void *user,
-                               void *stream_user) {
+static int take_acknowledgment(ngtcp2_conn *conn, int64_t id, uint64_t offset, uint64_t len, void *user, void *stream_user) {
   quic_end *e = user;
   (void)conn, (void)offset, (void)stream_user;
   if (!e->is_ours) CHECK(!nghttp3_conn_add_ack_offset(e->x->peer, id, len));
@@ -153,11 +152,9 @@ static void begin_quic(quic_end *e, const ngtcp2_pkt_hd *first) {
   fill(other.data, other.datalen, NULL);
   if (first) {
     params.original_dcid = first->dcid;
-    CHECK(!ngtcp2_conn_server_new(&e->conn, &first->scid, &own, &path, first->version, &calls, &settings, &params, NULL,
-                                  e));
+    CHECK(!ngtcp2_conn_server_new(&e->conn, &first->scid, &own, &path, first->version, &calls, &settings, &params, NULL, e));
   } else {
-    CHECK(!ngtcp2_conn_client_new(&e->conn, &other, &own, &path, NGTCP2_PROTO_VER_V1, &calls, &settings, &params, NULL,
-                                  e));
+    CHECK(!ngtcp2_conn_client_new(&e->conn, &other, &own, &path, NGTCP2_PROTO_VER_V1, &calls, &settings, &params, NULL, e));
   }
   begin_tls(e);
 }
@@ -210,9 +207,9 @@ static void send_datagrams(quic_end *e) {
     int fin = 0;
     ngtcp2_ssize taken = -1;
     int64_t id = next_pieces(e, pieces, &number, &fin);
-    ngtcp2_ssize len = ngtcp2_conn_writev_stream(
-        e->conn, NULL, NULL, datagram, sizeof datagram, &taken, fin ? NGTCP2_WRITE_STREAM_FLAG_FIN : 0, id,
-        (const ngtcp2_vec *)pieces, number, now());
+    ngtcp2_ssize len =
+        ngtcp2_conn_writev_stream(e->conn, NULL, NULL, datagram, sizeof datagram, &taken,
+                                  fin ? NGTCP2_WRITE_STREAM_FLAG_FIN : 0, id, (const ngtcp2_vec *)pieces, number, now());
     if (len < 0) fprintf(stderr, "quic: stream %d: %s\n", (int)id, ngtcp2_strerror((int)len));
     CHECK(len >= 0);
     if (taken >= 0 && e->is_ours) e->x->out[id].seen += (size_t)taken;

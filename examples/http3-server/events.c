@@ -62,8 +62,8 @@ void add_fields(bytes *b, const h3_qpack_nv *nva, size_t nvlen) {
   add(b, "]", 1);
 }
 
-void add_section_event(connection *c, const char *kind, const stream *s, size_t required, const uint8_t *section,
-                       size_t len, const h3_qpack_nv *nva, size_t nvlen) {
+void add_section_event(connection *c, const char *kind, const stream *s, size_t required, const uint8_t *section, size_t len,
+                       const h3_qpack_nv *nva, size_t nvlen) {
   bytes line = begin_event(c, kind);
   add_text(&line, ",\"id\":%lld,\"required\":%zu,\"hex\":", (long long)s->id, required);
   add_hex(&line, section, len);

@@ -14,11 +14,11 @@ typedef struct frame_reader {
   uint64_t kept_type; /* the type whose frames are kept */
   size_t most_kept;   /* the longest payload that is kept, in bytes */
   uint8_t head[LONGEST_HEAD];
-  size_t headlen;     /* bytes of a type and a length that are not both whole */
-  uint64_t type;      /* of the frame that is being read */
-  uint64_t left;      /* bytes of its payload that have not arrived */
-  int is_keeping;     /* that frame is kept */
-  int is_whole;       /* a whole frame is in |kept|, until the next call */
+  size_t headlen; /* bytes of a type and a length that are not both whole */
+  uint64_t type;  /* of the frame that is being read */
+  uint64_t left;  /* bytes of its payload that have not arrived */
+  int is_keeping; /* that frame is kept */
+  int is_whole;   /* a whole frame is in |kept|, until the next call */
   uint8_t *kept;
   size_t keptlen, keptroom;
 } frame_reader;

@@ -66,8 +66,7 @@ static void read_settings(connection *c, const uint8_t *at, size_t len) {
     if (id == 0x07) blocked = value;
   }
   take_settings(c, capacity, blocked);
-  add_event(c, "settings", ",\"capacity\":%llu,\"blocked\":%llu", (unsigned long long)capacity,
-            (unsigned long long)blocked);
+  add_event(c, "settings", ",\"capacity\":%llu,\"blocked\":%llu", (unsigned long long)capacity, (unsigned long long)blocked);
 }
 
 /* Returns why a frame may not begin on the control stream, or 0. */
@@ -152,9 +151,7 @@ static void take_request(connection *c, stream *s, const frame_event *f) {
 }
 
 /* Whether reading of a request goes on. */
-static int is_read(const connection *c, const stream *s) {
-  return !c->is_closing && !s->is_given_up && !s->is_waiting;
-}
+static int is_read(const connection *c, const stream *s) { return !c->is_closing && !s->is_given_up && !s->is_waiting; }
 
 /* The whole request arrived: answers it. */
 static void end_request(connection *c, stream *s) {

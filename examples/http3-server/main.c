@@ -4,8 +4,14 @@
 #include <string.h>
 #include "server.h"
 
-options option = {.port = 4433, .capacity = 4096, .blocked = 16, .limit = 65536, .encoder_capacity = 16384,
-                  .folder = "www", .certificate = "certificate.pem", .key = "key.pem"};
+options option = {.port = 4433,
+                  .capacity = 4096,
+                  .blocked = 16,
+                  .limit = 65536,
+                  .encoder_capacity = 16384,
+                  .folder = "www",
+                  .certificate = "certificate.pem",
+                  .key = "key.pem"};
 
 static const char usage[] =
     "usage: http3-server [OPTION VALUE]..\n"

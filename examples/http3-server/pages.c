@@ -74,8 +74,7 @@ typedef struct {
 
 static const h3_qpack_nv *find_field(const stream *s, const char *name) {
   for (size_t i = 0; i < s->field_count; i++)
-    if (s->fields[i].namelen == strlen(name) && !memcmp(s->fields[i].name, name, s->fields[i].namelen))
-      return &s->fields[i];
+    if (s->fields[i].namelen == strlen(name) && !memcmp(s->fields[i].name, name, s->fields[i].namelen)) return &s->fields[i];
   return NULL;
 }
 
@@ -94,10 +93,10 @@ static const char *read_request(const stream *s, request *r) {
 /* ---- Files */
 
 static const char *type_of(const char *path) {
-  static const char *const types[][2] = {{".html", "text/html; charset=utf-8"}, {".js", "text/javascript"},
-                                         {".css", "text/css"},                  {".json", "application/json"},
-                                         {".png", "image/png"},                 {".svg", "image/svg+xml"},
-                                         {".txt", "text/plain; charset=utf-8"}};
+  static const char *const types[][2] = {
+      {".html", "text/html; charset=utf-8"}, {".js", "text/javascript"}, {".css", "text/css"},
+      {".json", "application/json"},         {".png", "image/png"},      {".svg", "image/svg+xml"},
+      {".txt", "text/plain; charset=utf-8"}};
   const char *end = strrchr(path, '.');
   for (size_t i = 0; end && i < sizeof types / sizeof *types; i++)
     if (!strcmp(end, types[i][0])) return types[i][1];

@@ -19,8 +19,7 @@ int open_qpack(connection *c) {
   h3_qpack_encoder_settings theirs;
   h3_qpack_encoder_settings_default(&theirs);
   theirs.capacity = option.encoder_capacity;
-  return h3_qpack_decoder_new(&c->decoder, &ours) == H3_QPACK_OK &&
-         h3_qpack_encoder_new(&c->encoder, &theirs) == H3_QPACK_OK;
+  return h3_qpack_decoder_new(&c->decoder, &ours) == H3_QPACK_OK && h3_qpack_encoder_new(&c->encoder, &theirs) == H3_QPACK_OK;
 }
 
 /* The SETTINGS frame of the peer arrived. A maximum of 2^30 or more is taken as no table. */
@@ -128,8 +127,7 @@ void send_instructions(connection *c) {
   uint8_t piece[2048];
   size_t len;
   if (!c->is_open) return;
-  while (now() >= c->encoder_stream_due &&
-         (len = h3_qpack_encoder_write_encoder(&c->encoder, piece, sizeof piece))) {
+  while (now() >= c->encoder_stream_due && (len = h3_qpack_encoder_write_encoder(&c->encoder, piece, sizeof piece))) {
     add_bytes_event(c, "sent", 2, piece, len);
     send_on(c, &c->own[ENCODER], piece, len);
   }
@@ -149,14 +147,13 @@ enum { SHOWN_ENTRIES = 25 };
 
 /* Appends the newest entries of the encoder's table, or of the decoder's, as [["name","value"],..]. */
 static void add_entries(bytes *b, connection *c, int is_encoder) {
-  size_t count = is_encoder ? h3_qpack_encoder_get_num_entries(&c->encoder)
-                            : h3_qpack_decoder_get_num_entries(&c->decoder);
+  size_t count = is_encoder ? h3_qpack_encoder_get_num_entries(&c->encoder) : h3_qpack_decoder_get_num_entries(&c->decoder);
   size_t room = is_encoder ? h3_qpack_encoder_get_capacity(&c->encoder) : h3_qpack_decoder_get_capacity(&c->decoder);
   uint8_t *text = malloc(room + 1); /* an entry is smaller than the table */
   add(b, "[", 1);
   for (size_t i = 0; text && i < count && i < SHOWN_ENTRIES; i++) {
-    h3_qpack_field f = is_encoder ? h3_qpack_encoder_entry(&c->encoder, i, text, room)
-                                  : h3_qpack_decoder_entry(&c->decoder, i, text, room);
+    h3_qpack_field f =
+        is_encoder ? h3_qpack_encoder_entry(&c->encoder, i, text, room) : h3_qpack_decoder_entry(&c->decoder, i, text, room);
     if (f.status) break;
     add_text(b, i ? ",[" : "[");
     add_json(b, text, f.namelen);
@@ -171,17 +168,14 @@ static void add_entries(bytes *b, connection *c, int is_encoder) {
 /* Appends a line of JSON: both tables as they are now, and whether the events have reached their bound. */
 void add_tables(bytes *b, connection *c) {
   add_text(b, "{\"connection\":%u,\"event\":\"tables\",\"full\":%d,", c->number, c->events.is_short);
-  add_text(b, "\"received\":{\"capacity\":%zu,\"size\":%zu,\"insertions\":%zu,",
-           h3_qpack_decoder_get_capacity(&c->decoder), h3_qpack_decoder_get_table_size(&c->decoder),
-           h3_qpack_decoder_get_icnt(&c->decoder));
+  add_text(b, "\"received\":{\"capacity\":%zu,\"size\":%zu,\"insertions\":%zu,", h3_qpack_decoder_get_capacity(&c->decoder),
+           h3_qpack_decoder_get_table_size(&c->decoder), h3_qpack_decoder_get_icnt(&c->decoder));
   add_text(b, "\"blocked\":%zu,\"entries\":", h3_qpack_decoder_get_num_blocked(&c->decoder));
   add_entries(b, c, 0);
-  add_text(b, "},\"sent\":{\"capacity\":%zu,\"size\":%zu,\"insertions\":%zu,",
-           h3_qpack_encoder_get_capacity(&c->encoder), h3_qpack_encoder_get_table_size(&c->encoder),
-           h3_qpack_encoder_get_icnt(&c->encoder));
-  add_text(b, "\"known\":%zu,\"unacknowledged\":%zu,\"blocked\":%zu,\"entries\":",
-           h3_qpack_encoder_get_krcnt(&c->encoder), h3_qpack_encoder_get_num_unacked(&c->encoder),
-           h3_qpack_encoder_get_num_blocked(&c->encoder));
+  add_text(b, "},\"sent\":{\"capacity\":%zu,\"size\":%zu,\"insertions\":%zu,", h3_qpack_encoder_get_capacity(&c->encoder),
+           h3_qpack_encoder_get_table_size(&c->encoder), h3_qpack_encoder_get_icnt(&c->encoder));
+  add_text(b, "\"known\":%zu,\"unacknowledged\":%zu,\"blocked\":%zu,\"entries\":", h3_qpack_encoder_get_krcnt(&c->encoder),
+           h3_qpack_encoder_get_num_unacked(&c->encoder), h3_qpack_encoder_get_num_blocked(&c->encoder));
   add_entries(b, c, 1);
   add_text(b, "}}\n");
 }

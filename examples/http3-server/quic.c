@@ -96,9 +96,7 @@ void reset_stream(connection *c, stream *s, uint64_t code) {
   ngtcp2_conn_shutdown_stream(c->quic, s->id, code);
 }
 
-void stop_reading(connection *c, stream *s, uint64_t code) {
-  ngtcp2_conn_shutdown_stream_read(c->quic, s->id, code);
-}
+void stop_reading(connection *c, stream *s, uint64_t code) { ngtcp2_conn_shutdown_stream_read(c->quic, s->id, code); }
 
 /* Flow control is the brake: the peer may send on only as fast as its bytes are read. */
 void extend_windows(connection *c, stream *s, size_t len) {
@@ -124,8 +122,8 @@ static int make_id(ngtcp2_conn *quic, ngtcp2_cid *id, uint8_t *token, size_t len
   return 0;
 }
 
-static int on_data(ngtcp2_conn *quic, uint32_t flags, int64_t id, uint64_t offset, const uint8_t *data, size_t len,
-                   void *user, void *stream_user) {
+static int on_data(ngtcp2_conn *quic, uint32_t flags, int64_t id, uint64_t offset, const uint8_t *data, size_t len, void *user,
+                   void *stream_user) {
   connection *c = user;
   stream *s = find_stream(c, id);
   (void)quic, (void)offset, (void)stream_user;
@@ -137,8 +135,7 @@ static int on_data(ngtcp2_conn *quic, uint32_t flags, int64_t id, uint64_t offse
 }
 
 /* Frees what is acknowledged, from the front of a stream. */
-static int on_acknowledged(ngtcp2_conn *quic, int64_t id, uint64_t offset, uint64_t len, void *user,
-                           void *stream_user) {
+static int on_acknowledged(ngtcp2_conn *quic, int64_t id, uint64_t offset, uint64_t len, void *user, void *stream_user) {
   connection *c = user;
   stream *s = stream_of(c, id);
   (void)quic, (void)offset, (void)stream_user;
@@ -256,8 +253,8 @@ static int open_quic(connection *c, const ngtcp2_pkt_hd *header, const struct so
   fill(own.data, own.datalen, NULL);
   ngtcp2_settings_default(&settings);
   settings.initial_ts = now();
-  return !ngtcp2_conn_server_new(&c->quic, &header->scid, &own, &path, header->version, &callbacks, &settings,
-                                 &parameters, NULL, c);
+  return !ngtcp2_conn_server_new(&c->quic, &header->scid, &own, &path, header->version, &callbacks, &settings, &parameters,
+                                 NULL, c);
 }
 
 static void free_connection(connection *c) {
@@ -332,8 +329,7 @@ static void close_connection(connection *c) {
   ngtcp2_pkt_info info;
   ngtcp2_path_storage to;
   ngtcp2_path_storage_zero(&to);
-  ngtcp2_ssize len =
-      ngtcp2_conn_write_connection_close(c->quic, &to.path, &info, packet, sizeof packet, &c->error, now());
+  ngtcp2_ssize len = ngtcp2_conn_write_connection_close(c->quic, &to.path, &info, packet, sizeof packet, &c->error, now());
   if (len > 0) send_packet(&to, packet, (size_t)len);
   c->is_over = 1;
 }
@@ -379,8 +375,8 @@ static void write_packets(connection *c) {
     ngtcp2_pkt_info info;
     ngtcp2_path_storage to;
     ngtcp2_path_storage_zero(&to);
-    ngtcp2_ssize taken = -1, len = ngtcp2_conn_writev_stream(c->quic, &to.path, &info, packet, sizeof packet, &taken,
-                                                             flags, s ? s->id : -1, &data, s != NULL, now());
+    ngtcp2_ssize taken = -1, len = ngtcp2_conn_writev_stream(c->quic, &to.path, &info, packet, sizeof packet, &taken, flags,
+                                                             s ? s->id : -1, &data, s != NULL, now());
     if (s && taken >= 0) pass(c, s, (size_t)taken);
     if (len == NGTCP2_ERR_WRITE_MORE) continue;
     if (len == NGTCP2_ERR_STREAM_DATA_BLOCKED) {
@@ -407,16 +403,16 @@ static void answer_version(const ngtcp2_version_cid *of, const struct sockaddr_i
   static const uint32_t versions[] = {NGTCP2_PROTO_VER_V1};
   uint8_t packet[256], random;
   fill(&random, 1, NULL);
-  ngtcp2_ssize len = ngtcp2_pkt_write_version_negotiation(packet, sizeof packet, random, of->scid, of->scidlen,
-                                                          of->dcid, of->dcidlen, versions, 1);
+  ngtcp2_ssize len = ngtcp2_pkt_write_version_negotiation(packet, sizeof packet, random, of->scid, of->scidlen, of->dcid,
+                                                          of->dcidlen, versions, 1);
   if (len > 0) send_datagram((const struct sockaddr *)peer, sizeof *peer, packet, (size_t)len);
 }
 
 /* There are too many connections: the peer may try again later. */
 static void refuse_connection(const ngtcp2_pkt_hd *header, const struct sockaddr_in *peer) {
   uint8_t packet[PACKET];
-  ngtcp2_ssize len = ngtcp2_crypto_write_connection_close(packet, sizeof packet, header->version, &header->scid,
-                                                          &header->dcid, NGTCP2_CONNECTION_REFUSED, NULL, 0);
+  ngtcp2_ssize len = ngtcp2_crypto_write_connection_close(packet, sizeof packet, header->version, &header->scid, &header->dcid,
+                                                          NGTCP2_CONNECTION_REFUSED, NULL, 0);
   if (len > 0) send_datagram((const struct sockaddr *)peer, sizeof *peer, packet, (size_t)len);
 }
 
@@ -483,8 +479,7 @@ static uint64_t write_all(void) {
   uint64_t first = now() + 100 * NGTCP2_MILLISECONDS;
   for (connection **at = &connections; *at;) {
     connection *c = *at;
-    if (!c->is_closing && !c->is_over && ngtcp2_conn_get_expiry(c->quic) <= now() &&
-        ngtcp2_conn_handle_expiry(c->quic, now()))
+    if (!c->is_closing && !c->is_over && ngtcp2_conn_get_expiry(c->quic) <= now() && ngtcp2_conn_handle_expiry(c->quic, now()))
       c->is_over = 1;
     if (!c->is_over) write_packets(c);
     if (c->is_over) {

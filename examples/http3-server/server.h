@@ -91,12 +91,12 @@ typedef struct stream {
   bytes body;
   /* sending */
   chunk *first, *last, *unsent;
-  size_t queued;       /* bytes of chunks */
-  int has_more;        /* the rest of the answer is read when its chunks are sent */
-  int file;            /* which has the rest, or -1 */
+  size_t queued;           /* bytes of chunks */
+  int has_more;            /* the rest of the answer is read when its chunks are sent */
+  int file;                /* which has the rest, or -1 */
   size_t event, event_end; /* the rest of the events */
-  int ends;            /* it ends after its last chunk */
-  int is_ended;        /* QUIC has the end */
+  int ends;                /* it ends after its last chunk */
+  int is_ended;            /* QUIC has the end */
   int is_queued, is_full, is_shut;
   struct stream *next_queued;
 } stream;
@@ -112,15 +112,15 @@ typedef struct connection {
   ngtcp2_cid first_id;
   ngtcp2_connection_close_error error;
   int is_open, is_closing, is_over;
-  stream *streams;                  /* of the peer */
-  stream own[OWN_STREAMS];          /* opened by this side */
+  stream *streams;         /* of the peer */
+  stream own[OWN_STREAMS]; /* opened by this side */
   stream *first_queued, *last_queued;
-  int has_settings;                 /* the peer's */
+  int has_settings; /* the peer's */
   h3_qpack_encoder encoder;
   h3_qpack_decoder decoder;
   uint64_t encoder_stream_due;
-  size_t queued;                    /* bytes of chunks of all streams */
-  bytes events;                     /* lines of JSON: what QPACK did, for /live and the log */
+  size_t queued; /* bytes of chunks of all streams */
+  bytes events;  /* lines of JSON: what QPACK did, for /live and the log */
 } connection;
 
 /* ---- QUIC (quic.c) */
@@ -152,12 +152,12 @@ enum {
   H3_REQUEST_INCOMPLETE = 0x10d
 };
 
-void open_http3(connection *c);                  /* the handshake is complete */
-void open_reader(stream *s);                     /* a stream of the peer begins */
-void receive_on(connection *c, stream *s);       /* bytes or the end of a stream arrived */
-void give_up(connection *c, stream *s);          /* the peer reset the stream, or it closed */
+void open_http3(connection *c);                            /* the handshake is complete */
+void open_reader(stream *s);                               /* a stream of the peer begins */
+void receive_on(connection *c, stream *s);                 /* bytes or the end of a stream arrived */
+void give_up(connection *c, stream *s);                    /* the peer reset the stream, or it closed */
 void refuse(connection *c, stream *s, const char *status); /* answers, and reads no more of the request */
-void fail_for_memory(connection *c);             /* ends the connection */
+void fail_for_memory(connection *c);                       /* ends the connection */
 void free_stream(stream *s);
 
 /* ---- QPACK (qpack.c) */
@@ -185,8 +185,8 @@ int open_log(void); /* returns 0 if the file of --log can't be written */
 void add_event(connection *c, const char *kind, const char *format, ...) __attribute__((format(printf, 3, 4)));
 void add_text_event(connection *c, const char *kind, const uint8_t *text, size_t len);
 void add_bytes_event(connection *c, const char *kind, unsigned type, const uint8_t *p, size_t len);
-void add_section_event(connection *c, const char *kind, const stream *s, size_t required, const uint8_t *section,
-                       size_t len, const h3_qpack_nv *nva, size_t nvlen);
+void add_section_event(connection *c, const char *kind, const stream *s, size_t required, const uint8_t *section, size_t len,
+                       const h3_qpack_nv *nva, size_t nvlen);
 void add_fields(bytes *b, const h3_qpack_nv *nva, size_t nvlen); /* as [["name","value"],..] */
 
 #endif

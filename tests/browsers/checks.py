@@ -30,12 +30,12 @@ def try_checks(script, about, checks):
     passed = failed = 0
     for name, check in checks.items():
         try:
-            print(f'tests/browsers/{script}: {about}, {name}: {check()}', flush=True)
+            print(f"tests/browsers/{script}: {about}, {name}: {check()}", flush=True)
             passed += 1
         except NotShown as why:
-            print(f'not shown: tests/browsers/{script}: {about}, {name}, {why}', flush=True)
+            print(f"not shown: tests/browsers/{script}: {about}, {name}, {why}", flush=True)
         except Failure as why:
-            print(f'tests/browsers/{script}: FAILED: {about}, {name}: {why}', flush=True)
+            print(f"tests/browsers/{script}: FAILED: {about}, {name}: {why}", flush=True)
             failed += 1
     return passed, failed
 
@@ -46,10 +46,10 @@ def in_each(subject, check):
     counts = [(0, 0)]
     for kind in BROWSERS:
         if not shutil.which(kind.program):
-            print(f'not shown: {subject} in {kind.name}, without {kind.program}')
+            print(f"not shown: {subject} in {kind.name}, without {kind.program}")
             continue
         with opened(kind) as (browser, room):
             counts.append(check(browser, room))
     passed, failed = map(sum, zip(*counts))
-    print(f'{passed} passed, {failed} failed')
+    print(f"{passed} passed, {failed} failed")
     return failed > 0

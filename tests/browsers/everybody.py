@@ -48,13 +48,15 @@ WRONG = """(() => {
   const moving = all.filter(it => getComputedStyle(it).transitionDuration !== '0s' || getComputedStyle(it).animationName !== 'none');
   if (moving.length) found.push(`${moving.length} elements move`);
   return Array.from(new Set(found)).slice(0, 12);
-})()""".replace('LEAST', str(LEAST_CONTRAST))
+})()""".replace(
+    "LEAST", str(LEAST_CONTRAST)
+)
 # Faults that must be found: what is done to a page.
 PLANTED = {
-    'contrast': "document.body.style.setProperty('--soft', '#999')",
-    'no name': "document.getElementById('moment').removeAttribute('aria-label')",
-    'no scope': "document.querySelector('th').removeAttribute('scope')",
-    'wider': "document.querySelector('h1').style.minWidth = '3000px'",
+    "contrast": "document.body.style.setProperty('--soft', '#999')",
+    "no name": "document.getElementById('moment').removeAttribute('aria-label')",
+    "no scope": "document.querySelector('th').removeAttribute('scope')",
+    "wider": "document.querySelector('h1').style.minWidth = '3000px'",
 }
 
 
@@ -63,20 +65,20 @@ def check(pages):
     looked = 0
     for html in (pages.report(), pages.faulty_report()):
         for width, scheme in itertools.product((1280, 400), pages.browser.schemes):
-            page = pages.open(html, '', width, scheme)
+            page = pages.open(html, "", width, scheme)
             page.ask("document.querySelectorAll('details').forEach(it => { it.open = true; })")
-            for view in ('requests', 'timeline'):
+            for view in ("requests", "timeline"):
                 page.ask(f"report.choose('{view}')")
                 wrong = page.ask(WRONG)
                 if wrong:
-                    raise Failure(f'{width} pixels, {scheme}, {view}: {wrong}')
+                    raise Failure(f"{width} pixels, {scheme}, {view}: {wrong}")
                 looked += 1
     number = page.printed()
     if not 1 <= number <= MOST_PAGES:
-        raise Failure(f'the page is printed on {number}')
+        raise Failure(f"the page is printed on {number}")
     for name, fault in PLANTED.items():
         page = pages.open(pages.report())
         page.ask(fault)
         if not any(name in it for it in page.ask(WRONG)):
-            raise Failure(f'it was not found: {name}')
-    return f'{looked} views, {number} printed, {len(PLANTED)} planted faults found'
+            raise Failure(f"it was not found: {name}")
+    return f"{looked} views, {number} printed, {len(PLANTED)} planted faults found"

@@ -29,7 +29,7 @@ def stop(process):
 @contextmanager
 def new_folder():
     """Makes a folder, and removes it at the end. A process that was killed may write there a moment longer."""
-    path = tempfile.mkdtemp(prefix='h3-qpack-browser-')
+    path = tempfile.mkdtemp(prefix="h3-qpack-browser-")
     try:
         yield path
     finally:
@@ -44,17 +44,19 @@ def check(_):
     """A process is ended with a child that would write on, and its folder is removed. One without a group is ended too."""
     child = 'for i in $(seq 20000); do mkdir -p "$0/Default" && : >"$0/Default/$i"; done'  # some 20 seconds
     with new_folder() as path:
-        words = ['sh', '-c', f"sh -c '{child}' \"$0\" & exec sleep 600", path]
+        words = ["sh", "-c", f"sh -c '{child}' \"$0\" & exec sleep 600", path]
         with subprocess.Popen(words, stdout=subprocess.PIPE, stderr=subprocess.DEVNULL, start_new_session=True) as running:
             until = time.time() + SECONDS
-            while not os.path.exists(f'{path}/Default') and time.time() < until:
+            while not os.path.exists(f"{path}/Default") and time.time() < until:
                 time.sleep(0.01)
             status = stop(running)
             is_ended = select.select([running.stdout], [], [], 5)[0] != []  # as no process has the other end of the pipe
     if status != -signal.SIGTERM or not is_ended or os.path.exists(path):
-        raise Failure(f'a process ended with {status}; {is_ended}: its child ended; {not os.path.exists(path)}: the folder is removed')
-    with subprocess.Popen(['sleep', '600']) as running:
+        raise Failure(
+            f"a process ended with {status}; {is_ended}: its child ended; {not os.path.exists(path)}: the folder is removed"
+        )
+    with subprocess.Popen(["sleep", "600"]) as running:
         status = stop(running)
     if status != -signal.SIGTERM:
-        raise Failure(f'a process without a group ended with {status}')
-    return 'two are ended, and a folder is removed'
+        raise Failure(f"a process without a group ended with {status}")
+    return "two are ended, and a folder is removed"

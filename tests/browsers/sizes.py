@@ -14,11 +14,11 @@ import large
 from nghttp3 import Failure
 
 TOP = Path(__file__).resolve().parents[2]
-sys.path.insert(0, str(TOP / 'tests'))
+sys.path.insert(0, str(TOP / "tests"))
 from slowness import measure_slowness  # noqa: E402 # pylint: disable=wrong-import-position
 
-DOCUMENT = TOP / 'docs' / 'PERFORMANCE.md'
-HEAD = '## The page of `qpk report`'
+DOCUMENT = TOP / "docs" / "PERFORMANCE.md"
+HEAD = "## The page of `qpk report`"
 IN_THE_GATE, ALL = (1_000, 10_000), (1_000, 10_000, 100_000)
 # Of 10,000 requests: bytes, KB, and seconds of the processor. In the gate a slow processor has longer, by as much as it is slower.
 MOST_BYTES, MOST_MEMORY, MOST_SECONDS, MOST_READY, MOST_ANSWER = 5_000_000, 150_000, 3, 1.0, 0.2
@@ -30,7 +30,7 @@ filter are the longest of 24 and of 5.
 | requests | MB of HTML | s of `report` | MB of memory | s until ready | ms a scroll | ms a filter |
 |---|---|---|---|---|---|---|
 """
-FILTERS = ['status:404', 'path:/api -method:post', 'blocked', 'cookie:session=7', '']
+FILTERS = ["status:404", "path:/api -method:post", "blocked", "cookie:session=7", ""]
 # Shows a list, scrolls to a place of it, and filters. Each returns once the page is laid out.
 SHOW = "(report.choose('{}'), document.body.offsetHeight)"
 SCROLL = """(({{element}}, list) => {{ element.scrollTop = {} * element.scrollHeight; list.render(); return document.body.offsetHeight; }})(
@@ -40,17 +40,17 @@ FILTER = "(report.requests.filter.value = '{}', report.requests.update(), docume
 
 def program():
     """Returns the program qpk, which ./qpk runs."""
-    return str(TOP / 'qpk')
+    return str(TOP / "qpk")
 
 
 def measure_steps(page):
     """Returns the seconds of the processor of the longest scroll, and of the longest filter."""
     places = [number * 7 % 12 / 11 for number in range(12)]
     scrolls = []
-    for view in ('requests', 'timeline'):
+    for view in ("requests", "timeline"):
         page.ask(SHOW.format(view))
         scrolls += [seconds_of(page, SCROLL.format(it)) for it in places]
-    page.ask(SHOW.format('requests'))
+    page.ask(SHOW.format("requests"))
     return max(scrolls), max(seconds_of(page, FILTER.format(it)) for it in FILTERS)
 
 
@@ -63,30 +63,37 @@ def seconds_of(page, expression):
 
 def measure(pages, requests):
     """Returns the figures of a page of that many requests."""
-    path, page_path = (Path(pages.room) / f'{requests}.{it}' for it in ('txt', 'html'))
-    path.write_text(large.recording(program(), requests), encoding='ascii')
-    words = [sys.executable, TOP / 'tool' / 'qpk-report', 'report', path, '-o', page_path]
-    with subprocess.Popen(words, env={**os.environ, 'QPK': program()}) as running:
+    path, page_path = (Path(pages.room) / f"{requests}.{it}" for it in ("txt", "html"))
+    path.write_text(large.recording(program(), requests), encoding="ascii")
+    words = [sys.executable, TOP / "tool" / "qpk-report", "report", path, "-o", page_path]
+    with subprocess.Popen(words, env={**os.environ, "QPK": program()}) as running:
         _, status, used = os.wait4(running.pid, 0)
         running.returncode = os.WEXITSTATUS(status)
     if running.returncode:
-        raise Failure(f'qpk-report ended with {running.returncode} for {requests} requests')
-    found = {'requests': requests, 'bytes': page_path.stat().st_size, 'memory': used.ru_maxrss,
-             'seconds': used.ru_utime + used.ru_stime}
-    page = pages.open(page_path.read_text('utf-8'))
-    found['ready'] = page.processor()
-    found['clock'] = page.ask("performance.getEntriesByName('ready')[0].startTime / 1000")
-    found['scroll'], found['filter'] = measure_steps(page)
-    if page.ask('report.connection.requests.length') != requests:
-        raise Failure(f'a page of {requests} requests has others')
+        raise Failure(f"qpk-report ended with {running.returncode} for {requests} requests")
+    found = {
+        "requests": requests,
+        "bytes": page_path.stat().st_size,
+        "memory": used.ru_maxrss,
+        "seconds": used.ru_utime + used.ru_stime,
+    }
+    page = pages.open(page_path.read_text("utf-8"))
+    found["ready"] = page.processor()
+    found["clock"] = page.ask("performance.getEntriesByName('ready')[0].startTime / 1000")
+    found["scroll"], found["filter"] = measure_steps(page)
+    if page.ask("report.connection.requests.length") != requests:
+        raise Failure(f"a page of {requests} requests has others")
     page.close()
     return found
 
 
 def is_slow(found, slowness):
     """Returns whether a page takes too long on a processor that is that much slower than usual."""
-    return (found['seconds'] > slowness * MOST_SECONDS or found['ready'] > slowness * MOST_READY
-            or max(found['scroll'], found['filter']) > slowness * MOST_ANSWER)
+    return (
+        found["seconds"] > slowness * MOST_SECONDS
+        or found["ready"] > slowness * MOST_READY
+        or max(found["scroll"], found["filter"]) > slowness * MOST_ANSWER
+    )
 
 
 def check(pages):
@@ -96,17 +103,19 @@ def check(pages):
         before = measure_slowness()
         found.append(measure(pages, requests))
         if is_slow(found[-1], max(before, measure_slowness())):
-            raise Failure(f'it takes too long: {found[-1]}')
+            raise Failure(f"it takes too long: {found[-1]}")
     for it in found:
-        if it['bytes'] > MOST_BYTES or it['memory'] > MOST_MEMORY:
-            raise Failure(f'it is too large: {it}')
-    return '; '.join(f"{it['requests']} requests {it['bytes']} bytes, ready after {it['ready']:.2f} s" for it in found)
+        if it["bytes"] > MOST_BYTES or it["memory"] > MOST_MEMORY:
+            raise Failure(f"it is too large: {it}")
+    return "; ".join(f"{it['requests']} requests {it['bytes']} bytes, ready after {it['ready']:.2f} s" for it in found)
 
 
 def row_of(it):
     """Returns the row of a page in the table."""
-    return (f"| {it['requests']:,} | {it['bytes'] / 1e6:.2f} | {it['seconds']:.1f} | {it['memory'] / 1000:.0f} | "
-            f"{it['clock']:.2f} | {1000 * it['scroll']:.0f} | {1000 * it['filter']:.0f} |\n")
+    return (
+        f"| {it['requests']:,} | {it['bytes'] / 1e6:.2f} | {it['seconds']:.1f} | {it['memory'] / 1000:.0f} | "
+        f"{it['clock']:.2f} | {1000 * it['scroll']:.0f} | {1000 * it['filter']:.0f} |\n"
+    )
 
 
 def write(pages, numbers):
@@ -114,11 +123,11 @@ def write(pages, numbers):
     rows = []
     for it in (measure(pages, requests) for requests in numbers):
         rows.append(row_of(it))
-        print(rows[-1], end='', flush=True)
-        if it['clock'] > MOST_OPEN or max(it['scroll'], it['filter']) > MOST_ANSWER:
+        print(rows[-1], end="", flush=True)
+        if it["clock"] > MOST_OPEN or max(it["scroll"], it["filter"]) > MOST_ANSWER:
             yield f"{it['requests']} requests: {rows[-1].strip()}"
     text = f'{HEAD}\n\n{ABOUT.format(date=datetime.date.today())}{"".join(rows)}'
-    before = DOCUMENT.read_text('utf-8')
-    pattern = re.compile(re.escape(HEAD) + r'.*?(?=\n## |\Z)', re.S)
-    after = pattern.sub(lambda _: text, before) if pattern.search(before) else f'{before.rstrip()}\n\n{text}'
-    DOCUMENT.write_text(after, encoding='utf-8')
+    before = DOCUMENT.read_text("utf-8")
+    pattern = re.compile(re.escape(HEAD) + r".*?(?=\n## |\Z)", re.S)
+    after = pattern.sub(lambda _: text, before) if pattern.search(before) else f"{before.rstrip()}\n\n{text}"
+    DOCUMENT.write_text(after, encoding="utf-8")

@@ -29,8 +29,7 @@ static void make(int side, size_t maximum) {
   settings.qpack_blocked_streams = side == SERVER ? 100 : 0;
   if (side == CLIENT)
     check(!nghttp3_conn_client_new(&conns[side], &callbacks, &settings, nghttp3_mem_default(), NULL), "client_new");
-  else
-    check(!nghttp3_conn_server_new(&conns[side], &callbacks, &settings, nghttp3_mem_default(), NULL), "server_new");
+  else check(!nghttp3_conn_server_new(&conns[side], &callbacks, &settings, nghttp3_mem_default(), NULL), "server_new");
   check(!nghttp3_conn_bind_control_stream(conns[side], 2 + side), "bind_control_stream");
   check(!nghttp3_conn_bind_qpack_streams(conns[side], 6 + side, 10 + side), "bind_qpack_streams");
   if (side == SERVER) nghttp3_conn_set_max_client_streams_bidi(conns[side], REQUESTS);

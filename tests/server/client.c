@@ -78,8 +78,8 @@ static int make_id(ngtcp2_conn *c, ngtcp2_cid *id, uint8_t *token, size_t len, v
   return 0;
 }
 
-static int on_data(ngtcp2_conn *c, uint32_t flags, int64_t id, uint64_t offset, const uint8_t *data, size_t len,
-                   void *user, void *stream_user) {
+static int on_data(ngtcp2_conn *c, uint32_t flags, int64_t id, uint64_t offset, const uint8_t *data, size_t len, void *user,
+                   void *stream_user) {
   stream *s = stream_of(id);
   size_t part = len < KEPT - s->inlen ? len : KEPT - s->inlen;
   (void)c, (void)offset, (void)user, (void)stream_user;
@@ -289,8 +289,7 @@ static void close_connection(void) {
   ngtcp2_path_storage_zero(&to);
   ngtcp2_connection_close_error_default(&error);
   ngtcp2_connection_close_error_set_application_error(&error, 0x100, NULL, 0);
-  ngtcp2_ssize len =
-      ngtcp2_conn_write_connection_close(quic, &to.path, &info, packet, sizeof packet, &error, now());
+  ngtcp2_ssize len = ngtcp2_conn_write_connection_close(quic, &to.path, &info, packet, sizeof packet, &error, now());
   CHECK(len <= 0 || send(udp, packet, (size_t)len, 0) == len || errno == ECONNREFUSED);
 }
 

@@ -35,7 +35,7 @@ static int converse(const uint8_t *instructions, size_t instructionslen, const u
                     const uint8_t *answers, size_t answerslen) {
   uint8_t section[ROOM], piece[4];
   size_t len;
-SNIPPET
+  SNIPPET
   append(&on_stream_4, section, sent.len);
   return got.fields == 1 ? 0 : -1;
 }
@@ -43,8 +43,7 @@ SNIPPET
 /* Has ends of their own receive what a peer sent, and returns whether that gives the result. */
 static int gives(int result, bytes instructions, bytes message, bytes answers) {
   on_encoder_stream.len = on_decoder_stream.len = on_stream_4.len = 0;
-  int is = converse(instructions.bytes, instructions.len, message.bytes, message.len, answers.bytes, answers.len) ==
-           result;
+  int is = converse(instructions.bytes, instructions.len, message.bytes, message.len, answers.bytes, answers.len) == result;
   h3_qpack_encoder_del(&encoder);
   h3_qpack_decoder_del(&decoder);
   return is;

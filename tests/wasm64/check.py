@@ -47,12 +47,12 @@ def unpack(outcomes):
     """Yields the status, the output, and what was said on standard error, of each case."""
     at = 0
     while at < len(outcomes):
-        status, = struct.unpack_from("<I", outcomes, at)
+        (status,) = struct.unpack_from("<I", outcomes, at)
         at += 4
         texts = []
         for _ in range(2):
-            size, = struct.unpack_from("<I", outcomes, at)
-            texts.append(outcomes[at + 4:at + 4 + size])
+            (size,) = struct.unpack_from("<I", outcomes, at)
+            texts.append(outcomes[at + 4 : at + 4 + size])
             at += 4 + size
         yield (status, *texts)
 
@@ -113,8 +113,8 @@ def run_engine(engine, cases, proved, modules, room):
         print(why)
         return [False]
     results = [len(outcomes) == len(batch), compare_program(cases, proved, outcomes)]
-    results += [passes(*it) for it in zip(modules, outcomes[len(cases):])]
-    return results + [tells_failure(it) for it in outcomes[len(cases) + len(modules):]]
+    results += [passes(*it) for it in zip(modules, outcomes[len(cases) :])]
+    return results + [tells_failure(it) for it in outcomes[len(cases) + len(modules) :]]
 
 
 def main(words):

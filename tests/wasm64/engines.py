@@ -10,9 +10,21 @@ LOADER = HERE.parent.parent / "dist" / "qpk_wasm64.js"
 SCRIPTS = [LOADER, HERE / "library.js", HERE / "batch.js"]
 # The most seconds that a batch may take, on a busy machine.
 SECONDS = 300
-CHROMIUM = ["chromium", "--headless=new", "--no-sandbox", "--disable-gpu", "--disable-dev-shm-usage", "--no-first-run",
-            "--disable-extensions", "--disable-background-networking", "--disable-component-update", "--disable-sync",
-            "--disable-default-apps", "--no-proxy-server", "--host-resolver-rules=MAP * ~NOTFOUND, EXCLUDE 127.0.0.1"]
+CHROMIUM = [
+    "chromium",
+    "--headless=new",
+    "--no-sandbox",
+    "--disable-gpu",
+    "--disable-dev-shm-usage",
+    "--no-first-run",
+    "--disable-extensions",
+    "--disable-background-networking",
+    "--disable-component-update",
+    "--disable-sync",
+    "--disable-default-apps",
+    "--no-proxy-server",
+    "--host-resolver-rules=MAP * ~NOTFOUND, EXCLUDE 127.0.0.1",
+]
 
 
 class Failure(Exception):
@@ -82,8 +94,9 @@ def run_chromium(batch, modules, room):
     }
     threading.Thread(target=server.serve_forever, daemon=True).start()
     words = [*CHROMIUM, f"--user-data-dir={room}/profile", f"http://127.0.0.1:{server.server_port}/"]
-    browser = subprocess.Popen(words, stdout=subprocess.DEVNULL, stderr=subprocess.DEVNULL,
-                               env={**os.environ, "HOME": str(room)})
+    browser = subprocess.Popen(
+        words, stdout=subprocess.DEVNULL, stderr=subprocess.DEVNULL, env={**os.environ, "HOME": str(room)}
+    )
     try:
         if not server.ended.wait(SECONDS):
             raise Failure(f"Chromium: no outcomes in {SECONDS} seconds")

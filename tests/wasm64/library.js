@@ -9,8 +9,9 @@ const NV = 40, FIELD = 24; // bytes of a h3_qpack_nv and of a h3_qpack_field
 
 // Returns the lists of a text of lines, a field each, with an empty line between lists.
 function readLists(text) {
-  return text.split('\n\n').map(list => list.split('\n').filter(line => line.includes('\t')).map(line => line.split('\t')))
-      .filter(list => list.length);
+  return text.split('\n\n')
+    .map(list => list.split('\n').filter(line => line.includes('\t')).map(line => line.split('\t')))
+    .filter(list => list.length);
 }
 
 class Library {
@@ -86,7 +87,8 @@ async function sendLists(bytes, corpus) {
   let sent = 0n, inserted = 0n;
   lists.forEach((list, i) => {
     const id = BigInt(4 * i);
-    const len = library.call('h3_qpack_encoder_encode', 8, encoder, id, library.store(list), BigInt(list.length), section, ROOM);
+    const len =
+      library.call('h3_qpack_encoder_encode', 8, encoder, id, library.store(list), BigInt(list.length), section, ROOM);
     const instructions = exports.h3_qpack_encoder_write_encoder(encoder, stream, ROOM);
     library.call('h3_qpack_decoder_read_encoder', 8, decoder, stream, instructions);
     const count = library.call('h3_qpack_decoder_decode', 8, decoder, id, section, len);

@@ -203,7 +203,9 @@ def tune(words: argparse.Namespace, rest: List[str]) -> int:
 
 def show_as_it_grows(words: argparse.Namespace, rest: List[str]) -> int:
     """Prints what is new of a file until an interrupt, and returns the status."""
-    follower = Follower(words.qpk, rest, lambda data: chosen(words.connection, read_file(BytesIO(data), Wanted(words.keys, words.by))))
+    follower = Follower(
+        words.qpk, rest, lambda data: chosen(words.connection, read_file(BytesIO(data), Wanted(words.keys, words.by)))
+    )
     try:
         with open_file(words.capture) as file:
             follow(file, follower, sys.stdout.buffer.write, sys.stdout.buffer.flush)

@@ -62,7 +62,9 @@ def show(program: str, words: List[str], connection: Connection, is_json: bool) 
     with tempfile.TemporaryFile() as recording:
         connection.write(recording)
         recording.seek(0)
-        ran = subprocess.run([program, "show", *words, "-"], stdin=recording, stdout=output, stderr=subprocess.PIPE, check=False)
+        ran = subprocess.run(
+            [program, "show", *words, "-"], stdin=recording, stdout=output, stderr=subprocess.PIPE, check=False
+        )
     if ran.stderr:
         output.close()
         raise SourceError(to_text(ran.stderr).strip())

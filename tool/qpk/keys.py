@@ -23,9 +23,7 @@ class Version(NamedTuple):
 
 
 INITIAL, EARLY, HANDSHAKE, RETRY = "initial", "early", "handshake", "retry"
-VERSION_1 = Version(
-    1, bytes.fromhex("38762cf7f55934b34d179ae6a4c80cadccbb7f0a"), b"quic", (INITIAL, EARLY, HANDSHAKE, RETRY)
-)
+VERSION_1 = Version(1, bytes.fromhex("38762cf7f55934b34d179ae6a4c80cadccbb7f0a"), b"quic", (INITIAL, EARLY, HANDSHAKE, RETRY))
 VERSION_2 = Version(
     0x6B3343CF, bytes.fromhex("0dede3def700a6db819381be6e269dcbf9bd2ed9"), b"quicv2", (RETRY, INITIAL, EARLY, HANDSHAKE)
 )

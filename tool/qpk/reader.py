@@ -119,9 +119,7 @@ class Reader:
         if len(data) >= LEAST_SEGMENT and number and number not in VERSIONS and len(self.others) < ENOUGH:
             self.others.add(number)
 
-    def read_initial(
-        self, datagram: Datagram, begin: int, header: LongHeader, found: Optional[Owner]
-    ) -> Optional[Owner]:
+    def read_initial(self, datagram: Datagram, begin: int, header: LongHeader, found: Optional[Owner]) -> Optional[Owner]:
         """Reads an Initial packet, and returns its connection, which it may begin, and the mark of its sender."""
         data, at = datagram.data, header.number_at
         if found:

@@ -18,10 +18,14 @@ PEERS = {"client": "server", "server": "client"}
 def count(words: List[str], program: str) -> List[Dict[str, Any]]:
     """Returns what qpk stats counts in each direction, with the same lists encoded again."""
     command = [sys.executable, str(SCRIPTS / "qpk-report"), "stats", "--json", "--try", ",".join(map(str, CAPACITIES)), *words]
-    ran = subprocess.run(command, stdout=subprocess.PIPE, stderr=subprocess.PIPE, check=False, env={**os.environ, "QPK": program})
+    ran = subprocess.run(
+        command, stdout=subprocess.PIPE, stderr=subprocess.PIPE, check=False, env={**os.environ, "QPK": program}
+    )
     said = to_text(ran.stderr).strip().splitlines()
     if ran.returncode not in (0, 2):
-        raise SourceError(said[-1].replace("qpk stats: ", "", 1).replace("--try", "tune") if said else "qpk stats gave no answer")
+        raise SourceError(
+            said[-1].replace("qpk stats: ", "", 1).replace("--try", "tune") if said else "qpk stats gave no answer"
+        )
     for line in said:
         complain(line)
     return [json.loads(it) for it in ran.stdout.splitlines()]

@@ -175,11 +175,13 @@ def test_a_section_that_is_too_long():
 def test_pieces_after_a_gap():
     """The time for many is linear, in either order, and they are read once the gap is closed."""
     for step in (1, -1):
+
         def fill(size):
             stream = qpk.streams.Stream(0)
             for offset in range(1, size + 1)[::step]:
                 assert not stream.receive(offset, b"a")
             assert stream.receive(0, b"a") == b"a" * (size + 1) and not stream.pieces and not stream.waiting
+
         assert_linear(fill, 4000)
 
 
@@ -322,7 +324,9 @@ def mutated(choice, data):
         if kind == 0:
             data[at] = choice.randrange(256)
         elif kind == 1:
-            data[at:at] = choice.choice([b"\x1b[31m", b"\xff\xfe", b"null", b"-1", b"1e999", b"\xc2\x9b", b'"', b"\n", b"9" * 5000])
+            data[at:at] = choice.choice(
+                [b"\x1b[31m", b"\xff\xfe", b"null", b"-1", b"1e999", b"\xc2\x9b", b'"', b"\n", b"9" * 5000]
+            )
         elif kind == 2:
             del data[at : at + size]
         elif kind == 3:

@@ -333,8 +333,15 @@ def test_the_log_of_the_example_server():
     text = "".join(json.dumps({"connection": 3, **it}) + "\n" for it in events)
     status, output, said = ask("lines", "-", data=text.encode())
     assert (status, said) == (0, b"") and output.decode().splitlines() == [
-        "# connection 3, the example server", "< s 4096 16", "> s 4096 16", "> e 3fe11f6294e7838c767f", "> b 0 020080",
-        "< e 3fe11f6294e7838c767f", "< d 80", "< b 0 020080", "> d 80",
+        "# connection 3, the example server",
+        "< s 4096 16",
+        "> s 4096 16",
+        "> e 3fe11f6294e7838c767f",
+        "> b 0 020080",
+        "< e 3fe11f6294e7838c767f",
+        "< d 80",
+        "< b 0 020080",
+        "> d 80",
     ]
     status, output, said = ask("check", "-", data=text.encode())
     assert status == 0 and b"nothing found: sections 2, " in output, output

@@ -144,7 +144,9 @@ def test_packets():
     assert (status, said) == (1, b""), said
     seen = {}
     for line in output.decode().splitlines()[2:]:
-        found = re.fullmatch(r"(?:perhaps: )?line (\d+), #(\d+): .*; likely cause: .*; in Wireshark: (.*) \|\| frame.number == (\d+)", line)
+        found = re.fullmatch(
+            r"(?:perhaps: )?line (\d+), #(\d+): .*; likely cause: .*; in Wireshark: (.*) \|\| frame.number == (\d+)", line
+        )
         assert found and found[2] == found[4], line
         # What the end cuts has the last line of all, and the packet of its own last line.
         assert int(found[2]) == begin + (8 if ": cut at the end " in line else int(found[1])), line
@@ -201,19 +203,24 @@ def short_lines(text, *words):
 def test_short_lines():
     """A finding is its place, what is wrong, the bytes with a mark, the rule, and the cause; then what follows is counted."""
     text = f"{SETTINGS}@12:00 > e {INSERT}\n> b 4 0200d1d7ff24\n> b 8 0380\n"
-    assert short_lines(text) == (1, [
-        "1. line 3: the client's section of stream 4, byte 4",
-        "  found   static index 99 is past the static table, which ends at 98",
-        "  bytes   02 00 d1 d7 ff 24",
-        "                      ^^",
-        "  rule    RFC 9204, section 3.1: 0x0200 QPACK_DECOMPRESSION_FAILED",
-        "  cause   static indexes begin at 0; or a dynamic index has the bit of a static",
-        "          one",
-        "  follow  1 more, which --all lists",
-        "",
-    ])
+    assert short_lines(text) == (
+        1,
+        [
+            "1. line 3: the client's section of stream 4, byte 4",
+            "  found   static index 99 is past the static table, which ends at 98",
+            "  bytes   02 00 d1 d7 ff 24",
+            "                      ^^",
+            "  rule    RFC 9204, section 3.1: 0x0200 QPACK_DECOMPRESSION_FAILED",
+            "  cause   static indexes begin at 0; or a dynamic index has the bit of a static",
+            "          one",
+            "  follow  1 more, which --all lists",
+            "",
+        ],
+    )
     status, lines = short_lines(text, "--all")
-    assert status == 1 and [it for it in lines if it.startswith("2. ")] == ["2. line 4: the client's section of stream 8, byte 0"]
+    assert status == 1 and [it for it in lines if it.startswith("2. ")] == [
+        "2. line 4: the client's section of stream 8, byte 0"
+    ]
     assert short_lines("b 4 0000d1\n") == (0, ["nothing found: sections 1, encoder instructions 0, decoder instructions 0"])
 
 
@@ -233,7 +240,11 @@ def test_marks():
             if not mark.strip() == "^^":
                 assert finding.fault.startswith("the bytes end within"), (text, mark)
                 continue
-            own = [it.split()[-1] for it in text.splitlines() if f" {finding.subject[0] if finding.subject != 'section' else 'b'} " in it]
+            own = [
+                it.split()[-1]
+                for it in text.splitlines()
+                if f" {finding.subject[0] if finding.subject != 'section' else 'b'} " in it
+            ]
             data = bytes.fromhex("".join(own))
             at = mark.index("^^")
             assert int(shown[at : at + 2], 16) == data[finding.offset], (text, shown, finding)

@@ -18,7 +18,13 @@ import time
 from pathlib import Path
 
 sys.path.insert(0, str(Path(__file__).resolve().parents[2] / "tests"))
-from running import TOP, answers_at_once, are_linear, can_decrypt, cost_of  # noqa: E402 # pylint: disable=wrong-import-position
+from running import (
+    TOP,
+    answers_at_once,
+    are_linear,
+    can_decrypt,
+    cost_of,
+)  # noqa: E402 # pylint: disable=wrong-import-position
 from running import install, missing_tool, on_terminal, run_tests  # noqa: E402 # pylint: disable=wrong-import-position
 from running import shows_no_fault_of_a_script  # noqa: E402 # pylint: disable=wrong-import-position
 
@@ -98,7 +104,7 @@ def test_the_rest_is_of_the_program():
         (("explain", "--max-capacity", "64", "0380", "d1"), ""),
         (("explain",), "0000d1"),
         (("reports",), ""),
-        (("it's \"one\"", "", "a\nb"), ""),
+        (('it\'s "one"', "", "a\nb"), ""),
     ]
     for words, data in cases:
         expected = run(PROGRAM, *words, data=data)

@@ -105,7 +105,9 @@ def test_stripped_recordings():
         status, output, said = ask("strip", path)
         assert status == 0 and b"values became others" in said, said
         for command in ("check", "show"):
-            one, other = (subprocess.run([PROGRAM, command, "-"], input=it, capture_output=True, check=False) for it in (before, output))
+            one, other = (
+                subprocess.run([PROGRAM, command, "-"], input=it, capture_output=True, check=False) for it in (before, output)
+            )
             assert one.returncode == other.returncode and (command == "show" or one.stdout == other.stdout), path
         own, others = shown(before), shown(output)
         if path.suffix == ".pcapng":  # whose first line is a comment
@@ -136,7 +138,9 @@ def test_stripped_faults():
         data = lines.encode()
         status, output, said = ask("strip", "-", data=data)
         assert status == 0, (lines, said)
-        one, other = (subprocess.run([PROGRAM, "check", "-"], input=it, capture_output=True, check=False) for it in (data, output))
+        one, other = (
+            subprocess.run([PROGRAM, "check", "-"], input=it, capture_output=True, check=False) for it in (data, output)
+        )
         assert (one.returncode, one.stdout, one.stderr) == (other.returncode, other.stdout, other.stderr), (lines, output)
         assert secret.encode() not in output and b"Scret" not in output, (lines, output)
         assert output.count(b"\n") == data.count(b"\n") and len(output) <= len(data)
@@ -151,13 +155,17 @@ def test_hostile_recordings_to_strip():
         status, output, said = ask_fork(("strip", "--seed", "a", "-"), data)
         assert status in (0, 1) and shows_no_fault_of_a_script(said), (seed, status, said)
         if status == 0:
-            one, other = (subprocess.run([PROGRAM, "check", "-"], input=it, capture_output=True, check=False) for it in (data, output))
+            one, other = (
+                subprocess.run([PROGRAM, "check", "-"], input=it, capture_output=True, check=False) for it in (data, output)
+            )
             assert one.stdout == other.stdout, seed
         else:
             assert output == b"" and said.startswith(b"qpk-capture: "), (seed, said)
         seen.add(status)
     assert seen == {0, 1}
-    assert_linear(lambda size: list(qpk.strip.strip_lines(["> b 4 00005105" + "6162636465" * 9] * size, qpk.strip.Values(b""))), 400)
+    assert_linear(
+        lambda size: list(qpk.strip.strip_lines(["> b 4 00005105" + "6162636465" * 9] * size, qpk.strip.Values(b""))), 400
+    )
 
 
 def test_words_of_strip():
@@ -166,7 +174,10 @@ def test_words_of_strip():
     assert (status, output) == (1, b"") and b"it has the connections 0, 1, 2: name one by --connection" in said
     assert ask("strip", "--connection", "1", CAPTURED / "ngtcp2-update.pcapng")[0] == 0
     for word in ("--json", "--qif", "--table"):
-        assert ask("strip", word, KEPT)[:2] == (1, b"") and f"{word} is not a word of strip".encode() in ask("strip", word, KEPT)[2]
+        assert (
+            ask("strip", word, KEPT)[:2] == (1, b"")
+            and f"{word} is not a word of strip".encode() in ask("strip", word, KEPT)[2]
+        )
     for command in ("strip", "tune"):
         status, output, said = ask(command, "--help")
         assert (status, said) == (0, b"") and output.startswith(f"usage: qpk {command} ".encode())
@@ -184,8 +195,13 @@ def test_advice():
     assert [it.endswith("  <") for it in lines[1:6]] == [False, False, True, False, False]
     assert lines[6] == "  set SETTINGS_QPACK_MAX_TABLE_CAPACITY to 4096 at the server, which decodes them."
     assert "saves 495 of the 1000 bytes" in lines[7] and lines[8].startswith("  2 of the 10 sections waited.")
-    lines = list(qpk.tune.advise({**counted, "from": "", "tried": [{"capacity": 0, "bytes": 9}, {"capacity": 256, "bytes": 12}]}))
-    assert lines[-2] == "  set SETTINGS_QPACK_MAX_TABLE_CAPACITY to 0 at the peer, which decodes them: a table saves less than 1 %."
+    lines = list(
+        qpk.tune.advise({**counted, "from": "", "tried": [{"capacity": 0, "bytes": 9}, {"capacity": 256, "bytes": 12}]})
+    )
+    assert (
+        lines[-2]
+        == "  set SETTINGS_QPACK_MAX_TABLE_CAPACITY to 0 at the peer, which decodes them: a table saves less than 1 %."
+    )
     assert "nothing to encode again" in list(qpk.tune.advise({**counted, "sections": 0, "tried": tried}))[1]
 
 
@@ -193,7 +209,9 @@ def test_tune():
     """Where the library is, the bytes are those of stats --try; else a line says what to do."""
     status, output, said = ask("tune", KEPT)
     if status:
-        assert (status, output) == (1, b"") and said.startswith(b"qpk-capture: tune encodes by the library, which is not there"), said
+        assert (status, output) == (1, b"") and said.startswith(
+            b"qpk-capture: tune encodes by the library, which is not there"
+        ), said
         print("not shown: qpk tune, without a C compiler and make")
         return
     capacities = ",".join(map(str, qpk.tune.CAPACITIES))
@@ -205,7 +223,10 @@ def test_tune():
     assert status == 0 and output.startswith(b"connection 1\nthe client: "), (output, said)
     entry = {"request": {"url": "https://a.example/", "headers": [{"name": "Accept", "value": "text/html"}]}}
     status, output, said = ask("tune", "-", data=json.dumps({"log": {"entries": [entry] * 9}}).encode())
-    assert output.startswith(b"connection 0, a.example\nthe client: 9 lists have 135 bytes of names and values\n"), (output, said)
+    assert output.startswith(b"connection 0, a.example\nthe client: 9 lists have 135 bytes of names and values\n"), (
+        output,
+        said,
+    )
     assert (status, output.count(b" a list")) == (0, len(qpk.tune.CAPACITIES)), output
 
 
@@ -235,7 +256,11 @@ def test_a_packet():
             own = [it for it in lines[1:] if it not in bits and not it.endswith(", its bits:")]
             assert all(it in show for it in own), own
         assert rows > 200
-        for word, reason in (("#1", b"packet #1 made nothing of QPACK whole: near it are #"), ("#0", b"name one file"), ("#x", b"")):
+        for word, reason in (
+            ("#1", b"packet #1 made nothing of QPACK whole: near it are #"),
+            ("#0", b"name one file"),
+            ("#x", b""),
+        ):
             status, output, said = ask("explain", file.name, word)
             assert (status, output) == (1, b"") and reason in said, (word, said)
     status, _, said = ask("explain", KEPT, "#2")
@@ -255,7 +280,10 @@ def test_an_instruction_in_pieces():
         first = ask("explain", file.name, f"#{begin + 3}")[1].decode().splitlines()
         assert first[1].endswith("> encoder 0: set capacity 4096") and [it for it in first if "3fe11f" in it] == [], first
         second = ask("explain", file.name, f"#{begin + 4}")[1].decode().splitlines()
-    assert second[1].endswith("> encoder 3: insert as entry 1, foo: bar") and "> encoder stream from byte 3 on, its bits:" in second
+    assert (
+        second[1].endswith("> encoder 3: insert as entry 1, foo: bar")
+        and "> encoder stream from byte 3 on, its bits:" in second
+    )
     assert sum(it.startswith("   ") for it in second) == 8, second
 
 
@@ -312,13 +340,21 @@ def test_what_is_new():
     for count in (b"0", b"1"):
         follower.print_new(count, printed.append)
     assert [it for it in b"".join(printed).split(b"\n") if it.startswith(b"connection")] == [
-        b"connection 0, x", b"connection 1, x", b"connection 0, x", b"connection 1, x"
+        b"connection 0, x",
+        b"connection 1, x",
+        b"connection 0, x",
+        b"connection 1, x",
     ]
 
 
 def test_words_of_follow():
     """It reads a file by its name, and no capture's options; a file that is too long is refused."""
-    for words in (("--follow", "-"), ("--follow", "--qlog", KEPT), ("--follow", "--stream", "4", KEPT), ("--follow", "--qif", KEPT)):
+    for words in (
+        ("--follow", "-"),
+        ("--follow", "--qlog", KEPT),
+        ("--follow", "--stream", "4", KEPT),
+        ("--follow", "--qif", KEPT),
+    ):
         status, output, said = ask("show", *words)
         assert (status, output) == (1, b"") and b"--follow" in said, said
     assert b"is not a file" in ask("show", "--follow", "/nowhere")[2]

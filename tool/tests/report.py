@@ -34,7 +34,12 @@ from qpk.report.recording import Recording, Source, read_recordings  # noqa: E40
 import large  # noqa: E402 # pylint: disable=wrong-import-position
 import qpk.source  # noqa: E402 # pylint: disable=wrong-import-position
 from running import FORMED, PLAIN, are_linear, assert_linear  # noqa: E402 # pylint: disable=wrong-import-position
-from running import can_decrypt, cost_of, run_tests, shows_no_fault_of_a_script  # noqa: E402 # pylint: disable=wrong-import-position
+from running import (
+    can_decrypt,
+    cost_of,
+    run_tests,
+    shows_no_fault_of_a_script,
+)  # noqa: E402 # pylint: disable=wrong-import-position
 
 CAPTURED = TOP / "tests" / "captured"
 RECORDING = CAPTURED / "chromium.txt"
@@ -352,6 +357,7 @@ def test_many_sections_at_once():
         lambda size: "s 4096 65535\n" + "b 4 0200ff\n" * size + insertion,
         lambda size: "s 4096 65535\n" + "".join(f"b {4 * it} 0200ff\n" for it in range(size)) + insertion,
     ):
+
         def read(size, text=text):
             recording = Recording("", text(size).encode(), [])
             events = list(Reading(said_of(size), recording.pieces()).events())
@@ -449,8 +455,13 @@ def test_the_bytes_of_the_page():
     hows = ["static", None, "static-name", "dynamic-name", "literal", "literal"]
     assert [it if it is None else data["shapes"]["hows"][it] for it in section["shapes"]] == hows
     assert section["lines"] == [
-        "static 17", "dynamic 0 (entry 3)", "literal with the name of static 29", "literal with the name of dynamic 0 (entry 3)",
-        "literal", "literal never indexed"]
+        "static 17",
+        "dynamic 0 (entry 3)",
+        "literal with the name of static 29",
+        "literal with the name of dynamic 0 (entry 3)",
+        "literal",
+        "literal never indexed",
+    ]
 
 
 def test_the_words_of_the_page():
@@ -472,10 +483,17 @@ def test_the_verdict_of_a_capture():
         return
     capture = CAPTURED / "chromium-moved.pcapng"
     status, html, said = start("report", capture)
-    assert status == 2 and "qpk-capture: connection 0: packets: client 161 of " in said and "stream 2: bytes from 0 to " in said
+    assert (
+        status == 2 and "qpk-capture: connection 0: packets: client 161 of " in said and "stream 2: bytes from 0 to " in said
+    )
     (connection,) = data_of(html)["connections"]
-    printed = subprocess.run([TOP / "tool" / "qpk-capture", "check", capture], env={**os.environ, "QPK": QPK},
-                             capture_output=True, encoding="utf-8", check=False).stdout.splitlines()
+    printed = subprocess.run(
+        [TOP / "tool" / "qpk-capture", "check", capture],
+        env={**os.environ, "QPK": QPK},
+        capture_output=True,
+        encoding="utf-8",
+        check=False,
+    ).stdout.splitlines()
     check(connection["verdict"], certain=0, explained=len(printed) - 2, seen=printed[1], lacks=True)
     assert all(it["perhaps"] for it in connection["faults"])
     _, whole = page_of(CAPTURED / "chromium.pcapng")
@@ -540,7 +558,10 @@ def trace_without_bytes(shown):
     for it in shown:
         if "lines" in it and "refused" not in it:
             own = it["from"] == "client"
-            frame = {"frame_type": "headers", "headers": [{"name": line["name"], "value": line["value"]} for line in it["lines"]]}
+            frame = {
+                "frame_type": "headers",
+                "headers": [{"name": line["name"], "value": line["value"]} for line in it["lines"]],
+            }
             data = {"stream_id": it["section"], "frame": frame}
             events.append({"time": len(events), "name": f"http3:frame_{'created' if own else 'parsed'}", "data": data})
     return json.dumps({"traces": [{"title": "a\x1b", "vantage_point": {"type": "client"}, "events": events}]})
@@ -556,7 +577,9 @@ def try_lists(text, lists, *words):
 
 def test_lists_without_bytes():
     """Of a log that has lists and no bytes, --try says what the same recording with bytes takes; each connection is on its own."""
-    shown = subprocess.run([QPK, "show", "--json", "-"], input=RECORDING.read_bytes(), stdout=subprocess.PIPE, check=True).stdout
+    shown = subprocess.run(
+        [QPK, "show", "--json", "-"], input=RECORDING.read_bytes(), stdout=subprocess.PIPE, check=True
+    ).stdout
     trace = trace_without_bytes(map(json.loads, shown.splitlines()))
     assert "18 header lists and no QPACK bytes: `qpk show` lists them" in refuse("stats", "-", text=trace)
     library = Path(BUILT.name) / "libh3_qpack.so.0"
@@ -566,14 +589,22 @@ def test_lists_without_bytes():
     head, *found = map(json.loads, try_lists(trace, 18, "0,4096", "--json"))
     assert head == {"connection": 0, "log": "a "} and len(found) == 2
     for it, other in zip(found, ask_json("stats", RECORDING, "--try", "0,4096", **built)):
-        check(it, lists=other["sections"], **{"from": other["from"], "fields": other["fields"], "list_bytes": other["list_bytes"]})
+        check(
+            it,
+            lists=other["sections"],
+            **{"from": other["from"], "fields": other["fields"], "list_bytes": other["list_bytes"]},
+        )
         assert it["tried"] == other["tried"]
     headers = [{"name": name, "value": "value of some length"} for name in ("Accept", "x-\x1b")]
     entry = {"request": {"url": "https://a.example:1/", "headers": headers}}
     other = {"request": {"url": "http://b.example", "headers": headers}, "connection": "7"}
     har = json.dumps({"log": {"entries": [entry, other, entry, 1, {"request": {"headers": headers, "url": 2}}]}})
     lines = try_lists(har, 4, "4096")
-    assert [it for it in lines if it.startswith("conn")] == ["connection 0, a.example:1", "connection 1, b.example, 7", "connection 2"]
+    assert [it for it in lines if it.startswith("conn")] == [
+        "connection 0, a.example:1",
+        "connection 1, b.example, 7",
+        "connection 2",
+    ]
     sizes = [int(re.search(r" (\d+) bytes", it)[1]) for it in lines if "encoded at" in it]
     assert len(sizes) == 3 and sizes[1] == sizes[2] < sizes[0] < 2 * sizes[1]  # the second list of a connection is shorter
     assert try_lists(har, 4, "4096", "--connection", "1") == lines[5:10]
@@ -613,7 +644,10 @@ def test_no_traceback():
         script = TOP / "tool" / "qpk-report"
         for command, reason in (
             (f"ulimit -v 70000; exec {script} stats {wide}", "refused: memory"),
-            (f"exec {script} stats {wider}", "a section is too large: over 200000 lines, or 64 MB as JSON; read it by qpk show"),
+            (
+                f"exec {script} stats {wider}",
+                "a section is too large: over 200000 lines, or 64 MB as JSON; read it by qpk show",
+            ),
             (f"{script} stats {RECORDING} >/dev/full", "No space left on device: name another file, or make room there"),
             (f"{script} stats {RECORDING} >&-", "refused: output: standard output is closed"),
             (f"{script} stats --help >/dev/full", "No space left on device: name another file, or make room there"),
@@ -624,7 +658,12 @@ def test_no_traceback():
             ran = subprocess.run(words, env={**os.environ, "QPK": QPK}, capture_output=True, check=False)
             assert ran.returncode == 1 and ran.stderr.startswith(f"qpk stats: {reason}".encode()), (command, ran.stderr)
             assert ran.stderr.count(b"\n") == 1
-    for words in (["stats", "\x1b[31m\x9b"], ["stats", "-", "\x1b[31m"], ["table", "--at", "\x1b[31m", "-"], ["stats", "-\x1b"]):
+    for words in (
+        ["stats", "\x1b[31m\x9b"],
+        ["stats", "-", "\x1b[31m"],
+        ["table", "--at", "\x1b[31m", "-"],
+        ["stats", "-\x1b"],
+    ):
         status, printed, faults = start(*words, text="")
         assert (status, printed) == (1, "") and shows_no_fault_of_a_script(faults.encode()), faults
 
@@ -655,7 +694,7 @@ def test_a_fault_is_marked():
 
 def test_no_field_ends_the_page():
     """A field, a time and the name of a file that have signs of HTML are data, and come back."""
-    value = b'</script><script>alert(1)</script>&lt;\\\xff\0<!--'
+    value = b"</script><script>alert(1)</script>&lt;\\\xff\0<!--"
     text = f"@</script> b 0 0000 2161{len(value):02x} {value.hex()}\n"
     with tempfile.TemporaryDirectory() as room:
         path = os.path.join(room.encode(), b"<b>&\xff.txt")

@@ -154,6 +154,7 @@ def test_payload_of_a_frame():
 
 def test_streams():
     """Bytes of streams without an offset are the next ones, if they come from the application or go there."""
+
     def moved(data, **ends):
         return {"time": 0, "name": "transport:data_moved", "data": {"stream_id": 2, "data": data, **ends}}
 
@@ -165,6 +166,7 @@ def test_streams():
 
 def test_instructions_that_are_cut():
     """A stream ends before an instruction without its bytes, unless the bytes of the stream are there."""
+
     def created(kind, **raw):
         data = {"instruction": {"instruction_type": kind}, **raw}
         return {"time": 0, "name": "qpack:instruction_created", "data": data}
@@ -188,6 +190,7 @@ def test_instructions_that_are_cut():
 
 def test_findings_where_bytes_are_missing():
     """What an instruction without its bytes may explain is marked as such. In a whole trace it is certain."""
+
     def event(pair, kind, **raw):
         return {"time": 0, "name": f"qpack:instruction_{pair}", "data": {"instruction": {"instruction_type": kind}, **raw}}
 
@@ -202,6 +205,7 @@ def test_findings_where_bytes_are_missing():
 
 def test_sections_twice():
     """A section that a frame has is not taken again, and one that only its own event has is taken."""
+
     def event(name, data, **raw):
         return {"time": 0, "name": name, "data": {"stream_id": 4, **data, **raw}}
 
@@ -258,6 +262,7 @@ def test_nesting():
 
 def test_what_is_left_out():
     """A section that is too long, and bytes after a gap, are reported even if nothing else is there."""
+
     def moved(offset, data):
         data = {"stream_id": 0, "offset": offset, "from": "network", "raw": {"data": data}}
         return {"time": 0, "name": "quic:stream_data_moved", "data": data}
@@ -372,9 +377,7 @@ def test_statuses_of_connections():
     """The status is the greatest of the connections."""
     raw = {"refused": "0000ff24", "read": "0000d1"}
     name = "qpack:headers_encoded"
-    events = [
-        {"time": 0, "name": name, "group_id": it, "data": {"stream_id": 0, "raw": {"data": raw[it]}}} for it in raw
-    ]
+    events = [{"time": 0, "name": name, "group_id": it, "data": {"stream_id": 0, "raw": {"data": raw[it]}}} for it in raw]
     for it in (events, events[::-1]):
         data = "".join(f"{json.dumps(record)}\n" for record in [{"trace": {}}, *it])
         status, trace, said = run(QPK, "show", "--qlog", "-", data=data)

@@ -102,8 +102,8 @@ static int is_equal(nghttp3_rcbuf *part, const uint8_t *text, size_t length) {
   return bytes.len == length && (!length || !memcmp(bytes.base, text, length));
 }
 
-static int on_field(nghttp3_conn *conn, int64_t id, int32_t token, nghttp3_rcbuf *name, nghttp3_rcbuf *value,
-                    uint8_t flags, void *user, void *stream_user) {
+static int on_field(nghttp3_conn *conn, int64_t id, int32_t token, nghttp3_rcbuf *name, nghttp3_rcbuf *value, uint8_t flags,
+                    void *user, void *stream_user) {
   side *to = user;
   const list *all = expected(to, id);
   size_t at = to->next[id / 4]++;
@@ -234,8 +234,8 @@ int main(int argc, char **argv) {
   }
   for (size_t i = 0; i < 4; i++) exchange(most, count + late, 0);
   printf("%zu requests, %zu responses, %zu differ, %zu were blocked; the client wrote %zu bytes, the server %zu\n",
-         server.received, client.received, client.differing + server.differing, client.blocked + server.blocked,
-         client.bytes, server.bytes);
+         server.received, client.received, client.differing + server.differing, client.blocked + server.blocked, client.bytes,
+         server.bytes);
   nghttp3_conn_del(client.conn);
   nghttp3_conn_del(server.conn);
   return server.received != count || client.received != count || client.differing || server.differing ||

@@ -126,9 +126,7 @@ class PylsqpackTest(unittest.TestCase):
             self.refused(StreamBlocked, f"stream {stream_id} is blocked", decoder.feed_header, stream_id, data)
         self.assertEqual(decoder.feed_encoder(instructions + first), [8])
         self.assertEqual(decoder.feed_encoder(b""), [8])
-        cause = self.refused_over(
-            h3_qpack.StreamBlocked, StreamBlocked, "stream 4 is blocked", decoder.resume_header, 4
-        )
+        cause = self.refused_over(h3_qpack.StreamBlocked, StreamBlocked, "stream 4 is blocked", decoder.resume_header, 4)
         self.assertGreater(getattr(cause, "required"), 1)
         self.assertEqual(decoder.feed_encoder(second), [8, 4])
         told = [decoder.resume_header(stream_id) for stream_id in (4, 8)]

@@ -43,9 +43,7 @@ class Decoder(End):
     kind = "decoder"
     settings_range = "max_capacity must be below 2^30, max_blocked below 65,535, and max_section_size below 2^64"
 
-    def __init__(
-        self, *, max_capacity: int = 0, max_blocked: int = 0, max_section_size: Optional[int] = None
-    ) -> None:
+    def __init__(self, *, max_capacity: int = 0, max_blocked: int = 0, max_section_size: Optional[int] = None) -> None:
         given = {"max_capacity": max_capacity, "max_blocked": max_blocked, "max_section_size": max_section_size}
         super().__init__(lib.DecoderSettings(), given)
 

@@ -36,8 +36,8 @@ static uint64_t random_number(void) {
     if (rand_s(&part)) return 0;
     number = number << 32 | part;
   }
-#elif defined(__APPLE__) || defined(__ANDROID__) || defined(__FreeBSD__) || defined(__OpenBSD__) || \
-    defined(__NetBSD__) || defined(__DragonFly__) || defined(__sun)
+#elif defined(__APPLE__) || defined(__ANDROID__) || defined(__FreeBSD__) || defined(__OpenBSD__) || defined(__NetBSD__) || \
+    defined(__DragonFly__) || defined(__sun)
   arc4random_buf(&number, sizeof number);
 #elif defined(SYS_getrandom)
   if (syscall(SYS_getrandom, &number, sizeof number, DONT_WAIT) != (long)sizeof number) return 0;
@@ -54,13 +54,12 @@ void h3_qpack_encoder_settings_default_versioned(uint32_t version, h3_qpack_enco
   settings->seed = random_number();
 }
 
-int h3_qpack_encoder_new_versioned(h3_qpack_encoder *encoder, uint32_t version,
-                                   const h3_qpack_encoder_settings *settings) {
+int h3_qpack_encoder_new_versioned(h3_qpack_encoder *encoder, uint32_t version, const h3_qpack_encoder_settings *settings) {
   if (!encoder) return H3_QPACK_ERR_INVALID;
   encoder->at = NULL;
   if (!is_supported(version)) return H3_QPACK_ERR_VERSION;
-  if (!settings || !fits_size(settings->max_capacity) || !fits_size(settings->max_blocked) ||
-      !fits_size(settings->capacity) || !fits_size(settings->most_unacknowledged))
+  if (!settings || !fits_size(settings->max_capacity) || !fits_size(settings->max_blocked) || !fits_size(settings->capacity) ||
+      !fits_size(settings->most_unacknowledged))
     return H3_QPACK_ERR_INVALID;
   return h3q_encoder_new((size_t)settings->max_capacity, (size_t)settings->max_blocked, (size_t)settings->capacity,
                          (size_t)settings->most_unacknowledged, settings->seed, &encoder->at);
@@ -73,8 +72,7 @@ void h3_qpack_decoder_settings_default_versioned(uint32_t version, h3_qpack_deco
   settings->max_section_size = 65536;
 }
 
-int h3_qpack_decoder_new_versioned(h3_qpack_decoder *decoder, uint32_t version,
-                                   const h3_qpack_decoder_settings *settings) {
+int h3_qpack_decoder_new_versioned(h3_qpack_decoder *decoder, uint32_t version, const h3_qpack_decoder_settings *settings) {
   if (!decoder) return H3_QPACK_ERR_INVALID;
   decoder->at = NULL;
   if (!is_supported(version)) return H3_QPACK_ERR_VERSION;

@@ -182,9 +182,15 @@ typedef struct h3_qpack_pieces {
 
 /* ---- Encoder, decoder and reader: only the calls read or write the pointer */
 
-typedef struct h3_qpack_encoder { void *at; } h3_qpack_encoder;
-typedef struct h3_qpack_decoder { void *at; } h3_qpack_decoder;
-typedef struct h3_qpack_section_reader { void *at; } h3_qpack_section_reader;
+typedef struct h3_qpack_encoder {
+  void *at;
+} h3_qpack_encoder;
+typedef struct h3_qpack_decoder {
+  void *at;
+} h3_qpack_decoder;
+typedef struct h3_qpack_section_reader {
+  void *at;
+} h3_qpack_section_reader;
 
 /* ---- Settings. A later minor version may add fields at the end, so fill them with _settings_default first. */
 
@@ -214,8 +220,7 @@ typedef struct h3_qpack_decoder_settings {
  *
  * Bindings call h3_qpack_encoder_settings_default_versioned, with the H3_QPACK_VERSION that their struct is of. It does
  * nothing for a version with which _new fails. */
-#define h3_qpack_encoder_settings_default(settings) \
-  h3_qpack_encoder_settings_default_versioned(H3_QPACK_VERSION, (settings))
+#define h3_qpack_encoder_settings_default(settings) h3_qpack_encoder_settings_default_versioned(H3_QPACK_VERSION, (settings))
 void h3_qpack_encoder_settings_default_versioned(uint32_t version, h3_qpack_encoder_settings *settings);
 
 /* Makes an encoder for a peer that sent |settings|, and stores it in |encoder|. Free it with h3_qpack_encoder_del. The
@@ -231,8 +236,7 @@ void h3_qpack_encoder_settings_default_versioned(uint32_t version, h3_qpack_enco
  *
  * Bindings call h3_qpack_encoder_new_versioned, with the H3_QPACK_VERSION that their settings are of. */
 #define h3_qpack_encoder_new(encoder, settings) h3_qpack_encoder_new_versioned((encoder), H3_QPACK_VERSION, (settings))
-int h3_qpack_encoder_new_versioned(h3_qpack_encoder *encoder, uint32_t version,
-                                   const h3_qpack_encoder_settings *settings);
+int h3_qpack_encoder_new_versioned(h3_qpack_encoder *encoder, uint32_t version, const h3_qpack_encoder_settings *settings);
 
 /* Frees an encoder. Does nothing if it is NULL or already freed. */
 H3_QPACK_INLINE void h3_qpack_encoder_del(h3_qpack_encoder *encoder);
@@ -249,15 +253,13 @@ H3_QPACK_INLINE void h3_qpack_encoder_del(h3_qpack_encoder *encoder);
  *   H3_QPACK_ERR_INVALID    a pointer is NULL and its length is not 0, a length is above PTRDIFF_MAX, or |stream_id| is
  *                           2^62 or more.
  *   above 0                 an earlier call returned it. */
-H3_QPACK_INLINE h3_qpack_encoded h3_qpack_encoder_encode(h3_qpack_encoder *encoder, uint64_t stream_id,
-                                                         const h3_qpack_nv *nva, size_t nvlen, uint8_t *section,
-                                                         size_t sectionlen);
+H3_QPACK_INLINE h3_qpack_encoded h3_qpack_encoder_encode(h3_qpack_encoder *encoder, uint64_t stream_id, const h3_qpack_nv *nva,
+                                                         size_t nvlen, uint8_t *section, size_t sectionlen);
 
 /* Writes the section of the last encode to |section|, which has |sectionlen| bytes, as often as it is called.
  *
  * Returns the length of the section, with H3_QPACK_OK, or with H3_QPACK_ERR_NO_ROOM if |sectionlen| is less. */
-H3_QPACK_INLINE h3_qpack_written h3_qpack_encoder_section(h3_qpack_encoder *encoder, uint8_t *section,
-                                                          size_t sectionlen);
+H3_QPACK_INLINE h3_qpack_written h3_qpack_encoder_section(h3_qpack_encoder *encoder, uint8_t *section, size_t sectionlen);
 
 /* Returns how many bytes are to be sent on the encoder stream (section 4.3). */
 H3_QPACK_INLINE size_t h3_qpack_encoder_get_encoder_streamlen(h3_qpack_encoder *encoder);
@@ -272,8 +274,7 @@ H3_QPACK_INLINE size_t h3_qpack_encoder_write_encoder(h3_qpack_encoder *encoder,
  * Returns a status:
  *   H3_QPACK_OK                    all bytes were read.
  *   H3_QPACK_DECODER_STREAM_ERROR  an instruction is invalid: |number| and |offset| locate it. Close the connection. */
-H3_QPACK_INLINE h3_qpack_received h3_qpack_encoder_read_decoder(h3_qpack_encoder *encoder, const uint8_t *src,
-                                                                size_t srclen);
+H3_QPACK_INLINE h3_qpack_received h3_qpack_encoder_read_decoder(h3_qpack_encoder *encoder, const uint8_t *src, size_t srclen);
 
 /* Applies the peer's SETTINGS to an encoder that was made before they arrived (section 3.2.3). |max_capacity| is its
  * SETTINGS_QPACK_MAX_TABLE_CAPACITY, in bytes, and |max_blocked| its SETTINGS_QPACK_BLOCKED_STREAMS; 0 for one that is
@@ -289,8 +290,7 @@ H3_QPACK_INLINE h3_qpack_received h3_qpack_encoder_read_decoder(h3_qpack_encoder
  *   H3_QPACK_DECODER_STREAM_ERROR  |max_capacity| is not the maximum that the encoder has, which is above 0.
  *   H3_QPACK_SETTINGS_ERROR        |max_blocked| is below the limit that the encoder has (RFC 9114, section 7.2.4.2).
  * If an earlier call returned a status above 0, this one returns it again. */
-H3_QPACK_INLINE int h3_qpack_encoder_set_peer_settings(h3_qpack_encoder *encoder, uint64_t max_capacity,
-                                                       uint64_t max_blocked);
+H3_QPACK_INLINE int h3_qpack_encoder_set_peer_settings(h3_qpack_encoder *encoder, uint64_t max_capacity, uint64_t max_blocked);
 
 /* Sets the capacity of the table, in bytes, at most the peer's maximum, and evicts what does not fit (section 3.2.3).
  *
@@ -354,8 +354,7 @@ H3_QPACK_INLINE size_t h3_qpack_encoder_get_num_entries(h3_qpack_encoder *encode
  *   H3_QPACK_OK
  *   H3_QPACK_ERR_NO_ROOM  |outlen| is less than both lengths together: nothing was written.
  *   H3_QPACK_ERR_INVALID  there is no such entry. */
-H3_QPACK_INLINE h3_qpack_field h3_qpack_encoder_entry(h3_qpack_encoder *encoder, size_t index, uint8_t *out,
-                                                      size_t outlen);
+H3_QPACK_INLINE h3_qpack_field h3_qpack_encoder_entry(h3_qpack_encoder *encoder, size_t index, uint8_t *out, size_t outlen);
 
 /* ---- The decoder */
 
@@ -364,8 +363,7 @@ H3_QPACK_INLINE h3_qpack_field h3_qpack_encoder_entry(h3_qpack_encoder *encoder,
  *
  * Bindings call h3_qpack_decoder_settings_default_versioned, with the H3_QPACK_VERSION that their struct is of. It does
  * nothing for a version with which _new fails. */
-#define h3_qpack_decoder_settings_default(settings) \
-  h3_qpack_decoder_settings_default_versioned(H3_QPACK_VERSION, (settings))
+#define h3_qpack_decoder_settings_default(settings) h3_qpack_decoder_settings_default_versioned(H3_QPACK_VERSION, (settings))
 void h3_qpack_decoder_settings_default_versioned(uint32_t version, h3_qpack_decoder_settings *settings);
 
 /* Makes a decoder for a side that sends |settings|, and stores it in |decoder|. Free it with h3_qpack_decoder_del.
@@ -378,8 +376,7 @@ void h3_qpack_decoder_settings_default_versioned(uint32_t version, h3_qpack_deco
  *
  * Bindings call h3_qpack_decoder_new_versioned, with the H3_QPACK_VERSION that their settings are of. */
 #define h3_qpack_decoder_new(decoder, settings) h3_qpack_decoder_new_versioned((decoder), H3_QPACK_VERSION, (settings))
-int h3_qpack_decoder_new_versioned(h3_qpack_decoder *decoder, uint32_t version,
-                                   const h3_qpack_decoder_settings *settings);
+int h3_qpack_decoder_new_versioned(h3_qpack_decoder *decoder, uint32_t version, const h3_qpack_decoder_settings *settings);
 
 /* Frees a decoder. Does nothing if it is NULL or already freed. */
 H3_QPACK_INLINE void h3_qpack_decoder_del(h3_qpack_decoder *decoder);
@@ -392,8 +389,7 @@ H3_QPACK_INLINE void h3_qpack_decoder_del(h3_qpack_decoder *decoder);
  *   H3_QPACK_ERR_NO_MEMORY         |taken| bytes were read. Call it again later with the rest, even if that is empty.
  *   H3_QPACK_ENCODER_STREAM_ERROR  an instruction is invalid: |number| and |offset| locate it. Close the connection.
  *   H3_QPACK_DECOMPRESSION_FAILED  h3_qpack_decoder_decode returned it before. */
-H3_QPACK_INLINE h3_qpack_received h3_qpack_decoder_read_encoder(h3_qpack_decoder *decoder, const uint8_t *src,
-                                                                size_t srclen);
+H3_QPACK_INLINE h3_qpack_received h3_qpack_decoder_read_encoder(h3_qpack_decoder *decoder, const uint8_t *src, size_t srclen);
 
 /* Returns the length, in bytes, of the longest section whose fields can be within |max_section_size|; at most SIZE_MAX. A
  * decoder rejects a longer one unread: H3_QPACK_ERR_TOO_LARGE, with |number| 0. So a buffer for a HEADERS frame needs no
@@ -410,8 +406,7 @@ H3_QPACK_INLINE h3_qpack_received h3_qpack_decoder_read_encoder(h3_qpack_decoder
  *   H3_QPACK_ERR_INVALID           a pointer is NULL, and its length is not 0.
  *   H3_QPACK_DECOMPRESSION_FAILED  the prefix is invalid, or not whole. Read more of the section, up to 20 bytes, or
  *                                  close the connection. */
-H3_QPACK_INLINE h3_qpack_prefix h3_qpack_decoder_peek_prefix(h3_qpack_decoder *decoder, const uint8_t *src,
-                                                             size_t srclen);
+H3_QPACK_INLINE h3_qpack_prefix h3_qpack_decoder_peek_prefix(h3_qpack_decoder *decoder, const uint8_t *src, size_t srclen);
 
 /* Decodes a field section, |srclen| bytes at |src|, of the stream |stream_id|, below 2^62 (section 2.2). Pass the
  * sections of a stream in order. Get the fields from h3_qpack_decoder_fields or h3_qpack_decoder_field: they are kept
@@ -430,8 +425,8 @@ H3_QPACK_INLINE h3_qpack_prefix h3_qpack_decoder_peek_prefix(h3_qpack_decoder *d
  *   H3_QPACK_DECOMPRESSION_FAILED  a line is invalid, which |number| and |offset| locate, or the prefix is, or one
  *                                  stream too many is blocked (section 2.1.2). Close the connection.
  *   H3_QPACK_ENCODER_STREAM_ERROR  h3_qpack_decoder_read_encoder returned it before. */
-H3_QPACK_INLINE h3_qpack_decoded h3_qpack_decoder_decode(h3_qpack_decoder *decoder, uint64_t stream_id,
-                                                         const uint8_t *src, size_t srclen);
+H3_QPACK_INLINE h3_qpack_decoded h3_qpack_decoder_decode(h3_qpack_decoder *decoder, uint64_t stream_id, const uint8_t *src,
+                                                         size_t srclen);
 
 /* Copies one field of the last decode to |out|, which has |outlen| bytes: its name, and directly after it its value.
  * |index| is 0 for the first field.
@@ -440,8 +435,7 @@ H3_QPACK_INLINE h3_qpack_decoded h3_qpack_decoder_decode(h3_qpack_decoder *decod
  *   H3_QPACK_OK
  *   H3_QPACK_ERR_NO_ROOM  |outlen| is less than both lengths together: nothing was written.
  *   H3_QPACK_ERR_INVALID  there is no such field. */
-H3_QPACK_INLINE h3_qpack_field h3_qpack_decoder_field(h3_qpack_decoder *decoder, size_t index, uint8_t *out,
-                                                      size_t outlen);
+H3_QPACK_INLINE h3_qpack_field h3_qpack_decoder_field(h3_qpack_decoder *decoder, size_t index, uint8_t *out, size_t outlen);
 
 /* Copies all fields of the last decode. It writes their lengths and flags to |fields|, which has room for |fieldslen|
  * fields. It writes name, value, name, value and so on without gaps to |out|, which has |outlen| bytes.
@@ -449,8 +443,8 @@ H3_QPACK_INLINE h3_qpack_field h3_qpack_decoder_field(h3_qpack_decoder *decoder,
  * Returns the length of all names and values, with a status:
  *   H3_QPACK_OK
  *   H3_QPACK_ERR_NO_ROOM  nothing was written: |outlen| is below |len|, or |fieldslen| below the number of fields. */
-H3_QPACK_INLINE h3_qpack_written h3_qpack_decoder_fields(h3_qpack_decoder *decoder, h3_qpack_field *fields,
-                                                         size_t fieldslen, uint8_t *out, size_t outlen);
+H3_QPACK_INLINE h3_qpack_written h3_qpack_decoder_fields(h3_qpack_decoder *decoder, h3_qpack_field *fields, size_t fieldslen,
+                                                         uint8_t *out, size_t outlen);
 
 /* Stores in |stream_id| a blocked stream whose section can be decoded now (section 2.2.1). Decode that section, or
  * cancel the stream, before you call it again: until then it stores the same stream. A loop that decodes the section of
@@ -475,8 +469,7 @@ H3_QPACK_INLINE size_t h3_qpack_decoder_get_table_size(h3_qpack_decoder *decoder
 H3_QPACK_INLINE size_t h3_qpack_decoder_get_num_entries(h3_qpack_decoder *decoder);
 
 /* Copies one entry of the table to |out|, which has |outlen| bytes, as h3_qpack_encoder_entry does. */
-H3_QPACK_INLINE h3_qpack_field h3_qpack_decoder_entry(h3_qpack_decoder *decoder, size_t index, uint8_t *out,
-                                                      size_t outlen);
+H3_QPACK_INLINE h3_qpack_field h3_qpack_decoder_entry(h3_qpack_decoder *decoder, size_t index, uint8_t *out, size_t outlen);
 
 /* Returns how many bytes are to be sent on the decoder stream (section 4.4). */
 H3_QPACK_INLINE size_t h3_qpack_decoder_get_decoder_streamlen(h3_qpack_decoder *decoder);
@@ -537,8 +530,7 @@ H3_QPACK_INLINE h3_qpack_piece h3_qpack_section_reader_read(h3_qpack_section_rea
  *   H3_QPACK_OK
  *   H3_QPACK_ERR_NO_ROOM  |outlen| is less than both lengths together: nothing was written.
  *   H3_QPACK_ERR_INVALID  that call did not return H3_QPACK_FIELD. */
-H3_QPACK_INLINE h3_qpack_field h3_qpack_section_reader_field(h3_qpack_section_reader *reader, uint8_t *out,
-                                                             size_t outlen);
+H3_QPACK_INLINE h3_qpack_field h3_qpack_section_reader_field(h3_qpack_section_reader *reader, uint8_t *out, size_t outlen);
 
 /* Reads the next bytes of a field section as h3_qpack_section_reader_read does, and copies all fields that they give, as
  * h3_qpack_decoder_fields does: for a language in which a call of C costs much.
@@ -548,10 +540,10 @@ H3_QPACK_INLINE h3_qpack_field h3_qpack_section_reader_field(h3_qpack_section_re
  *   H3_QPACK_ERR_NO_ROOM  |outlen| is too small for the next field, which was read. Get it from
  *                         h3_qpack_section_reader_field, and call this again with the bytes that are left.
  * With an error the fields before it were copied too. */
-H3_QPACK_INLINE h3_qpack_pieces h3_qpack_section_reader_read_all(h3_qpack_section_reader *reader,
-                                                                 h3_qpack_decoder *decoder, const uint8_t *src,
-                                                                 size_t srclen, int fin, h3_qpack_field *fields,
-                                                                 size_t fieldslen, uint8_t *out, size_t outlen);
+H3_QPACK_INLINE h3_qpack_pieces h3_qpack_section_reader_read_all(h3_qpack_section_reader *reader, h3_qpack_decoder *decoder,
+                                                                 const uint8_t *src, size_t srclen, int fin,
+                                                                 h3_qpack_field *fields, size_t fieldslen, uint8_t *out,
+                                                                 size_t outlen);
 
 /* Returns how many bytes a reader keeps: of a prefix or of a field line that is not whole. */
 H3_QPACK_INLINE size_t h3_qpack_section_reader_get_pending(h3_qpack_section_reader *reader);
@@ -579,9 +571,9 @@ H3_QPACK_INLINE h3_qpack_written h3_qpack_encode_stateless(const h3_qpack_nv *nv
  *   H3_QPACK_ERR_NO_MEMORY  call it again later.
  *   H3_QPACK_DECOMPRESSION_FAILED  a line is invalid, which |number| and |offset| locate, or the prefix is, or the
  *                                  section uses the dynamic table. Close the connection. */
-H3_QPACK_INLINE h3_qpack_decoded_alone h3_qpack_decode_stateless(const uint8_t *src, size_t srclen,
-                                                                 uint64_t max_section_size, h3_qpack_field *fields,
-                                                                 size_t fieldslen, uint8_t *out, size_t outlen);
+H3_QPACK_INLINE h3_qpack_decoded_alone h3_qpack_decode_stateless(const uint8_t *src, size_t srclen, uint64_t max_section_size,
+                                                                 h3_qpack_field *fields, size_t fieldslen, uint8_t *out,
+                                                                 size_t outlen);
 
 /* ---- The exports of the verified library. Call those above: these check neither pointers nor lengths.
  *
@@ -597,8 +589,8 @@ H3_QPACK_INLINE h3_qpack_decoded_alone h3_qpack_decode_stateless(const uint8_t *
 #endif
 
 H3_QPACK_CALL uint32_t h3q_version(void);
-H3_QPACK_CALL int32_t h3q_encoder_new(size_t max_capacity, size_t max_blocked, size_t capacity,
-                                      size_t most_unacknowledged, uint64_t seed, void **at);
+H3_QPACK_CALL int32_t h3q_encoder_new(size_t max_capacity, size_t max_blocked, size_t capacity, size_t most_unacknowledged,
+                                      uint64_t seed, void **at);
 H3_QPACK_CALL void h3q_encoder_free(h3_qpack_encoder encoder);
 H3_QPACK_CALL h3_qpack_encoded h3q_encoder_encode(h3_qpack_encoder *encoder, uint64_t stream_id, const h3_qpack_nv *nva,
                                                   size_t nvlen, uint8_t *section, size_t sectionlen);
@@ -643,8 +635,7 @@ H3_QPACK_CALL int32_t h3q_reader_new(uint64_t stream_id, void **at);
 H3_QPACK_CALL void h3q_reader_free(h3_qpack_section_reader reader);
 H3_QPACK_CALL h3_qpack_field h3q_reader_field(h3_qpack_section_reader *reader, uint8_t *out, size_t outlen);
 H3_QPACK_CALL size_t h3q_reader_waiting(h3_qpack_section_reader *reader);
-H3_QPACK_CALL h3_qpack_written h3q_encode_stateless(const h3_qpack_nv *nva, size_t nvlen, uint8_t *section,
-                                                    size_t sectionlen);
+H3_QPACK_CALL h3_qpack_written h3q_encode_stateless(const h3_qpack_nv *nva, size_t nvlen, uint8_t *section, size_t sectionlen);
 H3_QPACK_CALL h3_qpack_decoded_alone h3q_decode_stateless(const uint8_t *src, size_t srclen, uint64_t max_section_size,
                                                           h3_qpack_field *fields, size_t fieldslen, uint8_t *out,
                                                           size_t outlen);
@@ -674,8 +665,7 @@ H3_QPACK_INLINE int h3q_are_fields(const h3_qpack_nv *nva, size_t nvlen) {
   int are = H3Q_FIELDS;
   if ((!nva && nvlen) || nvlen > (size_t)PTRDIFF_MAX / sizeof *nva) return H3Q_NO_FIELDS;
   for (i = 0; i < nvlen; i++) {
-    if (!H3Q_IS_MEMORY(nva[i].name, nva[i].namelen) || !H3Q_IS_MEMORY(nva[i].value, nva[i].valuelen))
-      return H3Q_NO_FIELDS;
+    if (!H3Q_IS_MEMORY(nva[i].name, nva[i].namelen) || !H3Q_IS_MEMORY(nva[i].value, nva[i].valuelen)) return H3Q_NO_FIELDS;
     if (!nva[i].name || !nva[i].value) are = H3Q_HAVE_NULL;
   }
   return are;
@@ -690,21 +680,18 @@ H3_QPACK_INLINE void h3_qpack_encoder_del(h3_qpack_encoder *encoder) {
   }
 }
 
-H3_QPACK_INLINE h3_qpack_encoded h3_qpack_encoder_encode(h3_qpack_encoder *encoder, uint64_t stream_id,
-                                                         const h3_qpack_nv *nva, size_t nvlen, uint8_t *section,
-                                                         size_t sectionlen) {
+H3_QPACK_INLINE h3_qpack_encoded h3_qpack_encoder_encode(h3_qpack_encoder *encoder, uint64_t stream_id, const h3_qpack_nv *nva,
+                                                         size_t nvlen, uint8_t *section, size_t sectionlen) {
   h3_qpack_encoded invalid = {H3_QPACK_ERR_INVALID, 0, 0, 0};
   int are = h3q_are_fields(nva, nvlen);
   if (!H3Q_IS_END(encoder) || !H3Q_IS_STREAM(stream_id) || are == H3Q_NO_FIELDS) return invalid;
   if (!H3Q_IS_MEMORY(section, sectionlen)) return invalid;
-  if (are == H3Q_HAVE_NULL)
-    return h3q_encode_copy(encoder, stream_id, nva, nvlen, H3Q_LEND(uint8_t, section), sectionlen);
+  if (are == H3Q_HAVE_NULL) return h3q_encode_copy(encoder, stream_id, nva, nvlen, H3Q_LEND(uint8_t, section), sectionlen);
   return h3q_encoder_encode(encoder, stream_id, H3Q_LEND(const h3_qpack_nv, nva), nvlen, H3Q_LEND(uint8_t, section),
                             sectionlen);
 }
 
-H3_QPACK_INLINE h3_qpack_written h3_qpack_encoder_section(h3_qpack_encoder *encoder, uint8_t *section,
-                                                          size_t sectionlen) {
+H3_QPACK_INLINE h3_qpack_written h3_qpack_encoder_section(h3_qpack_encoder *encoder, uint8_t *section, size_t sectionlen) {
   h3_qpack_written invalid = {H3_QPACK_ERR_INVALID, 0};
   if (!H3Q_IS_END(encoder) || !H3Q_IS_MEMORY(section, sectionlen)) return invalid;
   return h3q_encoder_section(encoder, H3Q_LEND(uint8_t, section), sectionlen);
@@ -719,8 +706,7 @@ H3_QPACK_INLINE size_t h3_qpack_encoder_write_encoder(h3_qpack_encoder *encoder,
   return h3q_encoder_stream(encoder, H3Q_LEND(uint8_t, out), outlen);
 }
 
-H3_QPACK_INLINE h3_qpack_received h3_qpack_encoder_read_decoder(h3_qpack_encoder *encoder, const uint8_t *src,
-                                                                size_t srclen) {
+H3_QPACK_INLINE h3_qpack_received h3_qpack_encoder_read_decoder(h3_qpack_encoder *encoder, const uint8_t *src, size_t srclen) {
   h3_qpack_received invalid = {H3_QPACK_ERR_INVALID, 0, 0, 0};
   if (!H3Q_IS_END(encoder) || !H3Q_IS_MEMORY(src, srclen)) return invalid;
   return h3q_encoder_read(encoder, H3Q_LEND(const uint8_t, src), srclen);
@@ -773,8 +759,7 @@ H3_QPACK_INLINE size_t h3_qpack_encoder_get_num_entries(h3_qpack_encoder *encode
   return H3Q_IS_END(encoder) ? h3q_encoder_entries(encoder) : 0;
 }
 
-H3_QPACK_INLINE h3_qpack_field h3_qpack_encoder_entry(h3_qpack_encoder *encoder, size_t index, uint8_t *out,
-                                                      size_t outlen) {
+H3_QPACK_INLINE h3_qpack_field h3_qpack_encoder_entry(h3_qpack_encoder *encoder, size_t index, uint8_t *out, size_t outlen) {
   h3_qpack_field invalid = {H3_QPACK_ERR_INVALID, 0, 0, 0};
   if (!H3Q_IS_END(encoder) || !H3Q_IS_MEMORY(out, outlen)) return invalid;
   return h3q_encoder_entry(encoder, index, H3Q_LEND(uint8_t, out), outlen);
@@ -787,36 +772,33 @@ H3_QPACK_INLINE void h3_qpack_decoder_del(h3_qpack_decoder *decoder) {
   }
 }
 
-H3_QPACK_INLINE h3_qpack_received h3_qpack_decoder_read_encoder(h3_qpack_decoder *decoder, const uint8_t *src,
-                                                                size_t srclen) {
+H3_QPACK_INLINE h3_qpack_received h3_qpack_decoder_read_encoder(h3_qpack_decoder *decoder, const uint8_t *src, size_t srclen) {
   h3_qpack_received invalid = {H3_QPACK_ERR_INVALID, 0, 0, 0};
   if (!H3Q_IS_END(decoder) || !H3Q_IS_MEMORY(src, srclen)) return invalid;
   return h3q_decoder_read(decoder, H3Q_LEND(const uint8_t, src), srclen);
 }
 
-H3_QPACK_INLINE h3_qpack_prefix h3_qpack_decoder_peek_prefix(h3_qpack_decoder *decoder, const uint8_t *src,
-                                                             size_t srclen) {
+H3_QPACK_INLINE h3_qpack_prefix h3_qpack_decoder_peek_prefix(h3_qpack_decoder *decoder, const uint8_t *src, size_t srclen) {
   h3_qpack_prefix invalid = {H3_QPACK_ERR_INVALID, 0, 0, 0};
   if (!H3Q_IS_END(decoder) || !H3Q_IS_MEMORY(src, srclen)) return invalid;
   return h3q_decoder_prefix(decoder, H3Q_LEND(const uint8_t, src), srclen);
 }
 
-H3_QPACK_INLINE h3_qpack_decoded h3_qpack_decoder_decode(h3_qpack_decoder *decoder, uint64_t stream_id,
-                                                         const uint8_t *src, size_t srclen) {
+H3_QPACK_INLINE h3_qpack_decoded h3_qpack_decoder_decode(h3_qpack_decoder *decoder, uint64_t stream_id, const uint8_t *src,
+                                                         size_t srclen) {
   h3_qpack_decoded invalid = {H3_QPACK_ERR_INVALID, 0, 0, 0, 0, 0};
   if (!H3Q_IS_END(decoder) || !H3Q_IS_STREAM(stream_id) || !H3Q_IS_MEMORY(src, srclen)) return invalid;
   return h3q_decoder_decode(decoder, stream_id, H3Q_LEND(const uint8_t, src), srclen);
 }
 
-H3_QPACK_INLINE h3_qpack_field h3_qpack_decoder_field(h3_qpack_decoder *decoder, size_t index, uint8_t *out,
-                                                      size_t outlen) {
+H3_QPACK_INLINE h3_qpack_field h3_qpack_decoder_field(h3_qpack_decoder *decoder, size_t index, uint8_t *out, size_t outlen) {
   h3_qpack_field invalid = {H3_QPACK_ERR_INVALID, 0, 0, 0};
   if (!H3Q_IS_END(decoder) || !H3Q_IS_MEMORY(out, outlen)) return invalid;
   return h3q_decoder_field(decoder, index, H3Q_LEND(uint8_t, out), outlen);
 }
 
-H3_QPACK_INLINE h3_qpack_written h3_qpack_decoder_fields(h3_qpack_decoder *decoder, h3_qpack_field *fields,
-                                                         size_t fieldslen, uint8_t *out, size_t outlen) {
+H3_QPACK_INLINE h3_qpack_written h3_qpack_decoder_fields(h3_qpack_decoder *decoder, h3_qpack_field *fields, size_t fieldslen,
+                                                         uint8_t *out, size_t outlen) {
   h3_qpack_written invalid = {H3_QPACK_ERR_INVALID, 0};
   if (!H3Q_IS_END(decoder) || !H3Q_ARE_PLACES(fields, fieldslen) || !H3Q_IS_MEMORY(out, outlen)) return invalid;
   return h3q_decoder_fields(decoder, H3Q_LEND(h3_qpack_field, fields), fieldslen, H3Q_LEND(uint8_t, out), outlen);
@@ -846,8 +828,7 @@ H3_QPACK_INLINE size_t h3_qpack_decoder_get_num_entries(h3_qpack_decoder *decode
   return H3Q_IS_END(decoder) ? h3q_decoder_entries(decoder) : 0;
 }
 
-H3_QPACK_INLINE h3_qpack_field h3_qpack_decoder_entry(h3_qpack_decoder *decoder, size_t index, uint8_t *out,
-                                                      size_t outlen) {
+H3_QPACK_INLINE h3_qpack_field h3_qpack_decoder_entry(h3_qpack_decoder *decoder, size_t index, uint8_t *out, size_t outlen) {
   h3_qpack_field invalid = {H3_QPACK_ERR_INVALID, 0, 0, 0};
   if (!H3Q_IS_END(decoder) || !H3Q_IS_MEMORY(out, outlen)) return invalid;
   return h3q_decoder_entry(decoder, index, H3Q_LEND(uint8_t, out), outlen);
@@ -891,17 +872,16 @@ H3_QPACK_INLINE h3_qpack_piece h3_qpack_section_reader_read(h3_qpack_section_rea
   return piece;
 }
 
-H3_QPACK_INLINE h3_qpack_field h3_qpack_section_reader_field(h3_qpack_section_reader *reader, uint8_t *out,
-                                                             size_t outlen) {
+H3_QPACK_INLINE h3_qpack_field h3_qpack_section_reader_field(h3_qpack_section_reader *reader, uint8_t *out, size_t outlen) {
   h3_qpack_field invalid = {H3_QPACK_ERR_INVALID, 0, 0, 0};
   if (!H3Q_IS_END(reader) || !H3Q_IS_MEMORY(out, outlen)) return invalid;
   return h3q_reader_field(reader, H3Q_LEND(uint8_t, out), outlen);
 }
 
-H3_QPACK_INLINE h3_qpack_pieces h3_qpack_section_reader_read_all(h3_qpack_section_reader *reader,
-                                                                 h3_qpack_decoder *decoder, const uint8_t *src,
-                                                                 size_t srclen, int fin, h3_qpack_field *fields,
-                                                                 size_t fieldslen, uint8_t *out, size_t outlen) {
+H3_QPACK_INLINE h3_qpack_pieces h3_qpack_section_reader_read_all(h3_qpack_section_reader *reader, h3_qpack_decoder *decoder,
+                                                                 const uint8_t *src, size_t srclen, int fin,
+                                                                 h3_qpack_field *fields, size_t fieldslen, uint8_t *out,
+                                                                 size_t outlen) {
   h3_qpack_pieces all = {H3_QPACK_ERR_INVALID, 0, 0, 0, 0, 0, 0};
   h3_qpack_piece piece;
   h3_qpack_field field;
@@ -939,14 +919,13 @@ H3_QPACK_INLINE h3_qpack_written h3_qpack_encode_stateless(const h3_qpack_nv *nv
   return h3q_encode_stateless(H3Q_LEND(const h3_qpack_nv, nva), nvlen, H3Q_LEND(uint8_t, section), sectionlen);
 }
 
-H3_QPACK_INLINE h3_qpack_decoded_alone h3_qpack_decode_stateless(const uint8_t *src, size_t srclen,
-                                                                 uint64_t max_section_size, h3_qpack_field *fields,
-                                                                 size_t fieldslen, uint8_t *out, size_t outlen) {
+H3_QPACK_INLINE h3_qpack_decoded_alone h3_qpack_decode_stateless(const uint8_t *src, size_t srclen, uint64_t max_section_size,
+                                                                 h3_qpack_field *fields, size_t fieldslen, uint8_t *out,
+                                                                 size_t outlen) {
   h3_qpack_decoded_alone invalid = {H3_QPACK_ERR_INVALID, 0, 0, 0, 0};
-  if (!H3Q_IS_MEMORY(src, srclen) || !H3Q_ARE_PLACES(fields, fieldslen) || !H3Q_IS_MEMORY(out, outlen))
-    return invalid;
-  return h3q_decode_stateless(H3Q_LEND(const uint8_t, src), srclen, max_section_size,
-                              H3Q_LEND(h3_qpack_field, fields), fieldslen, H3Q_LEND(uint8_t, out), outlen);
+  if (!H3Q_IS_MEMORY(src, srclen) || !H3Q_ARE_PLACES(fields, fieldslen) || !H3Q_IS_MEMORY(out, outlen)) return invalid;
+  return h3q_decode_stateless(H3Q_LEND(const uint8_t, src), srclen, max_section_size, H3Q_LEND(h3_qpack_field, fields),
+                              fieldslen, H3Q_LEND(uint8_t, out), outlen);
 }
 
 #endif

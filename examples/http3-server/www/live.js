@@ -34,8 +34,8 @@ class Direction {
 
   addSection({id, hex, fields}) {
     const bytes = bytesOf(hex), lines = this.reader.lines(bytes);
-    const isWrong = lines.length !== fields.length ||
-      lines.some(({name, value}, i) => name !== fields[i][0] || value !== fields[i][1]);
+    const isWrong =
+      lines.length !== fields.length || lines.some(({name, value}, i) => name !== fields[i][0] || value !== fields[i][1]);
     this.wrong += isWrong;
     if (fields.some(isOwnField)) own.add(id);
     if (own.has(id)) return;
@@ -80,15 +80,9 @@ function take(event) {
       if (event.type === 2) sent.receive(bytesOf(event.hex));
       else received.answer(bytesOf(event.hex));
       break;
-    case 'section received':
-      received.section(event);
-      break;
-    case 'section sent':
-      sent.section(event);
-      break;
-    case 'tables':
-      tables = event;
-      break;
+    case 'section received': received.section(event); break;
+    case 'section sent': sent.section(event); break;
+    case 'tables': tables = event; break;
   }
 }
 
@@ -141,17 +135,22 @@ function show(id, title, direction, table) {
   bar.append(full);
   document.getElementById(id).replaceChildren(
     element('h2', '', title),
-    element('div', '', `${direction.count} sections, ${direction.sectionBytes} bytes for ${direction.textBytes} ` +
-      `of text (${share} %), and ${reader.streamBytes} on the encoder stream`),
+    element(
+      'div', '',
+      `${direction.count} sections, ${direction.sectionBytes} bytes for ${direction.textBytes} ` +
+        `of text (${share} %), and ${reader.streamBytes} on the encoder stream`),
     element('div', '', describe(table)),
     element('div', '', `insertions: ${name} with a name of a table, ${literal} spelled out, ${duplicate} duplicates`),
-    element('div', '', `${answers.acknowledgments} acknowledgments, ${answers.increments} insertions reported, ` +
-      `${answers.cancellations} cancellations`),
+    element(
+      'div', '',
+      `${answers.acknowledgments} acknowledgments, ${answers.increments} insertions reported, ` +
+        `${answers.cancellations} cancellations`),
     element('div', '', 'lines: ' + Object.entries(direction.kinds).map(([how, count]) => `${count} ${how}`).join(', ')),
-    element('div', direction.wrong || isOther ? 'wrong' : '',
+    element(
+      'div', direction.wrong || isOther ? 'wrong' : '',
       `${direction.wrong} sections read otherwise by this page` + (isOther ? ', and entries of the table' : '')),
-    element('div', '', `table: ${table.size} of ${table.capacity} bytes, at most ${reader.maximum}`),
-    bar, showTable(table, reader), element('h2', '', 'The last sections'),
+    element('div', '', `table: ${table.size} of ${table.capacity} bytes, at most ${reader.maximum}`), bar,
+    showTable(table, reader), element('h2', '', 'The last sections'),
     element('div', 'sections', ...direction.sections.map(showSection)));
 }
 
@@ -168,8 +167,8 @@ async function update() {
       show('received', 'Browser to server: the library decodes', received, tables.received);
       show('sent', 'Server to browser: the library encodes', sent, tables.sent);
     }
-    document.getElementById('error').textContent = tables && tables.full ?
-      'The server keeps no more events of this connection. Restart the browser to begin another.' : '';
+    document.getElementById('error').textContent =
+      tables && tables.full ? 'The server keeps no more events of this connection. Restart the browser to begin another.' : '';
   } catch (error) {
     document.getElementById('error').textContent = String(error);
   }
@@ -185,7 +184,8 @@ function request(turn) {
 for (const button of document.querySelectorAll('[data-requests]'))
   button.onclick = () => Array.from({length: Number(button.dataset.requests)}, (_, turn) => request(turn));
 document.getElementById('cookie').onclick = () => {
-  document.cookie = 'page=' + 'abcdefgh'.repeat(1 + Math.floor(Math.random() * 20)) + '; path=/';
+  document.cookie = 'page=' +
+    'abcdefgh'.repeat(1 + Math.floor(Math.random() * 20)) + '; path=/';
 };
 document.getElementById('pause').onclick = ({target}) => {
   isPaused = !isPaused;

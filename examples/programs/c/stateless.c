@@ -8,8 +8,7 @@ int main(void) {
   h3_qpack_written written = h3_qpack_encode_stateless(list, 3, section, sizeof section);
   expect(written.status);
   print_bytes("section ", section, written.len);
-  h3_qpack_decoded_alone decoded =
-      h3_qpack_decode_stateless(section, written.len, 65536, fields, 8, text, sizeof text);
+  h3_qpack_decoded_alone decoded = h3_qpack_decode_stateless(section, written.len, 65536, fields, 8, text, sizeof text);
   expect(decoded.status);
   print_fields(fields, decoded.fields, text);
 }

@@ -33,8 +33,7 @@ function makeFields(prefix, random) {
 
 function compare(what, expected, found) {
   compared++;
-  if (expected !== found && wrong.length < 20)
-    wrong.push(`${what}: ${JSON.stringify(found)} for ${JSON.stringify(expected)}`);
+  if (expected !== found && wrong.length < 20) wrong.push(`${what}: ${JSON.stringify(found)} for ${JSON.stringify(expected)}`);
 }
 
 async function exchange(turn) {
@@ -47,8 +46,10 @@ async function exchange(turn) {
     compare('answer ' + turn + ' ' + name, value.trim(), response.headers.get(name));
   for (const [name] of response.headers)
     if (name.startsWith('x-a-')) compare('answer ' + turn + ' ' + name, true, asked.has(name));
-  const known = [...sent, [':method', 'POST'], [':scheme', 'https'], [':authority', location.host], [':path', path],
-    ['user-agent', navigator.userAgent], ['cookie', cookie]];
+  const known = [
+    ...sent, [':method', 'POST'], [':scheme', 'https'], [':authority', location.host], [':path', path],
+    ['user-agent', navigator.userAgent], ['cookie', cookie]
+  ];
   for (const [name, value] of known) compare('request ' + turn + ' ' + name, value.trim(), received.get(name));
   for (const name of received.keys())
     if (name.startsWith('x-q-')) compare('request ' + turn + ' ' + name, true, sent.has(name));

@@ -1,7 +1,11 @@
 // A recorded connection, of the rows that tool/qpk/report/columns.py made: its events, its entries and its requests.
 
 const NONE = -1;
-const ENDS = {'>': 'client', '<': 'server', ' ': ''};
+const ENDS = {
+  '>': 'client',
+  '<': 'server',
+  ' ': ''
+};
 const OF_ENCODER = 'cid'; // instructions of the encoder stream
 const OF_DECODER = 'axn'; // instructions of the decoder stream, which are about the other end's encoder
 const REQUEST_FIELDS = [':method', ':path', ':status'];
@@ -49,7 +53,8 @@ class Encoder {
     let low = 0, high = this.steps.length;
     while (low < high) {
       const middle = (low + high) >> 1;
-      if (this.steps[middle] <= moment) low = middle + 1; else high = middle;
+      if (this.steps[middle] <= moment) low = middle + 1;
+      else high = middle;
     }
     return this.states[low];
   }
@@ -76,7 +81,9 @@ class Connection {
     let line = 0, event = 0;
     this.lines = lines.map(step => line += step);
     this.recordOf = new Int32Array(this.events.length);
-    sizes.forEach((size, record) => { this.recordOf.fill(record, event, event += size); });
+    sizes.forEach((size, record) => {
+      this.recordOf.fill(record, event, event += size);
+    });
     Object.assign(this, {ends, times, packets});
     const isTime = time => time !== null && time !== '' && Number.isFinite(Number(time));
     this.hasTimes = times !== null && times.some(isTime);
@@ -129,7 +136,8 @@ class Connection {
     request.sections.push({event, from, place});
     request.bytes += this.sizes[event];
     request.instructions += bytes;
-    for (let i = from; i < event; i++) if (this.owner[i] === NONE && this.direction(i) === place) this.owner[i] = request.number;
+    for (let i = from; i < event; i++)
+      if (this.owner[i] === NONE && this.direction(i) === place) this.owner[i] = request.number;
     this.since[place] = {event: event + 1, bytes: 0};
     this.readFields(row, request, this.encoders[place], event);
   }
@@ -153,8 +161,21 @@ class Connection {
   request(stream, event) {
     let found = this.byStream.get(stream);
     if (!found) {
-      found = {number: this.requests.length, stream, event, sections: [], waits: [], bytes: 0, instructions: 0, blocked: 0,
-        fields: [NONE, NONE, NONE], begin: this.position(event), finish: this.position(event), faults: [], known: ''};
+      found = {
+        number: this.requests.length,
+        stream,
+        event,
+        sections: [],
+        waits: [],
+        bytes: 0,
+        instructions: 0,
+        blocked: 0,
+        fields: [NONE, NONE, NONE],
+        begin: this.position(event),
+        finish: this.position(event),
+        faults: [],
+        known: ''
+      };
       this.byStream.set(stream, found);
       this.requests.push(found);
     }
@@ -205,10 +226,16 @@ class Connection {
     return codes.map((code, i) => {
       if (code & 1) {
         const shape = code >> 1;
-        return {hex: groups[i], how: hows[shape], form: forms[shape], field: this.fields[fields[shape]], entry: entries[shape]};
+        return {
+          hex: groups[i],
+          how: hows[shape],
+          form: forms[shape],
+          field: this.fields[fields[shape]],
+          entry: entries[shape]
+        };
       }
       const distance = code / 2, entry = base - distance;
-      const form = distance < 0 ? `post-base ${-1 - distance}` : `dynamic ${distance}`;
+      const form = distance < 0 ? `post-base ${- 1 - distance}` : `dynamic ${distance}`;
       const field = this.fields[encoder.fields[entry - 1]];
       return {hex: groups[i], how: 'dynamic', form: `${form} (entry ${entry})`, field, entry};
     });

@@ -18,18 +18,22 @@ class Details {
   request(request) {
     const {method, path, status, stream, sections, waits} = request, {connection} = this;
     const title = [method, path].filter(it => it).join(' ') || `Stream ${stream}`;
-    const facts = [`stream ${stream}`, status ? `status ${status}` : '', `${counted(request.bytes, 'byte')} of sections`,
-      `${counted(request.instructions, 'byte')} of instructions`];
+    const facts = [
+      `stream ${stream}`, status ? `status ${status}` : '', `${counted(request.bytes, 'byte')} of sections`,
+      `${counted(request.instructions, 'byte')} of instructions`
+    ];
     const parts = [element('h2', '', title), element('p', 'facts', facts.filter(it => it).join(' · '))];
     for (const wait of waits) {
       const {event, until, end} = wait, [began, ended] = connection.spanOf(wait);
       const waited = end === null ? 'to the end' : `for ${spanText(connection, ended - began)}`;
       const insertion = connection.encoders[connection.direction(event)].events[until - 1];
-      parts.push(element('p', 'waited', `Blocked ${waited}, from `, this.link(event, `line ${connection.line(event)}`), ', until ',
+      parts.push(element(
+        'p', 'waited', `Blocked ${waited}, from `, this.link(event, `line ${connection.line(event)}`), ', until ',
         insertion === undefined ? `insertion ${until}, which never came` : this.link(insertion, `insertion ${until}`), '.'));
     }
     for (const {event, from, place} of sections) parts.push(this.before(event, from, place), this.event(event));
-    for (const {event, end} of waits) if (end === null) parts.push(this.event(event));
+    for (const {event, end} of waits)
+      if (end === null) parts.push(this.event(event));
     if (!sections.length && !waits.length) parts.push(this.event(request.event));
     return parts;
   }
@@ -37,10 +41,13 @@ class Details {
   // The instructions that came before a section, closed.
   before(event, from, place) {
     const {connection} = this, own = [];
-    for (let i = from; i < event; i++) if (OF_ENCODER.includes(connection.events[i][0]) && connection.direction(i) === place) own.push(i);
+    for (let i = from; i < event; i++)
+      if (OF_ENCODER.includes(connection.events[i][0]) && connection.direction(i) === place) own.push(i);
     if (!own.length) return '';
     const bytes = own.reduce((sum, i) => sum + connection.sizes[i], 0);
-    const made = element('details', 'before', element('summary', '', `${counted(own.length, 'instruction')} before it, ${counted(bytes, 'byte')}`));
+    const made = element(
+      'details', 'before',
+      element('summary', '', `${counted(own.length, 'instruction')} before it, ${counted(bytes, 'byte')}`));
     made.addEventListener('toggle', () => {
       if (made.children.length === 1) made.append(...this.inParts(own, i => this.event(i)));
     });
@@ -67,7 +74,8 @@ class Details {
   }
 
   line({hex, how, form, field, entry}, event) {
-    return this.row(hex, [element('span', 'field ' + how, field), ' ', element('span', 'form', ...this.linked(form, event, entry))]);
+    return this.row(
+      hex, [element('span', 'field ' + how, field), ' ', element('span', 'form', ...this.linked(form, event, entry))]);
   }
 
   // Text in which |entry N| is a link to the insertion.
@@ -97,7 +105,8 @@ class Details {
     const links = connection.usesOf(place, entry, MOST_USES).map(it => this.link(it, this.shortPlace(it)));
     const parts = [links.length ? 'referenced by ' : 'never referenced', ...joined(links.slice(0, MOST_LINKS))];
     if (links.length > MOST_LINKS) {
-      const more = links.length < MOST_USES ? `${links.length - MOST_LINKS} more` : `${MOST_USES - MOST_LINKS} more and later ones`;
+      const more =
+        links.length < MOST_USES ? `${links.length - MOST_LINKS} more` : `${MOST_USES - MOST_LINKS} more and later ones`;
       parts.push(' and ', element('details', '', element('summary', '', more), ...joined(links.slice(MOST_LINKS))));
     }
     const evicted = connection.encoders[place].evictedAt[entry - 1];
@@ -109,7 +118,8 @@ class Details {
   inParts(items, make, from = 0) {
     const made = items.slice(from, from + MOST_LINES).map(make), rest = items.length - from - MOST_LINES;
     if (rest <= 0) return made;
-    const button = makeButton('more', [`Show ${Math.min(rest, MOST_LINES)} of ${rest.toLocaleString('en')} more`],
+    const button = makeButton(
+      'more', [`Show ${Math.min(rest, MOST_LINES)} of ${rest.toLocaleString('en')} more`],
       () => button.replaceWith(...this.inParts(items, make, from + MOST_LINES)));
     return [...made, button];
   }
@@ -120,13 +130,14 @@ class Details {
     const bar = element('div', 'bar', element('i')), table = element('table'), places = [];
     bar.firstChild.style.width = (capacity ? 100 * size / capacity : 0) + '%';
     table.dataset.end = encoder.end;
-    table.append(element('thead', '', element('tr', '', ...['entry', 'size', 'field'].map((text, i) => headCell(text, i < 2)))));
+    table.append(
+      element('thead', '', element('tr', '', ...['entry', 'size', 'field'].map((text, i) => headCell(text, i < 2)))));
     for (let i = inserted - 1; i >= Math.max(0, evicted - MOST_EVICTED); i--) places.push(i);
     const body = element('tbody', '', ...places.slice(0, MOST_LINES).map(i => this.entry(encoder, i, moment, evicted)));
     table.append(body);
     const numbers = `entries ${inserted - evicted}, ${size} of ${capacity} bytes, evicted ${evicted}`;
-    const found = element('section', 'table', element('h3', '', `Table of ${encoder.name}`), element('p', 'facts', numbers), bar,
-      table);
+    const found =
+      element('section', 'table', element('h3', '', `Table of ${encoder.name}`), element('p', 'facts', numbers), bar, table);
     if (places.length > MOST_LINES) found.append(this.restOf(body, places, encoder, moment, evicted));
     return found;
   }
@@ -143,10 +154,12 @@ class Details {
     const event = encoder.events[place], field = this.connection.fields[encoder.fields[place]];
     const isDraining = encoder.evictedAt[place] !== undefined && encoder.last[place] <= moment;
     const state = place < evicted ? 'evicted' : event === moment ? 'inserted' : isDraining ? 'draining' : '';
-    const row = element('tr', state, element('td', 'number', this.link(event, String(place + 1))),
+    const row = element(
+      'tr', state, element('td', 'number', this.link(event, String(place + 1))),
       element('td', 'number', String(encoder.sizes[place])), element('td', '', field));
     row.title = [field, {draining: 'draining: nothing references it again before it is evicted'}[state] || state]
-      .filter(text => text).join('\n');
+                  .filter(text => text)
+                  .join('\n');
     return row;
   }
 }

@@ -74,14 +74,18 @@ class List {
   renderSoon() {
     if (this.isWaiting) return;
     this.isWaiting = true;
-    requestAnimationFrame(() => { this.isWaiting = false; this.render(); });
+    requestAnimationFrame(() => {
+      this.isWaiting = false;
+      this.render();
+    });
   }
 
   render() {
     const {top} = this, {scrollTop} = this.element;
     const first = Math.max(0, Math.floor(top) - AROUND);
     const end = Math.min(this.count, Math.ceil(top) + this.inView + AROUND);
-    for (const [place, row] of this.rows) if (place < first || place >= end) row.remove(), this.rows.delete(place);
+    for (const [place, row] of this.rows)
+      if (place < first || place >= end) row.remove(), this.rows.delete(place);
     for (let place = first; place < end; place++) {
       let row = this.rows.get(place);
       if (!row) this.rows.set(place, row = this.make(place)), this.body.append(row);

@@ -8,7 +8,8 @@ function bytesInBins({events, sizes}) {
   const width = Math.min(BINS, events.length), bins = Array.from({length: width}, () => [0, 0]);
   events.forEach(([kind], event) => {
     const bin = bins[Math.floor(event * width / events.length)];
-    if (kind === 's') bin[0] += sizes[event]; else if (OF_ENCODER.includes(kind)) bin[1] += sizes[event];
+    if (kind === 's') bin[0] += sizes[event];
+    else if (OF_ENCODER.includes(kind)) bin[1] += sizes[event];
   });
   return bins;
 }
@@ -19,8 +20,8 @@ function chart(connection) {
   const paths = {section: '', instructions: ''};
   bins.forEach(([sections, instructions], i) => {
     const section = HEIGHT * sections / most, other = HEIGHT * instructions / most;
-    paths.section += `M${i + 0.1} ${HEIGHT}v${-section}h.8v${section}z`;
-    paths.instructions += `M${i + 0.1} ${HEIGHT - section}v${-other}h.8v${other}z`;
+    paths.section += `M${i + 0.1} ${HEIGHT}v${- section}h.8v${section}z`;
+    paths.instructions += `M${i + 0.1} ${HEIGHT - section}v${- other}h.8v${other}z`;
   });
   for (const [name, d] of Object.entries(paths)) made.append(drawn('path', {class: name, d}));
   for (const {event} of connection.faults.filter(it => it.event !== null)) {
@@ -40,8 +41,8 @@ class Overview {
     this.slider.oninput = () => onMove(Number(this.slider.value));
     this.label = element('output', 'moment');
     this.label.htmlFor = 'moment';
-    const legend = element('span', 'bytes-legend', element('i', 'section'), 'bytes of sections ', element('i', 'instructions'),
-      'of instructions');
+    const legend = element(
+      'span', 'bytes-legend', element('i', 'section'), 'bytes of sections ', element('i', 'instructions'), 'of instructions');
     this.element = element('div', 'overview', chart(connection), this.slider, element('div', 'captions', this.label, legend));
   }
 
@@ -58,7 +59,8 @@ class Overview {
 function statistics({directions}) {
   const parts = directions.map(({end, settings, rows}) => {
     const list = rows.flatMap(([name, text]) => [element('dt', '', name), element('dd', '', text)]);
-    return element('section', '', element('h3', '', end ? `The ${end}'s encoder` : 'The encoder'), settings, element('dl', '', ...list));
+    return element(
+      'section', '', element('h3', '', end ? `The ${end}'s encoder` : 'The encoder'), settings, element('dl', '', ...list));
   });
   return element('details', 'statistics', element('summary', '', 'Figures'), element('div', 'columns', ...parts));
 }

@@ -18,8 +18,17 @@ from .verdict import MOST_FAULTS, Verdict
 FOLDER = Path(__file__).resolve().parent
 STYLES = ("qpack.css", "report.css")
 SCRIPTS = (
-    "element.js", "connection.js", "words.js", "list.js", "waterfall.js", "requests.js", "timeline.js", "details.js",
-    "verdict.js", "overview.js", "report.js",
+    "element.js",
+    "connection.js",
+    "words.js",
+    "list.js",
+    "waterfall.js",
+    "requests.js",
+    "timeline.js",
+    "details.js",
+    "verdict.js",
+    "overview.js",
+    "report.js",
 )
 OWN_DATA = "begin.js"  # fills a page with its data
 LEVEL = 4  # of the compression: a third of the time of the usual one

@@ -90,7 +90,9 @@ class Recording:
 def bounded(line: bytes, command: str) -> bytes:
     """Returns a line that a command of qpk printed, of no more than MOST_BYTES and MOST_LINES."""
     if len(line) == MOST_BYTES or len(line) > MOST_LINES and line.count(NEXT) > MOST_LINES:
-        raise ReportError(f"a section is too large: over {MOST_LINES} lines, or {MOST_BYTES >> 20} MB as JSON; read it by qpk {command}")
+        raise ReportError(
+            f"a section is too large: over {MOST_LINES} lines, or {MOST_BYTES >> 20} MB as JSON; read it by qpk {command}"
+        )
     return line
 
 

@@ -1,7 +1,10 @@
 // The page of qpk report. Its data are compressed in the element |data|. All text goes through textContent.
 
 const page = document.getElementById('page');
-const TABS = {requests: 'Requests', timeline: 'Timeline'};
+const TABS = {
+  requests: 'Requests',
+  timeline: 'Timeline'
+};
 
 // Returns the bytes that a text of base64 has, compressed.
 async function inflated(text) {
@@ -38,14 +41,19 @@ class Report {
     const copy = makeButton('', ['Copy link'], async () => {
       copy.textContent = await copied(location.href) ? 'Copied' : 'Copy the address above';
     });
-    copy.onblur = () => { copy.textContent = 'Copy link'; };
+    copy.onblur = () => {
+      copy.textContent = 'Copy link';
+    };
     const states = ['inserted', 'draining', 'evicted'].map(state => element('span', state, state));
     this.part = scrollable('chosen-part', 'What is chosen', element('div', 'tools', copy), this.chosen);
-    const tables = scrollable('tables', 'The tables at this moment', element('h2', '', 'The tables at this moment'),
-      element('p', 'states', ...states), this.tables);
+    const tables = scrollable(
+      'tables', 'The tables at this moment', element('h2', '', 'The tables at this moment'), element('p', 'states', ...states),
+      this.tables);
     const made = element('aside', '', this.part, tables);
     made.setAttribute('aria-label', 'Details');
-    made.addEventListener('keydown', ({key}) => { if (key === 'Escape') this.list.element.focus(); });
+    made.addEventListener('keydown', ({key}) => {
+      if (key === 'Escape') this.list.element.focus();
+    });
     return made;
   }
 
@@ -60,10 +68,12 @@ class Report {
     group.setAttribute('aria-label', 'View');
     const hint = element('kbd', '', '/');
     hint.title = 'press / to filter';
-    this.bar = element('div', 'toolbar', group, element('span', 'filter', this.requests.filter, hint), this.requests.count, legend());
+    this.bar =
+      element('div', 'toolbar', group, element('span', 'filter', this.requests.filter, hint), this.requests.count, legend());
     this.views = {requests: this.requests.list.element, timeline: this.timeline.element};
     const lists = element('section', 'lists', this.views.requests, this.views.timeline);
-    return element('div', 'report', findings(this), statistics(this.connection), this.overview.element, this.bar,
+    return element(
+      'div', 'report', findings(this), statistics(this.connection), this.overview.element, this.bar,
       element('main', '', lists, this.aside));
   }
 
@@ -149,7 +159,8 @@ function setFragment(fragment) {
 
 function show(number) {
   report = new Report(new Connection(data.connections[number], data), number);
-  for (const button of page.querySelectorAll('.connection')) button.setAttribute('aria-pressed', Number(button.dataset.number) === number);
+  for (const button of page.querySelectorAll('.connection'))
+    button.setAttribute('aria-pressed', Number(button.dataset.number) === number);
   content.replaceChildren(report.element);
   report.list.render();
   return report;
@@ -181,13 +192,18 @@ function fill(found) {
   }
   const title = ranked.length === 1 ? ranked[0].connection.name : counted(ranked.length, 'connection');
   page.append(element('header', '', element('h1', '', `QPACK of ${title}`), summary(ranked)));
-  if (ranked.length > 1) page.append(connectionList(ranked, number => { show(number); setFragment(`#${number}`); }));
+  if (ranked.length > 1)
+    page.append(connectionList(ranked, number => {
+      show(number);
+      setFragment(`#${number}`);
+    }));
   page.append(content);
   if (!follow()) {
     show(ranked[0].number);
     const [first] = report.connection.faults.filter(it => it.event !== null);
     if (first) report.showEvent(first.event);
-    else if (report.connection.requests.length) report.showRequest(report.connection.requests[0]), report.requests.mark(report.request);
+    else if (report.connection.requests.length)
+      report.showRequest(report.connection.requests[0]), report.requests.mark(report.request);
     else report.showEvent(report.connection.events.length - 1);
     history.replaceState(null, '', location.pathname + location.search);
   }
@@ -197,9 +213,12 @@ function fill(found) {
 let data, report, isOwn = '';
 const content = element('div', 'content');
 
-addEventListener('hashchange', () => { if (report && location.hash !== isOwn) follow(); });
+addEventListener('hashchange', () => {
+  if (report && location.hash !== isOwn) follow();
+});
 addEventListener('keydown', event => {
-  if (!report || event.key !== '/' || /^(INPUT|SELECT|TEXTAREA)$/.test(event.target.tagName) && event.target.type !== 'range') return;
+  if (!report || event.key !== '/' || /^(INPUT|SELECT|TEXTAREA)$/.test(event.target.tagName) && event.target.type !== 'range')
+    return;
   event.preventDefault();
   report.choose('requests');
   report.requests.filter.focus();

@@ -12,9 +12,31 @@ FOLDER = Path(__file__).resolve().parent.parent / "tab"
 PROGRAM = DIST / "qpk-wasm64.wasm"
 # What the worker runs, in this order, and what the page itself runs.
 OF_WORKER = (
-    "tables.js", "qpack.js", "bytes.js", "lines.js", "events.js", "columns.js", "stats.js", "findings.js", "data.js",
-    "reader.js", "script_reader.js", "captures.js", "datagrams.js", "chacha.js", "keys.js", "quic.js", "streams.js", "connections.js",
-    "strangers.js", "packets.js", "netlog.js", "qlog.js", "source.js", "typed.js", "worker.js",
+    "tables.js",
+    "qpack.js",
+    "bytes.js",
+    "lines.js",
+    "events.js",
+    "columns.js",
+    "stats.js",
+    "findings.js",
+    "data.js",
+    "reader.js",
+    "script_reader.js",
+    "captures.js",
+    "datagrams.js",
+    "chacha.js",
+    "keys.js",
+    "quic.js",
+    "streams.js",
+    "connections.js",
+    "strangers.js",
+    "packets.js",
+    "netlog.js",
+    "qlog.js",
+    "source.js",
+    "typed.js",
+    "worker.js",
 )
 OF_PAGE = ("typing.js", "tab.js")
 LOADER = DIST / "qpk_wasm64.js"  # of the program

@@ -85,7 +85,8 @@ def form_of(event: Event, place: int) -> Object:
 def life_as_object(direction: Direction, entry: Entry) -> Dict[str, Any]:
     """Returns the life of an entry as an object for JSON."""
     lines = [
-        {**event_object(event), "offset": event.lines.offset(place), "form": form_of(event, place)} for event, place in entry.lines
+        {**event_object(event), "offset": event.lines.offset(place), "form": form_of(event, place)}
+        for event, place in entry.lines
     ]
     inserted = {**event_object(entry.inserted), "bytes": entry.inserted.data.hex()}
     return {

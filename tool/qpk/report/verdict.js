@@ -1,7 +1,8 @@
 // The verdict of all connections, worst first, and what was found on one.
 
 const STATES = {
-  wrong: {sign: '✕', rank: 0}, perhaps: {sign: '?', rank: 1},
+  wrong: {sign: '✕', rank: 0},
+  perhaps: {sign: '?', rank: 1},
   lacking: {sign: '?', rank: 2}, // nothing is found, and the file has not all of the connection
   right: {sign: '✓', rank: 3},
 };
@@ -13,7 +14,10 @@ function stateOf({verdict: {certain, explained, lacks}}) {
 
 function verdictText({verdict: {certain, explained, lacks}}) {
   if (!certain && !explained) return lacks ? 'Nothing is found, and not all could be read' : 'Nothing is wrong';
-  const parts = [certain ? counted(certain, 'finding') : '', explained ? `${counted(explained, 'finding')} that what is missing may explain` : ''];
+  const parts = [
+    certain ? counted(certain, 'finding') : '',
+    explained ? `${counted(explained, 'finding')} that what is missing may explain` : ''
+  ];
   return parts.filter(it => it).join(', ');
 }
 
@@ -36,16 +40,19 @@ function summary(ranked) {
   const worse = ranked.filter(it => it.connection.faults.length).length, {certain, explained} = connection.verdict;
   const worst = connection.faults.find(it => !it.perhaps) ?? connection.faults[0], rest = certain + explained - 1;
   const more = rest ? `, and ${counted(rest, 'more finding')}` : '';
-  const text = worst ? `${worst.perhaps ? 'Perhaps on' : 'On'} ${connection.name}: ${worst.fault}${more}. Findings on ${worse} of ${all} connections.`
-    : state === 'right' ? `Nothing is wrong on ${all} connections.`
-    : `Nothing is found on ${all} connections, of which not all of ${ranked.filter(it => it.state === state).length} could be read.`;
+  const text = worst ? `${worst.perhaps ? 'Perhaps on' : 'On'} ${connection.name}: ${worst.fault}${more}. Findings on ${
+                         worse} of ${all} connections.` :
+    state === 'right' ? `Nothing is wrong on ${all} connections.` :
+                        `Nothing is found on ${all} connections, of which not all of ${
+                          ranked.filter(it => it.state === state).length} could be read.`;
   return element('p', 'summary ' + state, sign(state), text);
 }
 
 // A button for each connection, worst first.
 function connectionList(ranked, onChoose) {
   const item = ({connection, number, state}) => {
-    const parts = [sign(state), element('span', 'name', connection.name), ' ', element('span', 'said', verdictText(connection))];
+    const parts =
+      [sign(state), element('span', 'name', connection.name), ' ', element('span', 'said', verdictText(connection))];
     const button = makeButton('connection', parts, () => onChoose(number));
     button.dataset.number = number;
     return element('li', '', button);
@@ -67,9 +74,11 @@ function findings({connection, details}) {
   if (verdict.seen) made.append(element('p', verdict.lacks ? 'seen lacks' : 'seen', verdict.seen));
   made.append(...leftOut.map(text => element('p', 'left-out', text)));
   const item = fault => {
-    const place = `line ${fault.line}${fault.packet ? `, packet ${fault.packet}` : ''}${fault.time ? ', ' + fault.time : ''}${fault.from ? ', ' + fault.from : ''}`;
-    return element('li', fault.perhaps ? 'perhaps' : 'wrong',
-      fault.event === null ? place : details.link(fault.event, place), ': ', textOfFault(fault));
+    const place = `line ${fault.line}${fault.packet ? `, packet ${fault.packet}` : ''}${fault.time ? ', ' + fault.time : ''}${
+      fault.from ? ', ' + fault.from : ''}`;
+    return element(
+      'li', fault.perhaps ? 'perhaps' : 'wrong', fault.event === null ? place : details.link(fault.event, place), ': ',
+      textOfFault(fault));
   };
   if (faults.length) made.append(element('ol', '', ...faults.slice(0, MOST_NAMED).map(item)));
   if (faults.length > MOST_NAMED) {

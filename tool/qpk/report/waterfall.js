@@ -57,7 +57,8 @@ class Waterfall {
   // Writes at the head of the column where it begins and ends.
   drawScale(list) {
     const {head} = list.columns.at(-1), {connection} = this, end = this.begin + this.span;
-    const texts = connection.hasTimes ? [`${this.begin.toFixed(3)} s`, `${end.toFixed(3)} s`] : [`line ${this.begin}`, `${end}`];
+    const texts =
+      connection.hasTimes ? [`${this.begin.toFixed(3)} s`, `${end.toFixed(3)} s`] : [`line ${this.begin}`, `${end}`];
     head.replaceChildren(...texts.map(text => element('span', '', text)));
     head.setAttribute('aria-label', 'Waterfall');
   }

@@ -1,6 +1,10 @@
 // The events of a connection in words, as qpk show prints them.
 
-const ANSWERS = {a: 'acknowledge stream', x: 'cancel stream', n: 'increment'};
+const ANSWERS = {
+  a: 'acknowledge stream',
+  x: 'cancel stream',
+  n: 'increment'
+};
 
 function spaced(hex) { return hex.replace(/[()]/g, '').replace(/../g, '$& ').trim(); }
 
@@ -24,7 +28,7 @@ function nameOf(connection, event) {
   const name = connection.events[event][3];
   if (name === NONE) return '';
   if (name >= 0) return ` with the name of static ${name}`;
-  return ` with the name of dynamic ${-2 - name} (entry ${connection.referencedBy(event)})`;
+  return ` with the name of dynamic ${- 2 - name} (entry ${connection.referencedBy(event)})`;
 }
 
 function sectionOf([, , , required, base, , arrival]) {

@@ -25,7 +25,8 @@ for (const [code, digit] of Array.from('0123456789abcdef').entries()) {
 // Returns the bytes of digits, which are two for each.
 function fromHex(text) {
   const bytes = new Uint8Array(text.length >> 1);
-  for (let at = 0; at < bytes.length; at++) bytes[at] = DIGITS[text.charCodeAt(2 * at)] << 4 | DIGITS[text.charCodeAt(2 * at + 1)];
+  for (let at = 0; at < bytes.length; at++)
+    bytes[at] = DIGITS[text.charCodeAt(2 * at)] << 4 | DIGITS[text.charCodeAt(2 * at + 1)];
   return bytes;
 }
 

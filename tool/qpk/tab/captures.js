@@ -6,7 +6,12 @@ const MOST_BLOCK = 1 << 24; // bytes of a block of pcapng that is read; a longer
 const MOST_INTERFACES = 1 << 12; // of a section of pcapng whose link types are kept; more are damage
 const SECOND = 1_000_000_000n; // in nanoseconds
 // Files of pcap, by their first four bytes: whether the lowest byte is first, and how many nanoseconds a unit of time has.
-const PCAP = {d4c3b2a1: [true, 1000n], a1b2c3d4: [false, 1000n], '4d3cb2a1': [true, 1n], a1b23c4d: [false, 1n]};
+const PCAP = {
+  d4c3b2a1: [true, 1000n],
+  a1b2c3d4: [false, 1000n],
+  '4d3cb2a1': [true, 1n],
+  a1b23c4d: [false, 1n]
+};
 const PCAPNG = '0a0d0d0a';
 // Blocks of pcapng, by their types.
 const SECTION = 0x0a0d0d0a, INTERFACE = 1, OLD_PACKET = 2, SIMPLE_PACKET = 3, ENHANCED_PACKET = 6, SECRETS = 10;
@@ -34,7 +39,7 @@ class Capture {
   packet(time, link, data, size) {
     this.count++;
     if (data.length < size) {
-      this.short++;
+      this.short ++;
       this.longestShort = Math.max(this.longestShort, data.length);
     }
     return {number: this.count, time, link, data};
@@ -64,7 +69,8 @@ class Capture {
       const {kind, body, view} = block;
       try {
         if (kind === SECTION) interfaces = [];
-        else if (kind === INTERFACE && interfaces.length < MOST_INTERFACES) interfaces.push(new Interface(view, this.isLittle));
+        else if (kind === INTERFACE && interfaces.length < MOST_INTERFACES)
+          interfaces.push(new Interface(view, this.isLittle));
         else if ([OLD_PACKET, SIMPLE_PACKET, ENHANCED_PACKET].includes(kind)) {
           const packet = this.packetOfBlock(kind, body, view, interfaces);
           if (!packet) return this.stopAtDamage();
@@ -95,7 +101,8 @@ class Capture {
     const number = at => view.getUint32(at, this.isLittle);
     if (kind === SIMPLE_PACKET) {
       const size = number(0), data = body.subarray(4, 4 + size);
-      return interfaces.length ? this.packet(0n, interfaces[0].link, data, Math.min(size, interfaces[0].snapLength || size)) : null;
+      return interfaces.length ? this.packet(0n, interfaces[0].link, data, Math.min(size, interfaces[0].snapLength || size)) :
+                                 null;
     }
     const its = interfaces[kind === ENHANCED_PACKET ? number(0) : view.getUint16(0, this.isLittle)];
     const time = (BigInt(number(4)) << 32n) + BigInt(number(8)), size = number(16);

@@ -4,13 +4,15 @@
 // The page has the first events that are not more than these, and says so.
 const MOST_ROWS = 4_000_000; // events and lines
 const MOST_BYTES = 64 << 20; // of events, and of fields, each once
-const ANSWERS_OF = {acknowledge: 'a', cancel: 'x', increment: 'n'};
+const ANSWERS_OF = {
+  acknowledge: 'a',
+  cancel: 'x',
+  increment: 'n'
+};
 
 // The fields and the shapes of lines of all connections, each once.
 class Texts {
-  constructor() {
-    Object.assign(this, {fields: new Map(), firsts: [], roomOfRows: MOST_ROWS, roomOfBytes: MOST_BYTES});
-  }
+  constructor() { Object.assign(this, {fields: new Map(), firsts: [], roomOfRows: MOST_ROWS, roomOfBytes: MOST_BYTES}); }
 
   field(it) {
     return takeOrMake(this.fields, it, () => {
@@ -23,10 +25,10 @@ class Texts {
   code(it) {
     const words = shownForm(it.form);
     return 2 * takeOrMake(it.field.codes, words, () => {
-      this.firsts.push({...it, words});
-      this.field(it.field);
-      return this.firsts.length - 1;
-    }) + 1;
+             this.firsts.push({...it, words});
+             this.field(it.field);
+             return this.firsts.length - 1;
+           }) + 1;
   }
 
   data() {
@@ -124,7 +126,8 @@ class Columns {
   finish() {
     for (const key of Array.from(this.waiting.keys())) this.complete(key);
     const known = column => column.some(it => it !== null) ? column : null;
-    const records = {lines: this.lines, sizes: this.sizes, ends: this.ends, times: known(this.times), packets: known(this.packetsOf)};
+    const records =
+      {lines: this.lines, sizes: this.sizes, ends: this.ends, times: known(this.times), packets: known(this.packetsOf)};
     return {records, refused: this.refused, rest: this.rest, events: this.rows};
   }
 }

@@ -117,9 +117,16 @@ class QuicConnection {
   // Returns what was seen of an end.
   seenOf(mark) {
     const seen = this.seen[mark], known = this.acknowledged[mark];
-    const found = {packets: seen.count(), missing: known.without(seen), unread: this.unread[mark], gaps: this.streams.countGaps(mark),
-      hasSettings: this.hasSettings[mark], early: this.early[mark].count() - countOf(this.early[mark].without(seen)),
-      acknowledgedTo: MOST_LINES, heardTo: MOST_LINES};
+    const found = {
+      packets: seen.count(),
+      missing: known.without(seen),
+      unread: this.unread[mark],
+      gaps: this.streams.countGaps(mark),
+      hasSettings: this.hasSettings[mark],
+      early: this.early[mark].count() - countOf(this.early[mark].without(seen)),
+      acknowledgedTo: MOST_LINES,
+      heardTo: MOST_LINES
+    };
     if (this.isRefused) return found; // a peer that refuses a line acknowledges it no more
     const last = known.lasts.at(-1) ?? -1, line = this.lineNumbers[mark].findLast(([, number]) => number <= last)?.[0] ?? 0;
     return {...found, acknowledgedTo: line, heardTo: this.heard[mark]};

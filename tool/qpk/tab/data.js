@@ -41,9 +41,11 @@ class DataMaker {
 function leftOut(columns, faults) {
   const shown = columns.rows.length, events = columns.numberOfEvents, found = [];
   if (shown < events) {
-    found.push(`This page shows the first ${shown} of ${events} events, and the tables up to there, as a page has room for no ` +
+    found.push(
+      `This page shows the first ${shown} of ${events} events, and the tables up to there, as a page has room for no ` +
       'more. The numbers are those of all events. qpk show prints each event.');
   }
-  if (faults > MOST_FAULTS) found.push(`This page lists the first ${MOST_FAULTS} of ${faults} faults. qpk check prints each fault.`);
+  if (faults > MOST_FAULTS)
+    found.push(`This page lists the first ${MOST_FAULTS} of ${faults} faults. qpk check prints each fault.`);
   return found;
 }

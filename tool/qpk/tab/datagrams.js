@@ -8,7 +8,17 @@ const MOST_HEADERS = 16; // extension headers of IPv6 before the datagram; with 
 const UDP = 17; // the protocol, in IP
 const HOP_BY_HOP = 0, ROUTING = 43, FRAGMENT = 44, DESTINATION = 60; // extension headers of IPv6 (RFC 8200, section 4)
 // Where the packet of IP begins, by the type of the link: BSD loopback, raw IP, Linux cooked capture.
-const HEADS = {0: 4, 108: 4, 12: 0, 14: 0, 101: 0, 228: 0, 229: 0, 113: 16, 276: 20};
+const HEADS = {
+  0: 4,
+  108: 4,
+  12: 0,
+  14: 0,
+  101: 0,
+  228: 0,
+  229: 0,
+  113: 16,
+  276: 20
+};
 const ETHERNET = 1, VLAN = [0x8100, 0x88a8, 0x9100]; // types of Ethernet before which a tag of four bytes stands
 
 // Returns where the packet of IP begins in one of a link, or -1 if the link is of another type.
@@ -53,7 +63,10 @@ class Datagrams {
   ofPacket(link, data) {
     const at = beginOfIp(link, data), version = data[at] >> 4;
     if (at < 0 || data.length < at + 20) return null;
-    const rest = data.subarray(at), found = version === 4 ? this.ofVersion4(rest) : version === 6 ? this.ofVersion6(rest) : null;
+    const rest = data.subarray(at),
+          found = version === 4 ? this.ofVersion4(rest) :
+      version === 6             ? this.ofVersion6(rest) :
+                                  null;
     this.count += found !== null;
     return found;
   }
@@ -62,7 +75,8 @@ class Datagrams {
   ofVersion4(data) {
     const head = (data[0] & 15) * 4, size = numberAt(data, 2, 2), part = numberAt(data, 6, 2);
     if (data[9] !== UDP || head < 20) return null;
-    const payload = data.subarray(head, size >= head ? size : data.length); // of a packet that a segmenting device sends it is 0
+    const payload =
+      data.subarray(head, size >= head ? size : data.length); // of a packet that a segmenting device sends it is 0
     const [source, target] = [data.subarray(12, 16), data.subarray(16, 20)];
     if (!(part & 0x3fff)) return datagramOf(source, target, payload);
     return this.fragment([source, target, data.subarray(4, 6)], (part & 0x1fff) * 8, payload, !(part & 0x2000));
@@ -78,7 +92,8 @@ class Datagrams {
       if (data.length < at + 8) return null;
       if (kind === FRAGMENT && data[at] === UDP) {
         const part = numberAt(data, at + 2, 2);
-        return this.fragment([source, target, data.subarray(at + 4, at + 8)], part & 0xfff8, data.subarray(at + 8), !(part & 1));
+        return this.fragment(
+          [source, target, data.subarray(at + 4, at + 8)], part & 0xfff8, data.subarray(at + 8), !(part & 1));
       }
       if (![HOP_BY_HOP, ROUTING, DESTINATION].includes(kind)) return null;
       [kind, at] = [data[at], at + 8 + data[at + 1] * 8];

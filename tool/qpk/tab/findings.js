@@ -2,7 +2,8 @@
 // reads the bytes. tool/qpk/findings.py has the same rules.
 'use strict';
 
-const CUT_SECTION = '4.2', WAITS = 'to the end'; // the section of what the end of a recording cuts, and how a fault of what waits ends
+const CUT_SECTION = '4.2',
+      WAITS = 'to the end'; // the section of what the end of a recording cuts, and how a fault of what waits ends
 const CUT_AT_THE_END = 'cut at the end';
 // Sections of RFC 9204 of findings that are none ..
 const OF_SECTIONS = ['2.1.2', '2.2.3', '4.5.1.1', '4.5.1.2']; // if an insertion is not in the file, about a section
@@ -13,10 +14,25 @@ const AT_RISK = 'streams that could be blocked'; // the first words of a fault t
 const MOST_NAMED = 8; // ranges of packet numbers that are named of an end; the others are counted
 const MOST_FAULTS = 1_000; // of a connection that the page lists
 const NAMED_STREAM = /\bstream (\d+)\b/;
-const MARKS = {client: '>', server: '<', '': ''};
+const MARKS = {
+  client: '>',
+  server: '<',
+  '': ''
+};
 // What was seen of a connection whose packets are not known, as of a trace, where something is missing.
-const OF_GAPS = {missing: [], unread: 0, gaps: 1, early: 0, hasSettings: false, acknowledgedTo: Infinity, heardTo: Infinity};
-const WITH_GAPS = {ends: {'>': OF_GAPS, '<': OF_GAPS}, isLate: false};
+const OF_GAPS = {
+  missing: [],
+  unread: 0,
+  gaps: 1,
+  early: 0,
+  hasSettings: false,
+  acknowledgedTo: Infinity,
+  heardTo: Infinity
+};
+const WITH_GAPS = {
+  ends: {'>': OF_GAPS, '<': OF_GAPS},
+  isLate: false
+};
 
 function lacks(end) { return end.missing.length > 0 || end.unread > 0 || end.gaps > 0 || end.early > 0; }
 
@@ -25,7 +41,8 @@ function lacksAny(seen) { return seen.isLate || Object.values(seen.ends).some(la
 
 // Returns what was seen of the packets of a connection as a line.
 function lineOfSeen({ends, isLate}) {
-  const all = Object.entries(ends), counts = all.map(([mark, it]) => `${ENDS[mark]} ${it.packets} of ${it.packets + countOf(it.missing)}`);
+  const all = Object.entries(ends),
+        counts = all.map(([mark, it]) => `${ENDS[mark]} ${it.packets} of ${it.packets + countOf(it.missing)}`);
   const parts = [`packets: ${counts.join(', ')}`];
   for (const [mark, it] of all) {
     if (it.missing.length) parts.push(`not in the file: ${ENDS[mark]} ${namesOf(it.missing)}`);
@@ -60,7 +77,8 @@ function explains(seen, it) {
   }
   const isLacking = lacks(own) || seen.isLate || it.line > own.acknowledgedTo;
   if ('rfc9114' in it) return isLacking;
-  if ('section' in it) return OF_SECTIONS.includes(it.rfc9204) && isLacking || OF_SETTINGS.includes(it.rfc9204) && !peer.hasSettings;
+  if ('section' in it)
+    return OF_SECTIONS.includes(it.rfc9204) && isLacking || OF_SETTINGS.includes(it.rfc9204) && !peer.hasSettings;
   if ('encoder' in it) return it.rfc9204 === '4.3.1' && !peer.hasSettings;
   const isDeaf = lacks(peer) || seen.isLate || it.line > own.heardTo;
   return OF_DECODERS.includes(it.rfc9204) && !it.fault.includes('increment of 0') && isDeaf;

@@ -4,22 +4,57 @@
 
 const SAMPLE = 16, TAG = 16; // bytes that mask a header, and bytes behind a payload
 const BLOCK = 16; // bytes of a block of AES
-const AES_128 = {digest: 'SHA-256', size: 16}, AES_256 = {digest: 'SHA-384', size: 32};
-const CHACHA20 = {digest: 'SHA-256', size: 32, isChacha: true};
-const AES_128_CCM = {digest: 'SHA-256', size: 16, isCcm: true};
-const SUITES = {32: [AES_128, CHACHA20, AES_128_CCM], 48: [AES_256]}; // by the length of a secret
+const AES_128 = {
+  digest: 'SHA-256',
+  size: 16
+},
+      AES_256 = {
+        digest: 'SHA-384',
+        size: 32
+      };
+const CHACHA20 = {
+  digest: 'SHA-256',
+  size: 32,
+  isChacha: true
+};
+const AES_128_CCM = {
+  digest: 'SHA-256',
+  size: 16,
+  isCcm: true
+};
+const SUITES = {
+  32: [AES_128, CHACHA20, AES_128_CCM],
+  48: [AES_256]
+}; // by the length of a secret
 const SHORTEST = 4 + SAMPLE; // bytes of a packet from its number on
 const MOST_SECRETS = 1 << 16; // connections of a key log that are kept; the others are left out
 const LONGEST_SECRET = 64; // bytes
-const UPPER_PARTS = {1: 256, 2: 16, 3: 2, 4: 1}; // of a packet number that are tried where none is known, by the bytes written
+const UPPER_PARTS = {
+  1: 256,
+  2: 16,
+  3: 2,
+  4: 1
+}; // of a packet number that are tried where none is known, by the bytes written
 const AHEAD = 1; // generations of keys, after the newest that opened a packet, that are tried
 const INITIAL = 'initial', EARLY = 'early', HANDSHAKE = 'handshake', RETRY = 'retry';
 const VERSIONS = new Map([
-  [1, {number: 1, salt: '38762cf7f55934b34d179ae6a4c80cadccbb7f0a', prefix: 'quic', types: [INITIAL, EARLY, HANDSHAKE, RETRY]}],
-  [0x6b3343cf, {number: 0x6b3343cf, salt: '0dede3def700a6db819381be6e269dcbf9bd2ed9', prefix: 'quicv2',
-    types: [RETRY, INITIAL, EARLY, HANDSHAKE]}],
+  [
+    1, {number: 1, salt: '38762cf7f55934b34d179ae6a4c80cadccbb7f0a', prefix: 'quic', types: [INITIAL, EARLY, HANDSHAKE, RETRY]}
+  ],
+  [
+    0x6b3343cf, {
+      number: 0x6b3343cf,
+      salt: '0dede3def700a6db819381be6e269dcbf9bd2ed9',
+      prefix: 'quicv2',
+      types: [RETRY, INITIAL, EARLY, HANDSHAKE]
+    }
+  ],
 ]);
-const NAMES_OF_SECRETS = {'>': 'CLIENT_TRAFFIC_SECRET_0', '<': 'SERVER_TRAFFIC_SECRET_0', [EARLY]: 'CLIENT_EARLY_TRAFFIC_SECRET'};
+const NAMES_OF_SECRETS = {
+  '>': 'CLIENT_TRAFFIC_SECRET_0',
+  '<': 'SERVER_TRAFFIC_SECRET_0',
+  [EARLY]: 'CLIENT_EARLY_TRAFFIC_SECRET'
+};
 
 async function hmac(secret, digest, data) {
   const key = await crypto.subtle.importKey('raw', secret, {name: 'HMAC', hash: digest}, false, ['sign']);
@@ -55,7 +90,8 @@ class KeyLog {
     this.lines++;
     if (!Object.values(NAMES_OF_SECRETS).includes(name) || digits.length > 2 * LONGEST_SECRET) return;
     const key = random.toLowerCase();
-    if (this.secrets.has(key) || this.secrets.size < MOST_SECRETS) takeOrMake(this.secrets, key, () => ({}))[name] = fromHex(digits);
+    if (this.secrets.has(key) || this.secrets.size < MOST_SECRETS)
+      takeOrMake(this.secrets, key, () => ({}))[name] = fromHex(digits);
   }
 
   // Returns a secret of a connection: that of an end by its mark, or that of early data.
@@ -66,8 +102,9 @@ class KeyLog {
 class Payloads {
   static async of(suite, key, iv) {
     const made = new Payloads();
-    const imported = suite.isChacha ? key : suite.isCcm ? await keysOfCcm(key) :
-      await crypto.subtle.importKey('raw', key, 'AES-GCM', false, ['decrypt']);
+    const imported = suite.isChacha ? key :
+      suite.isCcm                   ? await keysOfCcm(key) :
+                                      await crypto.subtle.importKey('raw', key, 'AES-GCM', false, ['decrypt']);
     return Object.assign(made, {suite, key: imported, iv});
   }
 
@@ -106,7 +143,8 @@ async function openByCcm(keys, nonce, head, sealed) {
   blocks.set([0x7a, ...nonce, size >> 16, size >> 8 & 255, size & 255]);
   blocks.set([head.length >> 8, head.length & 255, ...head], BLOCK);
   blocks.set(clear.subarray(TAG), begin);
-  const chain = new Uint8Array(await crypto.subtle.encrypt({name: 'AES-CBC', iv: new Uint8Array(BLOCK)}, keys.chained, blocks));
+  const chain =
+    new Uint8Array(await crypto.subtle.encrypt({name: 'AES-CBC', iv: new Uint8Array(BLOCK)}, keys.chained, blocks));
   const tag = chain.subarray(blocks.length - BLOCK);
   return clear.subarray(0, TAG).every((byte, at) => byte === tag[at]) ? clear.slice(TAG) : null;
 }
@@ -226,6 +264,7 @@ class Keys {
 // Returns the keys that a secret may give, by the suites of its length.
 async function keysOf(secret, versions) {
   const found = [];
-  for (const version of versions) for (const suite of SUITES[secret.length] ?? []) found.push(await Keys.of(secret, suite, version));
+  for (const version of versions)
+    for (const suite of SUITES[secret.length] ?? []) found.push(await Keys.of(secret, suite, version));
   return found;
 }

@@ -1,8 +1,21 @@
 // The lines of a recording that have bytes. Which lines there may be is checked by what reads them.
 'use strict';
 
-const ENDS = {'>': 'client', '<': 'server', '': ''}, PEER = {'>': '<', '<': '>', '': ''};
-const OTHER = {client: 'server', server: 'client', '': ''};
+const ENDS = {
+  '>': 'client',
+  '<': 'server',
+  '': ''
+},
+      PEER = {
+        '>': '<',
+        '<': '>',
+        '': ''
+      };
+const OTHER = {
+  client: 'server',
+  server: 'client',
+  '': ''
+};
 // What is before the bytes: a time; a mark; the kind; of a section its stream. And the words of hexadecimal.
 const LINE = /^\s*(?:@\S*\s+)?(?:([<>])\s*)?([edb])(?:(?<=b)\s+(\S+))?(?!\S)(.*)/;
 

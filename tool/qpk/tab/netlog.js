@@ -57,7 +57,8 @@ class NetLog {
     if (typeof bytes !== 'string') return null;
     const data = bytesOfBase64(bytes);
     if (!data.length) return null;
-    const own = this.own.get(number) ?? `socket ${number}:0`, peer = this.peer.get(number) ?? plainAddress(String(address ?? 'server:0'));
+    const own = this.own.get(number) ?? `socket ${number}:0`,
+          peer = this.peer.get(number) ?? plainAddress(String(address ?? 'server:0'));
     const [source, target] = name === 'UDP_BYTES_SENT' ? [own, peer] : [peer, own];
     return {source, target, data, isShort: false, packet: 0};
   }

@@ -29,7 +29,7 @@ class PacketReader {
     const {data} = datagram;
     while (begin < data.length) {
       const end = isLong(data, begin) ? await this.readLong(time, datagram, begin) :
-        await this.readShort(time, datagram, begin) || endOfFilling(data, begin);
+                                        await this.readShort(time, datagram, begin) || endOfFilling(data, begin);
       if (!end) return this.noteUnread(time, datagram, begin);
       begin = end;
     }
@@ -166,7 +166,8 @@ class PacketReader {
       const packet = await this.openShort(connection, mark, datagram, begin, length);
       if (!packet) continue;
       this.owners.join(datagram, connection, mark);
-      if (!connection.ids[mark].size) this.owners.name(connection, mark, datagram.data.subarray(begin + 1, begin + 1 + length));
+      if (!connection.ids[mark].size)
+        this.owners.name(connection, mark, datagram.data.subarray(begin + 1, begin + 1 + length));
       connection.take({time: time - this.firstTime, datagram, begin}, mark, packet);
       while (connection.newIds.length) this.owners.name(connection, ...connection.newIds.pop());
       return packet.end;
@@ -179,7 +180,8 @@ class PacketReader {
     const {data} = datagram, at = begin + 1 + length, pair = pairOf(datagram);
     for (const keys of await connection.keys(mark, this.log)) {
       let packet = await keys.open(data, begin, at, this.likelyEnds(pair, data, begin, length));
-      if (!packet && connection.inARow[mark] < ENOUGH) packet = await this.openAfterGap(connection, mark, keys, data, begin, at);
+      if (!packet && connection.inARow[mark] < ENOUGH)
+        packet = await this.openAfterGap(connection, mark, keys, data, begin, at);
       if (!packet) continue;
       connection.choose(mark, keys);
       if (!begin && packet.end < data.length) {
@@ -205,7 +207,8 @@ class PacketReader {
       keys.largest = largest;
     }
     if (largest < 0) return null;
-    for await (const packet of keys.search(data, begin, at)) if (packet || !this.room.mayTry()) return packet;
+    for await (const packet of keys.search(data, begin, at))
+      if (packet || !this.room.mayTry()) return packet;
     return null;
   }
 
@@ -218,7 +221,8 @@ class PacketReader {
     yield data.length;
     if (length < 4) return;
     const target = data.subarray(begin + 1, begin + 1 + length);
-    for (let at = placeOf(data, target, begin + 1 + length); at > 0 && this.room.mayTry(); at = placeOf(data, target, at + 1)) yield at - 1;
+    for (let at = placeOf(data, target, begin + 1 + length); at > 0 && this.room.mayTry(); at = placeOf(data, target, at + 1))
+      yield at - 1;
   }
 
   // Yields where a short packet may end, if nothing tells how long the datagrams are that were captured as one.
@@ -279,7 +283,8 @@ class PacketReader {
 
   // Looks for the keys of what is left, once all packets came. Counts the packets that no key opened.
   async finish() {
-    for (const [pair, [first]] of Array.from(this.strangers.kept)) if (this.strangers.kept.has(pair)) await this.findKeys(first.datagram);
+    for (const [pair, [first]] of Array.from(this.strangers.kept))
+      if (this.strangers.kept.has(pair)) await this.findKeys(first.datagram);
     for (const connection of this.connections) {
       for (const {datagram} of connection.kept) connection.fail(datagram.target === connection.server ? '>' : '<');
     }
@@ -290,8 +295,15 @@ class PacketReader {
     for (const [number, it] of this.connections.entries()) {
       if (!it.isRead) continue;
       const seen = {ends: {'>': it.seenOf('>'), '<': it.seenOf('<')}, isLate: it.isLate};
-      yield {number, name: `connection ${number}, ${it.client} > ${it.server}`, lines: it.lines, packets: it.packets,
-        streams: it.streams.numbers(), missing: [...it.streams.gaps(), ...it.faults], seen};
+      yield {
+        number,
+        name: `connection ${number}, ${it.client} > ${it.server}`,
+        lines: it.lines,
+        packets: it.packets,
+        streams: it.streams.numbers(),
+        missing: [...it.streams.gaps(), ...it.faults],
+        seen
+      };
     }
   }
 }

@@ -6,7 +6,9 @@ const SEPARATOR = '\x1e';
 // Older names of categories and events.
 const CATEGORIES = new Map([['h3', 'http3'], ['http', 'http3'], ['transport', 'quic']]);
 const EVENTS = new Map([
-  ['instruction_sent', 'instruction_created'], ['instruction_received', 'instruction_parsed'], ['data_moved', 'stream_data_moved'],
+  ['instruction_sent', 'instruction_created'],
+  ['instruction_received', 'instruction_parsed'],
+  ['data_moved', 'stream_data_moved'],
 ]);
 const GROUPS = ['group_id', 'odcid', 'ODCID']; // which connection an event is of
 // What this end did, of the events in pairs. In the others the peer did it.
@@ -35,7 +37,8 @@ function isObject(it) { return typeof it === 'object' && it !== null && !Array.i
 function readRecords(text) {
   try {
     return [JSON.parse(text)];
-  } catch { /* then there is one a record */ }
+  } catch { /* then there is one a record */
+  }
   const separator = text.trimStart().startsWith(SEPARATOR) ? SEPARATOR : '\n', records = [];
   const texts = text.split(separator).filter(it => it.trim());
   for (const [at, it] of texts.entries()) {
@@ -126,7 +129,8 @@ function limitsOf(values) {
 // Reads the events of one connection from the side of one end.
 class TraceReader {
   constructor(own) {
-    Object.assign(this, {own, peer: PEER[own], streams: new Streams(), found: [], limited: new Set(), withoutBytes: 0, cut: new Set()});
+    Object.assign(
+      this, {own, peer: PEER[own], streams: new Streams(), found: [], limited: new Set(), withoutBytes: 0, cut: new Set()});
     this.hasLists = false; // of sections that have no bytes
   }
 
@@ -136,8 +140,7 @@ class TraceReader {
     if (name === 'qpack:instruction_created' || name === 'qpack:instruction_parsed') this.readInstruction(event, mark);
     else if (name === 'qpack:headers_encoded' || name === 'qpack:headers_decoded') {
       this.addSection(event, mark, 'section', wholeBytes(data.raw));
-    }
-    else if (name === 'http3:frame_created' || name === 'http3:frame_parsed') this.readFrame(event, mark);
+    } else if (name === 'http3:frame_created' || name === 'http3:frame_parsed') this.readFrame(event, mark);
     else if (name === 'http3:parameters_set') {
       this.addLimits(event, (data.initiator ?? data.owner) === 'remote' ? this.peer : this.own, limitsOf(data));
     } else if (kind === 'stream_data_moved' && (category === 'quic' || category === 'http3')) this.readStream(event);
@@ -153,7 +156,8 @@ class TraceReader {
   addSection(event, mark, source, data) {
     const {stream_id: stream} = event.data, isKnown = stream !== undefined && stream !== null;
     this.add(event, mark, source, `b ${wholeNumberOf(stream ?? 0)}`, isKnown ? data : null);
-    this.hasLists ||= isKnown && !data && ['headers', 'header_fields', 'fields'].some(it => event.data[it] || event.data.frame?.[it]);
+    this.hasLists ||=
+      isKnown && !data && ['headers', 'header_fields', 'fields'].some(it => event.data[it] || event.data.frame?.[it]);
   }
 
   // Adds a line of SETTINGS. An end sends them once.
@@ -167,7 +171,10 @@ class TraceReader {
   readInstruction(event, mark) {
     const it = event.data.instruction ?? {}, raw = wholeBytes(event.data.raw, it.raw);
     const kind = String(it.instruction_type ?? '').toLowerCase();
-    const isOf = names => names.some(name => kind.startsWith(name)), name = isOf(OF_ENCODER) ? 'e' : isOf(OF_DECODER) ? 'd' : null;
+    const isOf = names => names.some(name => kind.startsWith(name)),
+          name = isOf(OF_ENCODER) ? 'e' :
+      isOf(OF_DECODER)            ? 'd' :
+                                    null;
     if (!name) return;
     if (!raw) this.cut.add(mark + name);
     this.add(event, mark, 'instruction', name, this.cut.has(mark + name) ? null : raw);
@@ -177,7 +184,8 @@ class TraceReader {
   readFrame(event, mark) {
     const frame = event.data.frame ?? {}, kind = FRAMES.get(String(frame.frame_type ?? '').toLowerCase());
     if (kind === SETTINGS) {
-      const values = Object.fromEntries((frame.settings ?? []).map(it => [String(it.name ?? it.name_bytes).toLowerCase(), it.value]));
+      const values =
+        Object.fromEntries((frame.settings ?? []).map(it => [String(it.name ?? it.name_bytes).toLowerCase(), it.value]));
       this.addLimits(event, mark, limitsOf(values) ?? [0, 0]);
     } else if (kind !== undefined) {
       const raw = wholeBytes(frame.raw, event.data.raw);
@@ -187,8 +195,10 @@ class TraceReader {
 
   // Reads bytes of a stream, which may have been moved more than once, and then have their offset.
   readStream(event) {
-    const {from, to, raw, data, stream_id: stream, offset: given} = event.data, isUser = it => it === 'application' || it === 'user';
-    const mark = from === 'network' || isUser(to) ? this.peer : this.own, bytes = wholeBytes(raw, data), number = wholeNumberOf(stream ?? 0);
+    const {from, to, raw, data, stream_id: stream, offset: given} = event.data,
+                                                           isUser = it => it === 'application' || it === 'user';
+    const mark = from === 'network' || isUser(to) ? this.peer : this.own, bytes = wholeBytes(raw, data),
+          number = wholeNumberOf(stream ?? 0);
     const offset = given ?? (isUser(from) || isUser(to) ? this.streams.streams.get(mark + number)?.taken ?? 0 : null);
     if (!bytes || stream === undefined || stream === null || offset === null) {
       this.withoutBytes++;
@@ -259,7 +269,8 @@ function readTrace(text) {
   let connections;
   try {
     if (first.log?.entries) throw new Refusal('the file is a HAR, which has no bytes: qpk show prints its header lists');
-    connections = 'event' in first && 'connection' in first ? connectionsOfLog(records) : connectionsOfTraces(readTraces(records));
+    connections =
+      'event' in first && 'connection' in first ? connectionsOfLog(records) : connectionsOfTraces(readTraces(records));
   } catch (error) {
     if (error instanceof Refusal) throw error;
     throw new Refusal(`the trace can't be read, as a value is of another kind (${error.message}): choose another file`);
@@ -291,7 +302,8 @@ function connectionsOfTraces(traces) {
 function connectionsOfLog(records) {
   const found = new Map(), waiting = new Map(); // sections that were logged, and whose instructions may follow
   for (const it of records) {
-    const lines = takeOrMake(found, wholeNumberOf(it.connection), () => []), words = wordsOfEvent(it), number = wholeNumberOf(it.connection);
+    const lines = takeOrMake(found, wholeNumberOf(it.connection), () => []), words = wordsOfEvent(it),
+          number = wholeNumberOf(it.connection);
     if (it.event !== 'sent') {
       lines.push(...waiting.get(number) ?? []);
       waiting.delete(number);
@@ -300,15 +312,18 @@ function connectionsOfLog(records) {
     else if (words) lines.push(words);
   }
   for (const [number, words] of waiting) found.get(number).push(...words);
-  const connections = Array.from(found).filter(([, lines]) => lines.length)
-    .map(([number, lines]) => tracedConnection(number, 'the example server', lines, []));
+  const connections =
+    Array.from(found).filter(([, lines]) => lines.length).map(([
+                                                                number, lines
+                                                              ]) => tracedConnection(number, 'the example server', lines, []));
   if (!connections.length) throw new Refusal('the log has no bytes of QPACK: have a browser open a page of the server');
   return connections;
 }
 
 // Returns the line that an event of the server is, or nothing.
 function wordsOfEvent({event, capacity, blocked, type, id, hex}) {
-  if (event === 'begin' || event === 'settings') return `${event === 'begin' ? '<' : '>'} s ${wholeNumberOf(capacity)} ${wholeNumberOf(blocked)}`;
+  if (event === 'begin' || event === 'settings')
+    return `${event === 'begin' ? '<' : '>'} s ${wholeNumberOf(capacity)} ${wholeNumberOf(blocked)}`;
   const mark = String(event).endsWith('sent') ? '<' : '>', isStream = event === 'sent' || event === 'received';
   if (isStream && type === undefined) throw new TypeError(`an event ${event} has no type`);
   if (isStream && (type === 2 || type === 3)) return `${mark} ${type === 2 ? 'e' : 'd'} ${bytesOfEvent(hex)}`;

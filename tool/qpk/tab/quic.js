@@ -13,9 +13,27 @@ const HAS_OFFSET = 4, HAS_LENGTH = 2; // bits of the type of a STREAM frame
 const NEW_CONNECTION_ID = 0x18, PATH_CHALLENGE = 0x1a, PATH_RESPONSE = 0x1b, CLOSE = 0x1c, CLOSE_BY_APPLICATION = 0x1d;
 const DATAGRAM = 0x30, DATAGRAM_WITH_LENGTH = 0x31;
 // How many integers a frame has that is nothing else, and how many stand before the length of one that is skipped.
-const INTEGERS = {[RESET_STREAM]: 3, [STOP_SENDING]: 2, 0x10: 1, 0x11: 2, 0x12: 1, 0x13: 1, 0x14: 1, 0x15: 2, 0x16: 1, 0x17: 1,
-  0x19: 1, 0x1e: 0, 0xaf: 4};
-const BEFORE_LENGTHS = {[CLOSE]: 2, [CLOSE_BY_APPLICATION]: 1, [NEW_TOKEN]: 0, [DATAGRAM_WITH_LENGTH]: 0};
+const INTEGERS = {
+  [RESET_STREAM]: 3,
+  [STOP_SENDING]: 2,
+  0x10: 1,
+  0x11: 2,
+  0x12: 1,
+  0x13: 1,
+  0x14: 1,
+  0x15: 2,
+  0x16: 1,
+  0x17: 1,
+  0x19: 1,
+  0x1e: 0,
+  0xaf: 4
+};
+const BEFORE_LENGTHS = {
+  [CLOSE]: 2,
+  [CLOSE_BY_APPLICATION]: 1,
+  [NEW_TOKEN]: 0,
+  [DATAGRAM_WITH_LENGTH]: 0
+};
 
 function isLong(data, begin) { return (data[begin] & 0x80) !== 0; }
 

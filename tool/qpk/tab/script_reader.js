@@ -5,9 +5,18 @@
 const MOST_INTEGER = 2 ** 62; // RFC 9204, section 4.1.1
 const MOST_STRING = 1 << 16; // bytes of a name or a value that is read, and of an instruction
 const CAPACITY = 4096, BLOCKED = 100; // where no line s has them
-const WORDS = {e: 1, d: 1, b: 2, c: 1, s: 2}; // how many words follow the kind of a line, at least
-const CODES_OF_ERRORS = {section: [0x200, 'QPACK_DECOMPRESSION_FAILED'], encoder: [0x201, 'QPACK_ENCODER_STREAM_ERROR'],
-  decoder: [0x202, 'QPACK_DECODER_STREAM_ERROR']};
+const WORDS = {
+  e: 1,
+  d: 1,
+  b: 2,
+  c: 1,
+  s: 2
+}; // how many words follow the kind of a line, at least
+const CODES_OF_ERRORS = {
+  section: [0x200, 'QPACK_DECOMPRESSION_FAILED'],
+  encoder: [0x201, 'QPACK_ENCODER_STREAM_ERROR'],
+  decoder: [0x202, 'QPACK_DECODER_STREAM_ERROR']
+};
 
 // Returns a text whose characters are bytes as the program prints it.
 function asSaid(text) {
@@ -23,8 +32,10 @@ function asSaid(text) {
 class ScriptDirection {
   constructor() {
     Object.assign(this, {capacity: 0, size: 0, evicted: 0, entries: [], maximum: CAPACITY, isEnded: {}});
-    Object.assign(this, {blocked: new Map(), waiting: new Map()}); // sections, by the insertion that they wait for, and by streams
-    Object.assign(this, {rest: {encoder: EMPTY, decoder: EMPTY}, begin: {encoder: 0, decoder: 0}, unacknowledged: new Map(), known: 0});
+    Object.assign(
+      this, {blocked: new Map(), waiting: new Map()}); // sections, by the insertion that they wait for, and by streams
+    Object.assign(
+      this, {rest: {encoder: EMPTY, decoder: EMPTY}, begin: {encoder: 0, decoder: 0}, unacknowledged: new Map(), known: 0});
   }
 
   get inserted() { return this.entries.length; }
@@ -252,7 +263,8 @@ class ScriptRun {
         this.said.push({...head, section: stream, blocked_until: required});
         return;
       }
-    } catch { /* decode says why */ }
+    } catch { /* decode says why */
+    }
     this.decode(head, direction, stream, data, false);
   }
 
@@ -288,8 +300,18 @@ class ScriptRun {
     if (!(error instanceof Refusal) && error !== CUT) throw error;
     const {line, time, from} = event, [code, name] = CODES_OF_ERRORS[place], where = offset === undefined ? {} : {offset};
     Object.assign(event, {refused: error.message}, where);
-    this.findings.push({line, ...(time === undefined ? {} : {time}), ...(from === undefined ? {} : {from}), [place]: event[place], ...where,
-      fault: error.message, rfc9204: '2.2.3', code, code_name: name, cause: 'the proved program says more: qpk check'});
+    this.findings.push({
+      line,
+      ...(time === undefined ? {} : {time}),
+      ...(from === undefined ? {} : {from}),
+      [place]: event[place],
+      ...where,
+      fault: error.message,
+      rfc9204: '2.2.3',
+      code,
+      code_name: name,
+      cause: 'the proved program says more: qpk check'
+    });
   }
 
   // Says what waits to the end.
@@ -299,15 +321,28 @@ class ScriptRun {
       for (const {stream, required, isGivenUp} of Array.from(direction.blocked.values()).flat()) {
         if (isGivenUp) continue;
         const fault = `blocked until insertion ${required} to the end`;
-        this.findings.push({line, ...from, section: stream, offset: 0, fault, rfc9204: '2.1.2',
-          cause: 'the recording ends early, or the encoder never sent that insertion'});
+        this.findings.push({
+          line,
+          ...from,
+          section: stream,
+          offset: 0,
+          fault,
+          rfc9204: '2.1.2',
+          cause: 'the recording ends early, or the encoder never sent that insertion'
+        });
       }
       for (const [name, rest] of Object.entries(direction.rest)) {
         if (!rest.length) continue;
         const sender = name === 'encoder' ? from : OTHER[end] ? {from: OTHER[end]} : {};
         this.said.push({line, ...sender, [name]: direction.begin[name], cut: rest.length});
-        this.findings.push({line, ...sender, [name]: direction.begin[name], fault: 'cut at the end of the recording', rfc9204: '4.2',
-          cause: 'the recording ends early, or a length in the instruction is wrong'});
+        this.findings.push({
+          line,
+          ...sender,
+          [name]: direction.begin[name],
+          fault: 'cut at the end of the recording',
+          rfc9204: '4.2',
+          cause: 'the recording ends early, or a length in the instruction is wrong'
+        });
       }
     }
   }

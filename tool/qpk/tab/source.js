@@ -14,7 +14,8 @@ async function openFile(file) {
   if (file.size > MOST_FILE) throw tooLong;
   const bytes = new Uint8Array(await file.arrayBuffer());
   for (const [magic, name] of [[XZ, 'xz'], [ZSTD, 'zstd']]) {
-    if (beginsWith(bytes, magic)) throw new Refusal(`${file.name} is compressed by ${name}: decompress it first, or read it by qpk report`);
+    if (beginsWith(bytes, magic))
+      throw new Refusal(`${file.name} is compressed by ${name}: decompress it first, or read it by qpk report`);
   }
   if (!beginsWith(bytes, GZIP)) return bytes;
   const parts = [], reader = new Blob([bytes]).stream().pipeThrough(new DecompressionStream('gzip')).getReader();
@@ -112,13 +113,15 @@ function whyNothing(reader, log) {
   }
   if (!reader.connections.length) {
     if (!reader.quic) return `no datagram is QUIC of version 1 or 2: ${CAPTURE_AGAIN}`;
-    if (!log.secrets.size) return 'there are no secrets: choose the key log too, which the program writes where SSLKEYLOGFILE says';
+    if (!log.secrets.size)
+      return 'there are no secrets: choose the key log too, which the program writes where SSLKEYLOGFILE says';
     return 'it has no first packet of a connection, and no secret of the key log opens the others: start the capture before the connection';
   }
   if (!log.secrets.size) return `there are no secrets for the client random ${first}: choose the key log too`;
   const known = randoms.find(it => log.secrets.has(it));
   if (known) return `the secrets for the client random ${known} open none of its packets: capture both directions, to the end`;
-  return `the key log has secrets of ${log.secrets.size} other connections, and none for the client random ${first}: choose the log ` +
+  return `the key log has secrets of ${log.secrets.size} other connections, and none for the client random ${
+           first}: choose the log ` +
     'that was written during this capture';
 }
 

@@ -2,14 +2,33 @@
 'use strict';
 
 const PREFIX = 2; // bytes of that of a section without a dynamic table (RFC 9204, section 4.5.1)
-const NAMES_OF_HITS = {static: 'static', dynamic: 'dynamic', 'static-name': 'name static', 'dynamic-name': 'name dynamic',
-  literal: 'literal'};
+const NAMES_OF_HITS = {
+  static: 'static',
+  dynamic: 'dynamic',
+  'static-name': 'name static',
+  'dynamic-name': 'name dynamic',
+  literal: 'literal'
+};
 
 // Counts what QPACK did in a direction, event by event.
 class Counting {
   constructor() {
-    Object.assign(this, {settings: null, notDecoded: 0, sections: 0, fields: 0, listBytes: 0, sectionBytes: 0, notCounted: 0,
-      countedBytes: 0, insertions: 0, duplicates: 0, blockedSections: 0, arrivals: 0, blockedLines: 0, blockedSeconds: 0});
+    Object.assign(this, {
+      settings: null,
+      notDecoded: 0,
+      sections: 0,
+      fields: 0,
+      listBytes: 0,
+      sectionBytes: 0,
+      notCounted: 0,
+      countedBytes: 0,
+      insertions: 0,
+      duplicates: 0,
+      blockedSections: 0,
+      arrivals: 0,
+      blockedLines: 0,
+      blockedSeconds: 0
+    });
     this.hits = Object.fromEntries(Object.keys(NAMES_OF_HITS).map(how => [how, 0]));
     this.referenced = new Set();
     this.withoutTable = new Map(); // how often fields are in the lists that QIF can have
@@ -33,7 +52,8 @@ class Counting {
   takeSection(event) {
     if (event.arrival) this.takeArrival(event, event.arrival);
     this.blockedSections += 'blocked_until' in event.said && !('refused' in event.said);
-    for (const {entry} of event.lines) if (entry !== undefined) this.referenced.add(entry);
+    for (const {entry} of event.lines)
+      if (entry !== undefined) this.referenced.add(entry);
     if (!event.isList) {
       this.notDecoded++;
       return;
@@ -96,11 +116,11 @@ class Counting {
       const without = await this.sizeWithoutTable(encode), saved = without - this.countedBytes - encoderBytes;
       found.push(['without a dynamic table', `${without} bytes; saved ${saved}${lost}`]);
     }
-    return [...found,
-      ['insertions', `${this.insertions}; duplicates ${this.duplicates}, never referenced ${neverReferenced}`],
-      ['evictions', String(evictions)],
-      ['blocked sections', `${this.blockedSections}${waited}`],
-      ['the decoder stream took', `${decoderBytes} bytes`]];
+    return [
+      ...found, ['insertions', `${this.insertions}; duplicates ${this.duplicates}, never referenced ${neverReferenced}`],
+      ['evictions', String(evictions)], ['blocked sections', `${this.blockedSections}${waited}`],
+      ['the decoder stream took', `${decoderBytes} bytes`]
+    ];
   }
 }
 
@@ -124,8 +144,8 @@ class Count {
       const counting = this.directions[end] ??= new Counting(), {settings} = counting;
       const [encoderBytes, decoderBytes] = ['encoder', 'decoder'].map(name => reading.stream(end, name).size);
       const evictions = reading.windows[end]?.evicted ?? 0;
-      const limits = settings ?
-        `the decoder allows ${settings.max_capacity} bytes and ${settings.max_blocked} blocked streams` : '';
+      const limits =
+        settings ? `the decoder allows ${settings.max_capacity} bytes and ${settings.max_blocked} blocked streams` : '';
       found.push({end, settings: limits, rows: await counting.rows(encoderBytes, decoderBytes, evictions, encode)});
     }
     return found;

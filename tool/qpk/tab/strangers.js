@@ -22,7 +22,9 @@ class Room {
   }
 
   // Notes that packets are kept no more.
-  release(kept) { for (const it of kept) this.keptBytes -= it.datagram.data.length; }
+  release(kept) {
+    for (const it of kept) this.keptBytes -= it.datagram.data.length;
+  }
 
   // Counts tries, and returns whether there are any left.
   mayTry(tries = 1) { return (this.tries += tries) <= MOST_TRIES; }

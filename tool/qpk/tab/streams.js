@@ -26,7 +26,7 @@ class Frames {
 
   // Takes bytes, and yields each frame that is whole by then and may have anything of QPACK: type and payload.
   * take(data) {
-    for (let at = 0; ;) {
+    for (let at = 0;;) {
       if (this.kind === null) at = this.takeHead(data, at);
       if (this.kind === null) return;
       const end = Math.min(at + this.left, data.length);
@@ -79,7 +79,8 @@ class Stream {
       got.push(part);
       this.taken += part.length;
     }
-    if (this.waiting > MOST_WAITING) Object.assign(this, {isGivenUp: true, pieces: new Map(), offsets: new Heap(), waiting: 0});
+    if (this.waiting > MOST_WAITING)
+      Object.assign(this, {isGivenUp: true, pieces: new Map(), offsets: new Heap(), waiting: 0});
     return joined(got);
   }
 
@@ -164,7 +165,7 @@ class Heap {
     const {all} = this, [least] = all, last = all.pop();
     if (!all.length) return least;
     all[0] = last;
-    for (let at = 0; ;) {
+    for (let at = 0;;) {
       const [left, right] = [2 * at + 1, 2 * at + 2];
       const lesser = right < all.length && all[right] < all[left] ? right : left;
       if (lesser >= all.length || all[lesser] >= all[at]) return least;
@@ -212,7 +213,8 @@ class Streams {
 
   // Yields which bytes are missing, or are left out.
   * gaps() {
-    const of = mark => Array.from(this.streams).filter(([key]) => key[0] === mark).sort(([, one], [, other]) => one.number - other.number);
+    const of = mark =>
+      Array.from(this.streams).filter(([key]) => key[0] === mark).sort(([, one], [, other]) => one.number - other.number);
     for (const [key, stream] of [...of('<'), ...of('>')]) {
       for (const it of stream.leftOut()) {
         yield `${key[0]} stream ${stream.number}: ${it}${this.ended.has(key) ? ', and its sender gave it up' : ''}`;

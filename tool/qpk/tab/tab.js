@@ -20,8 +20,10 @@ class Tab {
     const label = element('label', '', 'Choose a capture, a net log, a trace or a recording, and its key log ');
     label.htmlFor = 'files';
     this.heading = element('h1', '', 'What QPACK did: drop a file here');
-    this.about = element('p', '', 'A file stays in this browser: the page can send nothing. It reads pcap, pcapng, Chrome’s net log, ' +
-      'qlog with bytes, and the recordings of qpk. A key log is what SSLKEYLOGFILE names.');
+    this.about = element(
+      'p', '',
+      'A file stays in this browser: the page can send nothing. It reads pcap, pcapng, Chrome’s net log, ' +
+        'qlog with bytes, and the recordings of qpk. A key log is what SSLKEYLOGFILE names.');
     const row = element('p', '', label, this.chooser, this.stop), typing = new Typing(this).element;
     this.element = element('section', 'drop', this.heading, this.about, row, this.by, this.status, typing);
     this.element.setAttribute('aria-label', 'Files');
@@ -102,7 +104,9 @@ class Tab {
 const tab = new Tab();
 page.before(tab.element);
 if (document.getElementById('data').textContent) tab.shrink();
-tab.begin().then(() => { document.body.dataset.tab = 'yes'; });
+tab.begin().then(() => {
+  document.body.dataset.tab = 'yes';
+});
 addEventListener('dragover', event => {
   event.preventDefault();
   tab.element.classList.add('over');

@@ -42,12 +42,15 @@ class TypedByProgram {
 }
 
 class TypedByScript {
-  encode(fields) { return toHex(joined([Uint8Array.of(0, 0), ...fields.map(it => this.line(...it.map(part => encoder.encode(part))))])); }
+  encode(fields) {
+    return toHex(joined([Uint8Array.of(0, 0), ...fields.map(it => this.line(...it.map(part => encoder.encode(part))))]));
+  }
 
   // Returns the line of a field (RFC 9204, section 4.5).
   line(name, value) {
     const [named, valued] = [name, value].map(it => String.fromCharCode(...it));
-    const whole = STATIC_TABLE.findIndex(it => it[0] === named && it[1] === valued), index = STATIC_TABLE.findIndex(it => it[0] === named);
+    const whole = STATIC_TABLE.findIndex(it => it[0] === named && it[1] === valued),
+          index = STATIC_TABLE.findIndex(it => it[0] === named);
     if (whole >= 0) return this.integer(0xc0, 6, whole);
     const front = index >= 0 ? [this.integer(0x50, 4, index)] : [this.integer(0x20, 3, name.length), name];
     return joined([...front, this.integer(0, 7, value.length), value]);
@@ -71,7 +74,9 @@ class TypedByScript {
   }
 
   decode(hex) {
-    const fields = [], end = this.read(hex, (_, __, line, field) => { if (field) fields.push(field); });
+    const fields = [], end = this.read(hex, (_, __, line, field) => {
+      if (field) fields.push(field);
+    });
     if (end) throw new Refusal(end);
     return fields.join('\n');
   }

@@ -18,11 +18,16 @@ class Typing {
       const label = Object.assign(element('label', '', it.title), {htmlFor: it.id});
       return element('div', '', label, it);
     });
-    this.element = element('details', 'typing', element('summary', '', 'Type fields or bytes'),
-      element('p', '', 'QPACK writes a field as an index of a table, or as a text. Type fields to see their bytes, or bytes to see ' +
-        'their fields.'),
+    this.element = element(
+      'details', 'typing', element('summary', '', 'Type fields or bytes'),
+      element(
+        'p', '',
+        'QPACK writes a field as an index of a table, or as a text. Type fields to see their bytes, or bytes to see ' +
+          'their fields.'),
       element('div', 'columns', ...areas), this.fault, this.bits);
-    this.element.addEventListener('toggle', () => { if (this.element.open && !this.fields.value && !this.bytes.value) this.begin(); });
+    this.element.addEventListener('toggle', () => {
+      if (this.element.open && !this.fields.value && !this.bytes.value) this.begin();
+    });
   }
 
   area(id, title) {

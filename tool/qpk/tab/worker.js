@@ -3,7 +3,8 @@
 'use strict';
 
 const MOST_ON_A_PAGE = 64; // connections of a file
-const BY_SCRIPT = 'JavaScript read this, and not the proved program. It does not look for what an end may do and should not: qpk ' +
+const BY_SCRIPT =
+  'JavaScript read this, and not the proved program. It does not look for what an end may do and should not: qpk ' +
   'check finds that.';
 
 let program = null; // once it was compiled
@@ -12,9 +13,7 @@ let program = null; // once it was compiled
 function loadOnce(module) { return program ??= loadQpk(module); }
 
 // Returns the reader of recordings: the proved program, or without it JavaScript.
-async function chooseReader(module) {
-  return module ? new ProvedReader(await loadOnce(module)) : new ScriptReader();
-}
+async function chooseReader(module) { return module ? new ProvedReader(await loadOnce(module)) : new ScriptReader(); }
 
 // Returns the newest file that is no key log, as its name and its bytes. Key logs are learned.
 async function chooseSource(files, log) {
@@ -38,7 +37,8 @@ async function readFiles(files, module) {
   if (others) said.push(`connections after the first ${MOST_ON_A_PAGE} are left out: ${others}`);
   for (const it of shown) await maker.add(it);
   const data = maker.finish();
-  if (!module) for (const it of data.connections) it.left_out.push(BY_SCRIPT);
+  if (!module)
+    for (const it of data.connections) it.left_out.push(BY_SCRIPT);
   return {data, said};
 }
 
