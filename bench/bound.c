@@ -9,6 +9,7 @@
 #include "../c/tests/common.h"
 #include "play.h"
 #include "encoder.h"
+#include "model_ends.h"
 #include "rule.h"
 
 /* ---- What comes in later lists */
@@ -236,37 +237,9 @@ static choice choose_foreseen(void *state, const encoder *e, const field *f) {
 /* ---- Both, and their decoders */
 
 typedef struct {
-  encoder *model;
-  chooser by;
-  h3_qpack_decoder decoder;
-} model_ends;
-
-typedef struct {
   h3_qpack_encoder encoder;
   h3_qpack_decoder decoder;
 } our_ends;
-
-/* Has a decoder read what a model wrote of a list, and compares the fields. */
-static void decode_model(h3_qpack_decoder *d, uint64_t stream_id, const encoder *e, const list *l) {
-  static uint8_t text[1 << 16];
-  static h3_qpack_field fields[1 << 10];
-  h3_qpack_received r = h3_qpack_decoder_read_encoder(d, e->stream.at, e->stream.len);
-  CHECK(r.status == H3_QPACK_OK && r.taken == e->stream.len);
-  CHECK(h3_qpack_decoder_decode(d, stream_id, e->section.at, e->section.len).status == H3_QPACK_OK);
-  h3_qpack_written w = h3_qpack_decoder_fields(d, fields, sizeof fields / sizeof *fields, text, sizeof text);
-  CHECK(w.status == H3_QPACK_OK);
-  check_written(fields, text, w.len, l->nv, l->len);
-}
-
-static size_t exchange_model(void *ends, uint64_t stream_id, const list *l, answer *answer) {
-  model_ends *m = ends;
-  encode_next(m->model, &m->by);
-  decode_model(&m->decoder, stream_id, m->model, l);
-  answer->len = h3_qpack_decoder_write_decoder(&m->decoder, answer->bytes, sizeof answer->bytes);
-  return m->model->section.len + m->model->stream.len;
-}
-
-static void hear_by_model(void *ends, const answer *answer) { hear_model(((model_ends *)ends)->model, answer); }
 
 static size_t exchange_ours(void *ends, uint64_t stream_id, const list *l, answer *answer) {
   our_ends *o = ends;
@@ -277,12 +250,9 @@ static void hear_by_ours(void *ends, const answer *answer) { hear(&((our_ends *)
 
 /* Returns the bytes of a model. */
 static size_t play_model(direction d, const corpus *c, setting s, chooser by, int names_evicted) {
-  static const player by_model = {exchange_model, hear_by_model};
-  model_ends m = {.model = open_model(c, s, names_evicted), .by = by};
-  CHECK(!new_decoder(&m.decoder, s.capacity, s.blocked, 1 << 20));
+  model_ends m = open_model_ends(c, s, by, names_evicted);
   size_t bytes = play_lists(&by_model, &m, d, s.late);
-  h3_qpack_decoder_del(&m.decoder);
-  close_model(m.model);
+  close_model_ends(&m);
   return bytes;
 }
 

@@ -9,6 +9,7 @@
 #include "libraries.h"
 #include "play.h"
 #include "encoder.h"
+#include "model_ends.h"
 #include "rule.h"
 
 /* ---- Bytes of the first lists */
@@ -33,68 +34,67 @@ static size_t add_bytes(tally *t, size_t bytes) {
   return bytes;
 }
 
+/* Ends, what plays lists to them, and the bytes of those. */
+typedef struct {
+  const player *by;
+  void *ends;
+  tally tally;
+} counted;
+
+static size_t exchange_counted(void *e, uint64_t stream_id, const list *l, answer *answer) {
+  counted *c = e;
+  return add_bytes(&c->tally, c->by->exchange(c->ends, stream_id, l, answer));
+}
+
+static void hear_counted(void *e, const answer *answer) {
+  counted *c = e;
+  c->by->hear(c->ends, answer);
+}
+
+static tally play_counted(const player *by, void *ends, direction d, setting s) {
+  static const player by_counted = {exchange_counted, hear_counted};
+  counted c = {.by = by, .ends = ends};
+  play_lists(&by_counted, &c, d, s.late);
+  return c.tally;
+}
+
 /* ---- Libraries */
 
 typedef struct {
   const library *library;
   connection both;
-  tally tally;
-} ends;
+} library_ends;
 
 static size_t exchange_by(void *e, uint64_t stream_id, const list *l, answer *answer) {
   static wire wire;
-  ends *these = e;
+  library_ends *these = e;
   exchange(these->library, &these->both, stream_id, l, &wire, answer);
-  return add_bytes(&these->tally, wire.section_len + wire.stream_len);
+  return wire.section_len + wire.stream_len;
 }
 
 static void hear_by(void *e, const answer *answer) {
-  ends *these = e;
+  library_ends *these = e;
   these->library->hear(&these->both, answer);
 }
 
 static tally play_library(const library *library, direction d, setting s) {
   static const player by_library = {exchange_by, hear_by};
-  ends e = {.library = library};
+  library_ends e = {.library = library};
   library->open(&e.both, s.capacity, s.blocked);
-  play_lists(&by_library, &e, d, s.late);
+  tally t = play_counted(&by_library, &e, d, s);
   close_both(library, &e.both);
-  return e.tally;
+  return t;
 }
 
 /* ---- Models */
 
-typedef struct {
-  encoder *model;
-  chooser by;
-  connection decodes;
-  tally tally;
-} model_ends;
-
-static size_t exchange_model(void *e, uint64_t stream_id, const list *l, answer *answer) {
-  static wire wire;
-  model_ends *m = e;
-  encode_next(m->model, &m->by);
-  memcpy(wire.section, m->model->section.at, wire.section_len = m->model->section.len);
-  memcpy(wire.stream, m->model->stream.at, wire.stream_len = m->model->stream.len);
-  receive_ours(&m->decodes, &wire);
-  decode_ours(&m->decodes, stream_id, l, &wire);
-  report_ours(&m->decodes, answer);
-  return add_bytes(&m->tally, wire.section_len + wire.stream_len);
-}
-
-static void hear_by_model(void *e, const answer *answer) { hear_model(((model_ends *)e)->model, answer); }
-
 static tally play_rule(direction d, const corpus *c, setting s) {
-  static const player by_model = {exchange_model, hear_by_model};
   static rule r;
-  model_ends m = {.model = open_model(c, s, NAMES_EVICTED), .by = {&r, begin_list, choose_by_rule}};
+  model_ends m = open_model_ends(c, s, (chooser){&r, begin_list, choose_by_rule}, NAMES_EVICTED);
   begin_rule(&r, s.capacity);
-  open_ours(&m.decodes, s.capacity, s.blocked);
-  play_lists(&by_model, &m, d, s.late);
-  close_both(&this_library, &m.decodes);
-  close_model(m.model);
-  return m.tally;
+  tally t = play_counted(&by_model, &m, d, s);
+  close_model_ends(&m);
+  return t;
 }
 
 static void begin_without_table(void *state, const encoder *e) {

@@ -6,6 +6,7 @@
 #include "../c/tests/common.h"
 #include "play.h"
 #include "encoder.h"
+#include "model_ends.h"
 #include "rule.h"
 
 /* ---- Both, and a decoder that answers them */
@@ -32,10 +33,8 @@ static choice choose_noted(void *state, const encoder *e, const field *f) {
 typedef struct {
   const char *name;
   setting setting;
-  encoder *model;
-  chooser by;
   h3_qpack_encoder encoder;
-  h3_qpack_decoder decoder;
+  model_ends foretells;
 } ends;
 
 static void print_bytes(const char *whose, const uint8_t *at, size_t len) {
@@ -68,46 +67,43 @@ static void print_choices(const encoder *e, const noted *n) {
 static void compare(const ends *n, const char *what, const uint8_t *ours, size_t len, const output *foretold) {
   if (len == foretold->len && !memcmp(ours, foretold->at, len)) return;
   printf("%s, capacity %zu, %zu blocked, %zu late: the %s of list %zu differs\n", n->name, n->setting.capacity,
-         n->setting.blocked, n->setting.late, what, n->model->nsections - 1);
+         n->setting.blocked, n->setting.late, what, n->foretells.model->nsections - 1);
   print_bytes("library", ours, len);
   print_bytes("foretold", foretold->at, foretold->len);
-  print_choices(n->model, n->by.state);
+  print_choices(n->foretells.model, n->foretells.by.state);
   exit(1);
 }
 
 static size_t exchange_both(void *e, uint64_t stream_id, const list *l, answer *answer) {
   static uint8_t section[1 << 16], stream[1 << 16];
   ends *n = e;
+  encoder *model = n->foretells.model;
   h3_qpack_encoded a = h3_qpack_encoder_encode(&n->encoder, stream_id, l->nv, l->len, section, sizeof section);
   CHECK(a.status == H3_QPACK_OK);
   size_t len = h3_qpack_encoder_write_encoder(&n->encoder, stream, sizeof stream);
-  encode_next(n->model, &n->by);
-  compare(n, "encoder stream", stream, len, &n->model->stream);
-  compare(n, "section", section, a.len, &n->model->section);
-  CHECK(h3_qpack_decoder_read_encoder(&n->decoder, stream, len).status == H3_QPACK_OK);
-  CHECK(h3_qpack_decoder_decode(&n->decoder, stream_id, section, a.len).status == H3_QPACK_OK);
-  answer->len = h3_qpack_decoder_write_decoder(&n->decoder, answer->bytes, sizeof answer->bytes);
+  encode_next(model, &n->foretells.by);
+  compare(n, "encoder stream", stream, len, &model->stream);
+  compare(n, "section", section, a.len, &model->section);
+  decode_model(&n->foretells, stream_id, l, answer);
   return a.len + len;
 }
 
 static void hear_both(void *e, const answer *answer) {
   ends *n = e;
   hear(&n->encoder, answer->bytes, answer->len);
-  hear_model(n->model, answer);
+  hear_by_model(&n->foretells, answer);
 }
 
 static void foretell(const char *name, direction d, const corpus *c, setting s) {
   static const player by_both = {exchange_both, hear_both};
   static noted noted;
-  ends n = {.name = name, .setting = s, .by = {&noted, begin_noted, choose_noted}};
-  n.model = open_model(c, s, NAMES_EVICTED);
+  ends n = {.name = name, .setting = s};
+  n.foretells = open_model_ends(c, s, (chooser){&noted, begin_noted, choose_noted}, NAMES_EVICTED);
   begin_rule(&noted.rule, s.capacity);
   CHECK(!new_encoder(&n.encoder, s.capacity, s.blocked));
-  CHECK(!new_decoder(&n.decoder, s.capacity, s.blocked, 1 << 20));
   play_lists(&by_both, &n, d, s.late);
   h3_qpack_encoder_del(&n.encoder);
-  h3_qpack_decoder_del(&n.decoder);
-  close_model(n.model);
+  close_model_ends(&n.foretells);
 }
 
 /* Settings where the limit of blocked streams is reached, and left again. */

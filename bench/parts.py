@@ -32,7 +32,7 @@ PARTS = {
     "fields are inserted for their names": {"MOST_FOR_NAMES": "0"},
     "insertions name what they evict": {"NAMES_EVICTED": "0"},
     "small tables keep what was referenced lately": {"LARGE": "1"},
-    "insertions are paid at the limit": {"FIRST_BYTES": NEVER, "MOST_BYTES": NEVER},
+    "insertions are paid at the limit": {"FIFTHS_OWED": NEVER},
 }
 
 

@@ -56,9 +56,11 @@
 #define MOST_FOR_NAMES 2
 #define GAIN 1
 
-/* How many bytes may be inserted without a reference at first, and at most. */
-#define FIRST_BYTES 1024
-#define MOST_BYTES 16384
+/* The most bytes that may be earned and not spent; among how many lists the bytes of all literals are shared, once there are
+ * that many; and how many fifths of a share may be owed. */
+#define MOST_EARNED 16384
+#define SHARES 12
+#define FIFTHS_OWED 4
 
 /* When an entry was referenced last; if never, why it was inserted. */
 typedef enum { NONE, NONE_FOR_NAME, NONE_SINCE, RECENT, EARLIER } last_use;
@@ -82,8 +84,11 @@ typedef struct {
   uint16_t tags[MOST_SETS][WAYS];
   size_t sets;
   uint8_t scores[SCORES], marks[MARKS], list, turns;
-  /* How many fields may be inserted for their names, and how many bytes without a reference. */
-  size_t names_left, bytes_left;
+  /* How many fields may be inserted for their names. */
+  size_t names_left;
+  /* Of insertions at the limit: how many bytes references gave, how many are owed, how many the literals had, and how many
+   * lists began. */
+  size_t earned, owed, literals, lists;
 } rule;
 
 static inline size_t least_of(size_t a, size_t b) { return a < b ? a : b; }
@@ -96,7 +101,7 @@ static inline size_t count_sets(size_t capacity) {
 }
 
 static inline void begin_rule(rule *r, size_t capacity) {
-  *r = (rule){.lists_since = SIZE_MAX / 2, .names_left = MOST_FOR_NAMES, .bytes_left = FIRST_BYTES};
+  *r = (rule){.lists_since = SIZE_MAX / 2, .names_left = MOST_FOR_NAMES};
   memset(r->scores, MIDDLE, sizeof r->scores);
   r->sets = count_sets(capacity);
 }
@@ -117,6 +122,7 @@ static inline void begin_list(void *state, const encoder *e) {
   rule *r = state;
   r->lists_since++;
   r->list = (uint8_t)((r->list + 1) % LISTS);
+  if (!e->may_block) r->lists = least_of(r->lists + 1, SHARES);
   if (r->draining < e->dropped) r->draining = e->dropped;
   size_t rest = size_of_rest(r, e);
   while (rest > e->capacity - e->capacity / PART_THAT_DRAINS) rest -= e->entries[++r->draining].f->size;
@@ -215,14 +221,41 @@ static inline void raise_score(uint8_t *score) { *score = *score > 255 - SCORE_G
 
 static inline void lower_score(uint8_t *score) { *score = (uint8_t)(*score - (*score + SCORE_LOSS - 1) / SCORE_LOSS); }
 
-static inline size_t length(const field *f) { return f->size - ENTRY_OVERHEAD; }
+/* ---- The allowance */
+
+/* Returns how many bytes the value has, with the name unless a static field has that. */
+static inline size_t length(const field *f) { return f->nv->valuelen + (f->static_name < 0 ? f->nv->namelen : 0); }
+
+/* Notes a literal that may be inserted, at the limit. */
+static inline void note_literal(rule *r, const encoder *e, const field *f) {
+  if (!e->may_block) r->literals += length(f);
+}
+
+/* Notes that an equal field references an entry, at the limit. */
+static inline void earn(rule *r, const field *f) {
+  size_t back = least_of(length(f), r->owed);
+  r->owed -= back;
+  r->earned = least_of(r->earned + length(f) - back, MOST_EARNED);
+}
+
+/* Returns whether a field may be inserted that is not referenced, and takes its bytes. At most four fifths of what an average
+ * list has in literals may be owed. */
+static inline int pay(rule *r, const field *f) {
+  if (length(f) <= r->earned) {
+    r->earned -= length(f);
+    return 1;
+  }
+  if (r->owed + length(f) > r->literals * FIFTHS_OWED / (r->lists * 5)) return 0;
+  r->owed += length(f);
+  return 1;
+}
 
 static inline void gain_name(rule *r) { r->names_left = least_of(r->names_left + GAIN, MOST_FOR_NAMES); }
 
 /* Notes that an equal field references an entry, and returns when one did before. */
 static inline last_use note_equal(rule *r, const encoder *e, const field *f, size_t entry) {
   last_use last = used_last(r, entry);
-  if (!e->may_block) r->bytes_left = least_of(r->bytes_left + length(f), MOST_BYTES);
+  if (!e->may_block) earn(r, f);
   mark_used(r, entry);
   if (last == NONE_FOR_NAME) gain_name(r);
   if (last == NONE || last == NONE_FOR_NAME || (last == NONE_SINCE && !e->may_block))
@@ -329,11 +362,7 @@ static inline reason wants(rule *r, const encoder *e, const field *f) {
 }
 
 /* Whether a field is inserted that its line does not reference, which it pays for. */
-static inline int affords(rule *r, const encoder *e, const field *f) {
-  if (!can_insert(r, e, f, 0) || length(f) > r->bytes_left) return 0;
-  r->bytes_left -= length(f);
-  return 1;
-}
+static inline int affords(rule *r, const encoder *e, const field *f) { return can_insert(r, e, f, 0) && pay(r, f); }
 
 /* Notes that the next entry is inserted for a reason. */
 static inline void note_insertion(rule *r, const encoder *e, reason why) {
@@ -359,6 +388,7 @@ static inline choice choose_literal(rule *r, const encoder *e, const field *f, i
 }
 
 static inline choice choose_new(rule *r, const encoder *e, const field *f) {
+  note_literal(r, e, f);
   reason why = wants(r, e, f);
   if (why == NOT) return choose_literal(r, e, f, 0);
   if (!e->may_block) {
@@ -379,7 +409,9 @@ static inline choice choose_by_rule(void *state, const encoder *e, const field *
   if (is_never_indexed(f)) return choose_literal(r, e, f, 0);
   if (!newest_equal(e, f)) return choose_new(r, e, f);
   size_t entry = entry_to_reference(r, e, f);
-  return entry ? choose_equal(r, e, f, entry) : choose_literal(r, e, f, 0);
+  if (entry) return choose_equal(r, e, f, entry);
+  note_literal(r, e, f);
+  return choose_literal(r, e, f, 0);
 }
 
 #endif

@@ -140,8 +140,7 @@ static void hold_piece(size_t len) {
   open_decoder(&d, CAPACITY, BLOCKED, LIMIT);
   for (size_t i = 0; i < len; i += 2) put(&b, "\xc1\0", 2);
   CHECK(h3_qpack_decoder_read_encoder(&d, b.at, b.len).status == H3_QPACK_OK);
-  while (h3_qpack_decoder_write_decoder(&d, stream, sizeof stream)) {
-  }
+  while (h3_qpack_decoder_write_decoder(&d, stream, sizeof stream)) continue;
   check_bound("bytes of insertions in one piece", len, PIECE_BOUND);
   CHECK(live + 8 * blocks <= LEFT_BOUND);
   h3_qpack_decoder_del(&d);

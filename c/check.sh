@@ -29,7 +29,7 @@ list_ngtcp2() {
 
 # Leaves out what needs nghttp3 or ngtcp2, where they can't be had.
 choose_tests() {
-    tests="calls interop inserts http3 quic memory"
+    tests="calls views interop inserts http3 quic memory"
     peer=-lnghttp3
     left_out=
     if [ -n "$(list_tools)" ]; then
@@ -37,12 +37,12 @@ choose_tests() {
         exit 1
     fi
     if [ -n "$(list_ngtcp2)" ]; then
-        tests="calls interop inserts http3 memory"
+        tests="calls views interop inserts http3 memory"
         left_out=", without the connection over QUIC: ngtcp2 could not be had"
         echo "not shown: a connection of the library in C over QUIC, without ngtcp2"
     fi
     if [ -n "$(list_nghttp3)" ]; then
-        tests="calls inserts memory"
+        tests="calls views inserts memory"
         peer=
         left_out=", without the tests beside nghttp3: it could not be had"
         echo "not shown: the tests in C beside nghttp3, without nghttp3"
@@ -132,7 +132,7 @@ compile calls.exported tests/calls.c -DH3_QPACK_NO_INLINE
 run "$room/calls.exported" "$corpus"
 with="with the address and undefined sanitizers"
 if command -v valgrind >/dev/null; then
-    for test in calls memory; do
+    for test in calls views memory; do
         run valgrind -q --error-exitcode=9 --leak-check=full --show-leak-kinds=all "$room/$test" "$corpus"
     done
     with="$with and valgrind"

@@ -398,8 +398,7 @@ static void send_bytes(void) {
   CHECK(h3_qpack_encoder_encode(&e, 0, &nv, 1, section, sizeof section).required == 1);
   size_t len = h3_qpack_encoder_get_encoder_streamlen(&e);
   begin_case();
-  for (sent = 0; h3_qpack_encoder_write_encoder(&e, &byte, 1); sent++) {
-  }
+  for (sent = 0; h3_qpack_encoder_write_encoder(&e, &byte, 1); sent++) continue;
   end_case("write_encoder", "byte by byte", sent, sent);
   CHECK(sent == len && sent > size && !most_taken());
   h3_qpack_encoder_del(&e);
@@ -429,11 +428,7 @@ static void block_all(void) {
   for (size_t i = 0; i < 100; i++) CHECK(h3_qpack_decoder_cancel_stream(&d, most + i) == H3_QPACK_OK);
   end_case("cancel_stream", "beside n blocked streams", 100, 0);
   CHECK(h3_qpack_decoder_get_num_blocked(&d) == most && !h3_qpack_decoder_next_ready(&d, &id));
-  CHECK(h3_qpack_decoder_read_encoder(&d,
-                                      (const uint8_t *)"\x41"
-                                                       "a\1b",
-                                      4)
-            .status == H3_QPACK_OK);
+  CHECK(h3_qpack_decoder_read_encoder(&d, (const uint8_t *)"\x41\x61\1b", 4).status == H3_QPACK_OK);
   begin_case();
   for (size_t i = 0; i < most; i++) {
     CHECK(h3_qpack_decoder_next_ready(&d, &id));

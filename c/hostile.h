@@ -112,7 +112,8 @@ typedef struct {
 } field;
 
 static inline void write_digits(uint8_t *at, uint64_t number) {
-  for (int i = 0; i < 16; i++, number /= 16) at[i] = (uint8_t) "0123456789abcdef"[number % 16];
+  static const char digits[] = "0123456789abcdef";
+  for (int i = 0; i < 16; i++, number /= 16) at[i] = (uint8_t)digits[number % 16];
 }
 
 /* The factor of the table's hash under the seed 0, which is no secret. */

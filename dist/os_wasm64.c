@@ -66,8 +66,7 @@ static ssize_t fail(int error) {
 ssize_t rattle_arg(size_t index, unsigned char *out, size_t outlen) {
   size_t at = 0;
   for (; index && at < words.len; index--)
-    while (at < words.len && words.at[at++]) {
-    }
+    while (at < words.len && words.at[at++]) continue;
   if (at == words.len) return -1;
   for (size_t n = 0;; n++) {
     if (at + n == words.len || !words.at[at + n]) return (ssize_t)n;

@@ -28,7 +28,7 @@ FOR_GO = {
 LIBRARY = ["h3_qpack.h", "h3_qpack.c", "heap.c"]
 # Where copies stand, where they are copied from, and what is copied: patterns, or names with those of their copies.
 COPIES = [
-    ("bindings/rust/h3_qpack", ".", ["LICENSE"]),
+    ("bindings/rust/h3_qpack", ".", ["LICENSE", "rustfmt.toml"]),
     ("bindings/go", ".", ["LICENSE"]),
     ("bindings/go", "dist", LIBRARY),
     ("bindings/go", "dist", FOR_GO),

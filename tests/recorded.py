@@ -157,6 +157,36 @@ def required_by(section, inserted, max_capacity):
 
 
 @dataclass
+class DecoderStream:
+    """What a decoding end writes. It reports insertions by increments where the stream is taken. Before an acknowledgment
+    it reports those that were received, unless the section requires all of them (RFC 9204, sections 2.1.4 and 4.4)."""
+
+    reported: int = 0
+    unsent: bytes = b""
+
+    def report(self, inserted):
+        """Writes increments of at most 64 for what is not reported."""
+        while self.reported < inserted:
+            by = min(inserted - self.reported, 64)
+            self.unsent += integer_bytes(by, 6, 0)
+            self.reported += by
+
+    def acknowledge(self, stream, required, inserted):
+        """Writes the acknowledgment of a section, if it requires insertions."""
+        if 0 < required < inserted:
+            self.report(inserted)
+        if required:
+            self.unsent += integer_bytes(stream, 7, 0x80)
+            self.reported = inserted
+
+    def take(self, inserted):
+        """Returns all that is to be sent."""
+        self.report(inserted)
+        taken, self.unsent = self.unsent, b""
+        return taken
+
+
+@dataclass
 class Judge:
     """A recording as a decoding end reads it. What it answers is the verdict of the definitions: by the law
     `what_is_read_is_lawful` of `qpack_connection` the encoder kept to RFC 9204, if it evicted only insertions that were
@@ -173,12 +203,13 @@ class Judge:
     known: int = 0
     decoded: int = 0
     waiting: list = field(default_factory=list)
+    written: DecoderStream = field(default_factory=DecoderStream)
 
     def read_all(self, lines):
         """Asks for all lines."""
         self.question.begin(f"decoder {self.max_capacity} 100 65536")
         for line in lines:
-            {"e": self.receive, "b": self.read_section, "d": self.report_as}[line.kind](line)
+            {"e": self.receive, "b": self.read_section, "d": lambda line: self.report()}[line.kind](line)
         assert self.decoded == len(self.lists) and not self.waiting, "a list is not decoded"
 
     def receive(self, line):
@@ -204,7 +235,7 @@ class Judge:
             return
         self.decode(required, line.stream, line.data)
         if self.reports:
-            self.report(None)
+            self.report()
 
     def decode(self, required, stream, data):
         """Asks for a section that has the fields of the next list."""
@@ -212,15 +243,12 @@ class Judge:
         self.question.ask(f"decodes {stream} {shown_bytes(data)}", answer)
         if required:
             self.question.ask(f"keeps {required}", "true")
+        self.written.acknowledge(stream, required, self.insertions.count)
         self.decoded += 1
 
-    def report_as(self, line):
-        """Asks for the bytes of the decoder stream that were recorded."""
-        self.report(shown_bytes(line.data))
-
-    def report(self, expected):
+    def report(self):
         """Asks for the decoder stream, which is sent."""
-        self.question.ask("sends", expected)
+        self.question.ask("sends", shown_bytes(self.written.take(self.insertions.count)))
         self.known = self.insertions.count
 
 
@@ -352,7 +380,8 @@ def heard_question(name, max_blocked):
 
 def exchanged_questions(capacity):
     """The corpus encoded by an encoder in the names of h3, with the bytes of a recording, and read by three readers: a
-    decoder in those names, a strict reading, and a decoding end, which writes the same bytes of the decoder stream."""
+    decoder in those names, a strict reading, and a decoding end, which leaves out increments that an acknowledgment
+    reports."""
     name, lists = f"exchanged_{capacity}", read_lists("corpus")
     lines = read_lines(name)
     rounds = [lines[at : at + 3] for at in range(0, len(lines), 3)]
@@ -364,11 +393,14 @@ def exchanged_questions(capacity):
     end.begin(f"decoder {capacity} 0 {2**64 - 1}")
     end.ask(f"receives {capacity_instruction(capacity).hex()}", "0")
     strict.begin(f"h3-decoder {capacity} any")
+    insertions, written = Insertions(), DecoderStream()
     for fields, (sent, block, answered) in zip(lists, rounds):
         ask_session(session, fields, sent, block, answered)
+        insertions.receive(sent.data)
+        written.acknowledge(block.stream, required_by(block.data, insertions.count, capacity), insertions.count)
         end.ask(f"receives {shown_bytes(sent.data)}", COUNT)
         end.ask(f"decodes {block.stream} {block.data.hex()}", re.compile(rf"\d+{re.escape(shown_fields(fields))}"))
-        end.ask("sends", shown_bytes(answered.data))
+        end.ask("sends", shown_bytes(written.take(insertions.count)))
         strict.ask(f"delivers {shown_bytes(sent.data)}", "delivered")
         strict.ask(f"decodes-strictly {block.data.hex()}", "the same strictly")
     return [session, end, strict]
@@ -391,10 +423,15 @@ def ask_session(question, fields, sent, block, answered):
 
 def capacity_instruction(capacity, bits=5):
     """Returns the instruction that sets a capacity (RFC 9204, section 4.3.1), or another integer under flags."""
-    ones, flags = (1 << bits) - 1, 1 << bits
-    if capacity < ones:
-        return bytes([flags | capacity])
-    data, rest = [flags | ones], capacity - ones
+    return integer_bytes(capacity, bits, 1 << bits)
+
+
+def integer_bytes(value, bits, flags):
+    """Returns an integer with a prefix of this many bits, under flags (RFC 9204, section 4.1.1)."""
+    ones = (1 << bits) - 1
+    if value < ones:
+        return bytes([flags | value])
+    data, rest = [flags | ones], value - ones
     while rest > 127:
         data.append(rest % 128 | 128)
         rest //= 128

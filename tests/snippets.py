@@ -60,6 +60,8 @@ SNIPPETS = {
 BLOCK = re.compile(r"^```(\w*)\n((?:.*\n)*?)```$|(?<=\n\n)((?:    .*\n)+)", re.M)
 # The language of a block that is a picture.
 PICTURE = "text"
+# The line of a frame in whose place a snippet stands.
+FRAME = re.compile(r"^ *// SNIPPET$", re.M)
 COMMENT = re.compile(r"\s+(?:# |// |/\* )(.*?)(?: \*/)?$")
 # What a command needs beside TOOLS, by its first word: programs, and modules of Python.
 NEEDS = {"go": (["go"], []), "python3": ([], ["ensurepip"])}
@@ -150,10 +152,11 @@ class Room:
     def put(self, block, frame):
         """Writes a snippet in its frame to where the commands of the documents expect a program."""
         text = (TOP / frame).read_text(encoding="utf-8")
-        if text.count("SNIPPET\n") != 1:
-            return f"{frame} has not one line SNIPPET"
+        parts = FRAME.split(text)
+        if len(parts) != 2:
+            return f"{frame} has not one line // SNIPPET"
         to = self.folder / "app" / "src" if frame.endswith(".rs") else self.folder
-        (to / Path(frame).name).write_text(text.replace("SNIPPET\n", "\n".join(block.lines) + "\n"), encoding="utf-8")
+        (to / Path(frame).name).write_text("\n".join(block.lines).join(parts), encoding="utf-8")
         return ""
 
     def run_program(self, frame):

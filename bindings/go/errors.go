@@ -58,6 +58,9 @@ var texts = map[Status]struct{ cause, advice string }{
 	ErrVersion:             {"the library is of another version", "compile the program with its header"},
 }
 
+// causeAt says what a status means where the place is known, if that is less than it means otherwise.
+var causeAt = map[Status]string{ErrDecompressionFailed: "a section is invalid"}
+
 // cause returns what the status means.
 func (s Status) cause() string {
 	if text, ok := texts[s]; ok {
@@ -120,7 +123,11 @@ var ranges = map[string]string{
 
 // Error returns what failed, why and where, and what to do.
 func (e *Error) Error() string {
-	text, advice := "h3qpack: "+e.Op+": "+e.cause(), e.advice()
+	cause, advice := e.cause(), e.advice()
+	if at, ok := causeAt[e.Status]; ok && e.Number > 0 {
+		cause = at
+	}
+	text := "h3qpack: " + e.Op + ": " + cause
 	switch {
 	case e.Status == ErrInvalid:
 		advice = ranges[e.Op]

@@ -245,7 +245,7 @@ func TestInvalidSection(t *testing.T) {
 	if failure.Code() != 0x200 || failure.Number != 2 || failure.Offset != 3 {
 		t.Fatalf("%+v", failure)
 	}
-	if text := failure.Error(); !strings.HasSuffix(text, "at line 2, byte 3: close the connection with 0x200") {
+	if text := failure.Error(); text != "h3qpack: decode: a section is invalid, at line 2, byte 3: close the connection with 0x200" {
 		t.Fatal(text)
 	}
 	expect(t, decoder.Receive([]byte{0x20}), ErrDecompressionFailed)

@@ -90,17 +90,17 @@ void nghttp3_qpack_encoder_set_max_blocked_streams(nghttp3_qpack_encoder *encode
   h3_qpack_encoder_set_peer_settings(&encoder->own.end, encoder->own.peer_capacity, max_blocked_streams);
 }
 
-/* Sets the least capacity that was asked for since, and the last. Returns whether they wait for acknowledgments. */
-static int is_capacity_held(nghttp3_qpack_encoder *encoder) {
+/* Sets the least capacity that was asked for since, and then the last, unless the least waits for acknowledgments. */
+static void set_asked_capacity(nghttp3_qpack_encoder *encoder) {
   h3_qpack_encoder *end = &encoder->own.end;
-  if (!(encoder->flags & NGHTTP3_QPACK_ENCODER_FLAG_PENDING_SET_DTABLE_CAP)) return 0;
-  if (h3_qpack_encoder_set_capacity(end, encoder->min_dtable_update) ||
+  size_t pending;
+  if (!(encoder->flags & NGHTTP3_QPACK_ENCODER_FLAG_PENDING_SET_DTABLE_CAP)) return;
+  if (h3_qpack_encoder_shrink(end, encoder->min_dtable_update) || h3_qpack_encoder_get_pending_capacity(end, &pending) ||
       h3_qpack_encoder_set_capacity(end, encoder->last_max_dtable_update))
-    return 1;
+    return;
   encoder->min_dtable_update = SIZE_MAX;
   encoder->ctx.max_dtable_capacity = encoder->last_max_dtable_update;
   encoder->flags = NGHTTP3_QPACK_ENCODER_FLAG_NONE;
-  return 0;
 }
 
 /* What nghttp3 marks as never to be indexed is so here: what the caller marks, credentials and short cookies. */
@@ -112,28 +112,17 @@ static uint8_t flags_of(const nghttp3_nv *nv) {
              : 0;
 }
 
-/* Encodes fields, and writes the section to |section| if it has the room. While a lower capacity waits, no section
- * references the table, so that it waits for the sections before alone. */
-static h3_qpack_encoded encode_fields(nghttp3_qpack_encoder *encoder, int64_t stream_id, const h3_qpack_nv *fields,
-                                      size_t count, int is_held, nghttp3_buf *section) {
-  uint8_t *room = section->last;
-  if (is_held) {
-    h3_qpack_written written = h3_qpack_encode_stateless(fields, count, room, nghttp3_buf_left(section));
-    return (h3_qpack_encoded){written.status, written.len, 0, 0};
-  }
-  return h3_qpack_encoder_encode(&encoder->own.end, (uint64_t)stream_id, fields, count, room, nghttp3_buf_left(section));
-}
-
-/* The same with the room made that was missing. */
+/* Encodes fields, and writes the section to |section|, with the room made that is missing. */
 static h3_qpack_encoded encode_to(nghttp3_qpack_encoder *encoder, int64_t stream_id, const h3_qpack_nv *fields, size_t count,
                                   nghttp3_buf *section) {
-  int is_held = is_capacity_held(encoder);
-  h3_qpack_encoded encoded = encode_fields(encoder, stream_id, fields, count, is_held, section);
+  h3_qpack_encoder *end = &encoder->own.end;
+  set_asked_capacity(encoder);
+  h3_qpack_encoded encoded =
+      h3_qpack_encoder_encode(end, (uint64_t)stream_id, fields, count, section->last, nghttp3_buf_left(section));
   if (encoded.status != H3_QPACK_ERR_NO_ROOM) return encoded;
   encoded.status = H3_QPACK_ERR_NO_MEMORY;
   if (make_room(section, encoded.len, encoder->ctx.mem)) return encoded;
-  if (is_held) return encode_fields(encoder, stream_id, fields, count, is_held, section);
-  encoded.status = h3_qpack_encoder_section(&encoder->own.end, section->last, encoded.len).status;
+  encoded.status = h3_qpack_encoder_section(end, section->last, encoded.len).status;
   return encoded;
 }
 
@@ -412,32 +401,42 @@ void nghttp3_qpack_stream_context_del(nghttp3_qpack_stream_context *sctx) {
   nghttp3_mem_free(sctx->mem, sctx);
 }
 
-/* Copies the field that was read last. Its name and value are read to the value's buffer, from which the name is copied. */
-static int copy_field(nghttp3_qpack_decoder *decoder, nghttp3_qpack_stream_context *sctx, nghttp3_qpack_nv *nv) {
+/* Makes the name of a field, and its token: a constant of nghttp3's if the static table has the name, or else a copy. */
+static int make_name(nghttp3_qpack_nv *nv, const h3_qpack_view *view, const nghttp3_mem *mem) {
+  if (view->static_name == H3_QPACK_NOT_STATIC) {
+    nv->token = qpack_lookup_token(view->name, view->namelen);
+    return nghttp3_rcbuf_new2(&nv->name, view->name, view->namelen, mem);
+  }
+  nv->token = stable[view->static_name].token;
+  nv->name = &stable[view->static_name].name;
+  return 0;
+}
+
+/* Makes its value: a constant if the static table has the field, or else a copy. */
+static int make_value(nghttp3_qpack_nv *nv, const h3_qpack_view *view, const nghttp3_mem *mem) {
+  if (view->static_field == H3_QPACK_NOT_STATIC) return nghttp3_rcbuf_new2(&nv->value, view->value, view->valuelen, mem);
+  nv->value = &stable[view->static_field].value;
+  return 0;
+}
+
+/* Makes nghttp3's field of the one that was read last. */
+static int make_field(nghttp3_qpack_decoder *decoder, nghttp3_qpack_stream_context *sctx, nghttp3_qpack_nv *nv) {
   const nghttp3_mem *mem = decoder->ctx.mem;
-  h3_qpack_field field = h3_qpack_section_reader_field(&sctx->own.reader, NULL, 0); /* the lengths */
-  size_t length = field.namelen + field.valuelen;
-  uint8_t *text;
-  if (nghttp3_rcbuf_new(&nv->value, length + 1, mem)) return NGHTTP3_ERR_NOMEM;
-  text = nv->value->base;
-  field = h3_qpack_section_reader_field(&sctx->own.reader, text, length);
-  if (nghttp3_rcbuf_new2(&nv->name, text, field.namelen, mem)) {
-    nghttp3_rcbuf_decref(nv->value);
+  h3_qpack_view view;
+  if (h3_qpack_section_reader_view(&sctx->own.reader, &view)) return NGHTTP3_ERR_QPACK_FATAL; /* there is one */
+  if (make_name(nv, &view, mem)) return NGHTTP3_ERR_NOMEM;
+  if (make_value(nv, &view, mem)) {
+    nghttp3_rcbuf_decref(nv->name);
     return NGHTTP3_ERR_NOMEM;
   }
-  nv->token = qpack_lookup_token(text, field.namelen);
-  nv->flags = field.flags & H3_QPACK_NV_FLAG_NEVER_INDEX ? NGHTTP3_NV_FLAG_NEVER_INDEX : NGHTTP3_NV_FLAG_NONE;
-  memmove(text, text + field.namelen, field.valuelen);
-  text[field.valuelen] = 0;
-  nv->value->len = field.valuelen;
+  nv->flags = view.flags & H3_QPACK_NV_FLAG_NEVER_INDEX ? NGHTTP3_NV_FLAG_NEVER_INDEX : NGHTTP3_NV_FLAG_NONE;
   return 0;
 }
 
 /* Gives the field that was read. */
 static int give_field(nghttp3_qpack_decoder *decoder, nghttp3_qpack_stream_context *sctx, nghttp3_qpack_nv *nv,
                       uint8_t *pflags) {
-  int rv = copy_field(decoder, sctx, nv);
-  if (rv) return fail(decoder, H3_QPACK_ERR_NO_MEMORY);
+  if (make_field(decoder, sctx, nv)) return fail(decoder, H3_QPACK_ERR_NO_MEMORY);
   *pflags |= NGHTTP3_QPACK_DECODE_FLAG_EMIT;
   return 0;
 }

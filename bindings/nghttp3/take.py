@@ -1,5 +1,5 @@
 #!/usr/bin/env python3
-"""Takes functions of nghttp3's nghttp3_qpack.c that are not QPACK: those that the library needs, and the books of its tests.
+"""Takes parts of nghttp3's nghttp3_qpack.c: what the library needs that is not QPACK, and the books of its tests.
 
     take.py NGHTTP3_QPACK_C FOLDER     writes from_nghttp3.inc and books_of_nghttp3.inc there
 """
@@ -23,6 +23,8 @@ BOOKS = """
     qpack_read_varint nghttp3_qpack_encoder_read_decoder
     nghttp3_qpack_decoder_reconstruct_ricnt
 """.split()
+# The constants of the static table, after the macro that makes each.
+TABLE = re.compile(r"^#define MAKE_STATIC_HD\(.*?^static nghttp3_qpack_static_header stable\[\] = \{\n.*?^\};\n", re.M | re.S)
 # A function or a struct begins at the start of a line, and ends where a line begins with a brace.
 ITEM = re.compile(r"^(?:[a-z][\w *]*\n)?[a-z][^;{}#]*\{\n.*?^\}[^\n]*\n", re.M | re.S)
 
@@ -36,10 +38,20 @@ def find_item(items, name):
     return found[0]
 
 
+def find_table(text):
+    """Returns the constants of the static table."""
+    found = TABLE.search(text)
+    if not found:
+        sys.exit("take.py: no static table in the source of nghttp3: it is of another version")
+    return found[0]
+
+
 def main(source, folder):
-    items = ITEM.findall(Path(source).read_text(encoding="utf-8"))
-    for name, wanted in (("from_nghttp3.inc", NEEDED), ("books_of_nghttp3.inc", BOOKS)):
-        Path(folder, name).write_text("\n".join(find_item(items, it) for it in wanted), encoding="utf-8")
+    text = Path(source).read_text(encoding="utf-8")
+    items = ITEM.findall(text)
+    needed = [find_table(text), *(find_item(items, it) for it in NEEDED)]
+    for name, parts in (("from_nghttp3.inc", needed), ("books_of_nghttp3.inc", [find_item(items, it) for it in BOOKS])):
+        Path(folder, name).write_text("\n".join(parts), encoding="utf-8")
 
 
 if __name__ == "__main__":

@@ -50,6 +50,14 @@ static void receive(connection *c, const uint8_t *p, size_t len) {
   compare_waiting(c);
 }
 
+/* A view is of this field, and says where the static table has it. */
+static void compare_view(const h3_qpack_view *view, const strict_field *f) {
+  CHECK(view->namelen == f->namelen && view->valuelen == f->valuelen && view->value == view->name + f->namelen);
+  CHECK(!memcmp(view->name, f->text, f->namelen + f->valuelen));
+  CHECK(view->flags == (f->is_never_indexed ? H3_QPACK_NV_FLAG_NEVER_INDEX : 0u));
+  CHECK(view->static_name == strict_find_static(f, 0) && view->static_field == strict_find_static(f, 1));
+}
+
 static void compare_fields(connection *c, const strict_fields *fields, size_t got) {
   size_t len = 0, at = 0;
   CHECK(got == fields->len);
@@ -65,6 +73,9 @@ static void compare_fields(connection *c, const strict_fields *fields, size_t go
     CHECK(told[i].flags == (f->is_never_indexed ? H3_QPACK_NV_FLAG_NEVER_INDEX : 0u));
     CHECK(!memcmp(text + at, f->text, f->namelen + f->valuelen));
     at += f->namelen + f->valuelen;
+    h3_qpack_view view;
+    CHECK(h3_qpack_decoder_view(&c->library, i, &view) == H3_QPACK_OK);
+    compare_view(&view, f);
   }
   free(told);
   free(text);
@@ -109,6 +120,9 @@ static h3_qpack_decoded decode_pieces(connection *c, uint64_t stream, const uint
       CHECK(told.flags == (f->is_never_indexed ? H3_QPACK_NV_FLAG_NEVER_INDEX : 0u));
       CHECK(!memcmp(text, f->text, f->namelen + f->valuelen));
       free(text);
+      h3_qpack_view view;
+      CHECK(h3_qpack_section_reader_view(&reader, &view) == H3_QPACK_OK);
+      compare_view(&view, f);
     }
     given++;
   }

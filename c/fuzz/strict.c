@@ -130,6 +130,16 @@ void strict_free_fields(strict_fields *fields) {
   *fields = (strict_fields){NULL, 0, 0};
 }
 
+static int is_text(const uint8_t *p, size_t len, const char *text) { return len == strlen(text) && !memcmp(p, text, len); }
+
+int strict_find_static(const strict_field *field, int has_value) {
+  for (int i = 0; i < 99; i++)
+    if (is_text(field->text, field->namelen, STATIC[i].name) &&
+        (!has_value || is_text(field->text + field->namelen, field->valuelen, STATIC[i].value)))
+      return i;
+  return -1;
+}
+
 /* ---- The table (section 3.2) */
 
 void strict_new(strict_decoder *d, uint64_t max_capacity) { *d = (strict_decoder){.max_capacity = max_capacity, .number = 1}; }

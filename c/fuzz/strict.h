@@ -18,6 +18,9 @@ typedef struct strict_fields {
   size_t len, room;
 } strict_fields;
 
+/* Returns the first index of the static table that has a field's name, and with |has_value| its value too, or -1. */
+int strict_find_static(const strict_field *field, int has_value);
+
 /* What a decoder of a connection keeps. */
 typedef struct strict_decoder {
   uint64_t max_capacity, capacity, size, insert_count;

@@ -12,7 +12,7 @@ from typing import Any, Dict, List, Tuple
 
 VERSION = 2
 OK, BLOCKED, ERR_VERSION = 0, -3, -7
-TYPES = {1: ctypes.c_uint8, 4: ctypes.c_int32, 8: ctypes.c_uint64}
+TYPES = {1: ctypes.c_uint8, 2: ctypes.c_int16, 4: ctypes.c_int32, 8: ctypes.c_uint64}
 
 
 def read_structs(path: str) -> Dict[str, Any]:
@@ -92,6 +92,10 @@ def main() -> None:
     written = library.call("written", "decoder_fields", decoder, told, size(2), text, size(256))
     assert written.status == OK and text.raw[: written.len] == b"".join(name + value for name, value in fields)
     assert [(it.namelen, it.valuelen) for it in told] == [(len(name), len(value)) for name, value in fields]
+    views = (library.structs["h3_qpack_view"] * 2)()
+    assert library.call(ctypes.c_size_t, "decoder_views", decoder, views, size(2)) == 2
+    seen = [(ctypes.string_at(it.name, it.namelen), ctypes.string_at(it.value, it.valuelen)) for it in views]
+    assert seen == fields and [(it.static_name, it.static_field) for it in views] == [(15, 17), (-1, -1)]
     for end, at in (("encoder", encoder), ("decoder", decoder)):
         entry = library.call("field", f"{end}_entry", at, size(0), text, size(256))
         assert entry.status == OK and (entry.namelen, entry.valuelen) == (7, 2)

@@ -182,7 +182,7 @@ static inline void check_written(const h3_qpack_field *fields, const uint8_t *te
   size_t at = 0;
   for (size_t k = 0; k < nvlen; k++) {
     const h3_qpack_nv *nv = &nva[k];
-    CHECK(fields[k].status == H3_QPACK_OK && fields[k].flags == nv->flags);
+    CHECK(fields[k].status == H3_QPACK_OK && fields[k].flags == (nv->flags & H3_QPACK_NV_FLAG_NEVER_INDEX));
     CHECK(fields[k].namelen == nv->namelen && fields[k].valuelen == nv->valuelen);
     CHECK(textlen - at >= nv->namelen + nv->valuelen);
     CHECK(!memcmp(text + at, nv->name, nv->namelen));

@@ -32,16 +32,17 @@ NAMES = {
     "fields::Field": "h3_qpack_nv",
     "reader::Handle": "h3_qpack_section_reader",
     "reader::slot::Slot": "h3_qpack_section_reader",
+    "views::View": "h3q_view",
 }
 
 # Fields whose names in C are others.
-RENAMED = {("answers::Given", "name"): "namelen", ("answers::Given", "value"): "valuelen"}
+RENAMED = {(struct, name): name + "len" for struct in ("answers::Given", "views::View") for name in ("name", "value")}
 
 # The sizes of the types in bytes, on a machine of 64 bits.
 POINTER = 8
 SIZES = {
-    **{"u8": 1, "i32": 4, "u32": 4, "u64": 8, "usize": 8, "*mut u8": POINTER},
-    **{"uint8_t": 1, "int32_t": 4, "uint32_t": 4, "uint64_t": 8, "size_t": 8},
+    **{"u8": 1, "i16": 2, "i32": 4, "u32": 4, "u64": 8, "usize": 8, "*const u8": POINTER, "*mut u8": POINTER},
+    **{"uint8_t": 1, "int16_t": 2, "int32_t": 4, "uint32_t": 4, "uint64_t": 8, "size_t": 8},
 }
 
 Fields = List[Tuple[str, int]]

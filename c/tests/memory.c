@@ -49,9 +49,10 @@ static void send_list(h3_qpack_encoder *e, h3_qpack_decoder *d, size_t i) {
   while (is_short(r.status));
   if (i % 3 == 0) {
     hand_to_decoder(d, stream, len);
-    if (r.status == H3_QPACK_BLOCKED) do
-        r = h3_qpack_decoder_decode(d, 4 * i, section, a.len);
+    if (r.status == H3_QPACK_BLOCKED) {
+      do r = h3_qpack_decoder_decode(d, 4 * i, section, a.len);
       while (is_short(r.status));
+    }
   }
   CHECK(r.status == H3_QPACK_OK && r.fields == lists[i].len);
   check_fields(d, lists[i].nv, lists[i].len);

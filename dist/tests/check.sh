@@ -83,11 +83,14 @@ write_functions() {
             'bytes addp(bytes, bytes) __asm__("llvm.aarch64.neon.addp.v16i8");' \
             'int main(void) { char *p = f(0, 1); bytes sums = addp(p[0] - (bytes){}, p[1] - (bytes){}); return sums[0] + sums[8]; }'
     else
-        "$kit/toolchain/bin/clang" -E -P -DH3_QPACK_NO_INLINE -isystem "$top/dist/wasm64" "$top/dist/h3_qpack.h" |
-            tr '\n' ' ' | sed -E 's/h3q_(encode_copy|are_fields)/H3Q_\1/g
-                s/(h3q_[a-z_]+\([^()]*\)) *;/\1 { __builtin_trap(); }/g
-                s/H3Q_(encode_copy|are_fields)/h3q_\1/g'
+        list_exports | "$kit/toolchain/bin/clang" -E -P -DH3_QPACK_NO_INLINE -isystem "$top/dist/wasm64" -xc - |
+            tr '\n' ' ' | sed -E 's/(h3q_[a-z_]+\([^()]*\)) *;/\1 { __builtin_trap(); }/g'
     fi
+}
+
+# Prints the header without the functions that its bodies share: these h3_qpack.c defines.
+list_exports() {
+    sed '/^\/\* ---- What the bodies below share/,/^#ifdef H3Q_HAS_BODIES$/{/^#ifdef/!d}' "$top/dist/h3_qpack.h"
 }
 
 # Makes the stand-in of the module of a file, with the file and the object that are made of it.

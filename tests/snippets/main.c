@@ -35,7 +35,7 @@ static int converse(const uint8_t *instructions, size_t instructionslen, const u
                     const uint8_t *answers, size_t answerslen) {
   uint8_t section[ROOM], piece[4];
   size_t len;
-  SNIPPET
+  // SNIPPET
   append(&on_stream_4, section, sent.len);
   return got.fields == 1 ? 0 : -1;
 }

@@ -14,7 +14,7 @@ fn main() -> Result<(), Box<dyn Error>> {
         let [name, value] = [name, value].map(String::from_utf8_lossy);
         handed_on.borrow_mut().push_str(&format!("{name}: {value}\n"));
     };
-SNIPPET
+    // SNIPPET
     assert_eq!(handed_on.into_inner(), ":method: GET\nuser-agent: curl/8\n");
     assert_eq!((answers.is_empty(), encoder.unacknowledged()), (false, 0));
     Ok(())

@@ -18,7 +18,9 @@ static void decode_again(struct stream *it) {
 }
 
 /* Decodes what is ready. */
-static void decode_ready(void) { SNIPPET }
+static void decode_ready(void) {
+  // SNIPPET
+}
 
 /* Makes both ends, and encodes a field that is inserted. Returns the bytes of the encoder stream. */
 static size_t begin(uint8_t *bytes, size_t len) {

@@ -40,9 +40,10 @@ async function isProgram(bytes) {
 // Returns what runs the library's module as a program is run.
 function asProgram(bytes) {
   return {
-    async run(
-      words,
-      input) { return {status: 0, output: new TextEncoder().encode(await sendLists(bytes, input)), error: new Uint8Array()}; },
+    async run(words, input) {
+      const output = new TextEncoder().encode(await sendLists(bytes, input));
+      return {status: 0, output, error: new Uint8Array()};
+    },
   };
 }
 

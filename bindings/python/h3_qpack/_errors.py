@@ -8,6 +8,11 @@ if TYPE_CHECKING:
     from ._fields import Field
 
 
+def write_place(unit: str, number: int, offset: int) -> str:
+    """Returns the place of what is invalid, behind what is said of it."""
+    return f", at {unit} {number}, byte {offset}" if number else ""
+
+
 class QpackError(Exception):
     """A call failed. Unless it is a QpackConnectionError, the connection goes on."""
 
@@ -24,11 +29,13 @@ class QpackConnectionError(QpackError):
 
     code = 0
     cause = ""
+    # The cause where the place is known, if that is less than it is otherwise.
+    cause_at = ""
     unit = "instruction"
 
     def __init__(self, number: int = 0, offset: int = 0) -> None:
-        place = f", at {self.unit} {number}, byte {offset}" if number else ""
-        super().__init__(f"{self.cause}{place}: close the connection with {self.code:#x}")
+        cause = self.cause_at if number and self.cause_at else self.cause
+        super().__init__(f"{cause}{write_place(self.unit, number, offset)}: close the connection with {self.code:#x}")
         self.number = number
         self.offset = offset
 
@@ -38,6 +45,7 @@ class DecompressionFailed(QpackConnectionError):
 
     code = 0x200
     cause = "a section is invalid, or too many streams are blocked"
+    cause_at = "a section is invalid"
     unit = "line"
 
 
@@ -70,7 +78,7 @@ class StreamBlocked(QpackError):
     """
 
     def __init__(self, required: int, taken: int = 0) -> None:
-        super().__init__(f"the section is blocked until insertion {required}: keep it until its stream is ready")
+        super().__init__(f"the section is blocked until insertion {required}: keep it until next_ready returns its stream")
         self.required = required
         self.taken = taken
 
@@ -78,13 +86,15 @@ class StreamBlocked(QpackError):
 class SectionTooLarge(QpackError):
     """The section exceeds `max_section_size`. Reject the message, and call `Decoder.cancel_stream`.
 
-    `number` is the line at which it does, or 0 if the section is too long to be within it.
+    `number` is the line at which it does, or 0 if the section is too long to be within it. `offset` is the position of its
+    first byte in the section.
     """
 
-    def __init__(self, number: int = 0) -> None:
-        place = f" at line {number}" if number else ""
+    def __init__(self, number: int = 0, offset: int = 0) -> None:
+        place = write_place("line", number, offset)
         super().__init__(f"the section is too large{place}: reject the message, and cancel its stream")
         self.number = number
+        self.offset = offset
 
 
 class EntriesHeld(QpackError):
@@ -146,7 +156,7 @@ def check(
     if status == lib.BLOCKED:
         raise StreamBlocked(getattr(result, "required", 0), getattr(result, "taken", 0))
     if status == lib.TOO_LARGE:
-        raise SectionTooLarge(number)
+        raise SectionTooLarge(number, offset)
     if status == lib.INVALID:
         raise InvalidArgument(range_text)
     if status == lib.NO_MEMORY:
@@ -155,4 +165,4 @@ def check(
         raise EntriesHeld()
     if status == lib.VERSION_MISMATCH:
         raise VersionMismatch()
-    raise QpackError(f"unknown status {status}: the library is of another version")
+    raise QpackError(f"unknown status {status}: install the library that this package is of")

@@ -9,7 +9,7 @@
  *               h3_qpack_encoder_write_encoder    -> bytes for this side's encoder stream
  *               h3_qpack_encoder_read_decoder     <- bytes of the peer's decoder stream
  *   receiving   h3_qpack_decoder_read_encoder     <- bytes of the peer's encoder stream
- *               h3_qpack_decoder_decode           <- a field section; then h3_qpack_decoder_fields or _field
+ *               h3_qpack_decoder_decode           <- a field section; then h3_qpack_decoder_view or _fields
  *               h3_qpack_decoder_next_ready       -> a blocked stream whose section can now be decoded
  *               h3_qpack_decoder_write_decoder    -> bytes for this side's decoder stream
  *
@@ -114,6 +114,19 @@ typedef struct h3_qpack_field {
   size_t namelen;  /* bytes */
   size_t valuelen; /* bytes */
 } h3_qpack_field;
+
+/* A field where it lies in the memory of a decoder or of a section reader. */
+typedef struct h3_qpack_view {
+  const uint8_t *name;
+  const uint8_t *value;
+  size_t namelen;       /* bytes */
+  size_t valuelen;      /* bytes */
+  uint32_t flags;       /* H3_QPACK_NV_FLAG_NEVER_INDEX, if the peer marked the field so; ignore all other bits */
+  int16_t static_name;  /* the first index of the static table that has the name (Appendix A), or H3_QPACK_NOT_STATIC */
+  int16_t static_field; /* the index that has the name and the value, or H3_QPACK_NOT_STATIC */
+} h3_qpack_view;
+
+#define H3_QPACK_NOT_STATIC (-1) /* an index of the static table that does not exist */
 
 /* ---- Results */
 
@@ -409,8 +422,8 @@ H3_QPACK_INLINE h3_qpack_received h3_qpack_decoder_read_encoder(h3_qpack_decoder
 H3_QPACK_INLINE h3_qpack_prefix h3_qpack_decoder_peek_prefix(h3_qpack_decoder *decoder, const uint8_t *src, size_t srclen);
 
 /* Decodes a field section, |srclen| bytes at |src|, of the stream |stream_id|, below 2^62 (section 2.2). Pass the
- * sections of a stream in order. Get the fields from h3_qpack_decoder_fields or h3_qpack_decoder_field: they are kept
- * until the next decode.
+ * sections of a stream in order. Get the fields from h3_qpack_decoder_view, or copies of them from h3_qpack_decoder_fields:
+ * they are kept until the next decode.
  *
  * Returns the number of fields, the length of all names and values, and the section's Required Insert Count, with a
  * status:
@@ -446,6 +459,19 @@ H3_QPACK_INLINE h3_qpack_field h3_qpack_decoder_field(h3_qpack_decoder *decoder,
 H3_QPACK_INLINE h3_qpack_written h3_qpack_decoder_fields(h3_qpack_decoder *decoder, h3_qpack_field *fields, size_t fieldslen,
                                                          uint8_t *out, size_t outlen);
 
+/* Stores in |view| where one field of the last decode lies, and its indexes in the static table. |index| is 0 for the first
+ * field. Nothing is copied: do not use the name and the value after the next h3_qpack_decoder_decode, or _del.
+ *
+ * Returns:
+ *   H3_QPACK_OK
+ *   H3_QPACK_ERR_INVALID  there is no such field, or |view| is NULL. Nothing was stored. */
+H3_QPACK_INLINE int h3_qpack_decoder_view(h3_qpack_decoder *decoder, size_t index, h3_qpack_view *view);
+
+/* Stores in |views|, which has room for |viewslen|, where the fields of the last decode lie, as h3_qpack_decoder_view does.
+ *
+ * Returns how many it stored: all, or |viewslen| if there are more. */
+H3_QPACK_INLINE size_t h3_qpack_decoder_views(h3_qpack_decoder *decoder, h3_qpack_view *views, size_t viewslen);
+
 /* Stores in |stream_id| a blocked stream whose section can be decoded now (section 2.2.1). Decode that section, or
  * cancel the stream, before you call it again: until then it stores the same stream. A loop that decodes the section of
  * each such stream ends, except that a decode without memory leaves its stream: end the loop then.
@@ -471,10 +497,13 @@ H3_QPACK_INLINE size_t h3_qpack_decoder_get_num_entries(h3_qpack_decoder *decode
 /* Copies one entry of the table to |out|, which has |outlen| bytes, as h3_qpack_encoder_entry does. */
 H3_QPACK_INLINE h3_qpack_field h3_qpack_decoder_entry(h3_qpack_decoder *decoder, size_t index, uint8_t *out, size_t outlen);
 
-/* Returns how many bytes are to be sent on the decoder stream (section 4.4). */
+/* Returns how many bytes are to be sent on the decoder stream (section 4.4), unless memory is refused. */
 H3_QPACK_INLINE size_t h3_qpack_decoder_get_decoder_streamlen(h3_qpack_decoder *decoder);
 
 /* Moves bytes that are to be sent on the decoder stream to |out|, at most |outlen| (section 4.4).
+ *
+ * At their end are increments for insertions that no acknowledgment before them reports (sections 2.1.4 and 4.4.3). So
+ * decode the sections that have come before you call this. If memory is refused for increments, a later call has them.
  *
  * Returns how many. Send them in this order: the decoder does not keep them. */
 H3_QPACK_INLINE size_t h3_qpack_decoder_write_decoder(h3_qpack_decoder *decoder, uint8_t *out, size_t outlen);
@@ -532,6 +561,14 @@ H3_QPACK_INLINE h3_qpack_piece h3_qpack_section_reader_read(h3_qpack_section_rea
  *   H3_QPACK_ERR_INVALID  that call did not return H3_QPACK_FIELD. */
 H3_QPACK_INLINE h3_qpack_field h3_qpack_section_reader_field(h3_qpack_section_reader *reader, uint8_t *out, size_t outlen);
 
+/* Stores in |view| where the field of the last h3_qpack_section_reader_read lies, as h3_qpack_decoder_view does. Do not use
+ * the name and the value after the reader's next read, or _del.
+ *
+ * Returns:
+ *   H3_QPACK_OK
+ *   H3_QPACK_ERR_INVALID  that call did not return H3_QPACK_FIELD, or |view| is NULL. Nothing was stored. */
+H3_QPACK_INLINE int h3_qpack_section_reader_view(h3_qpack_section_reader *reader, h3_qpack_view *view);
+
 /* Reads the next bytes of a field section as h3_qpack_section_reader_read does, and copies all fields that they give, as
  * h3_qpack_decoder_fields does: for a language in which a call of C costs much.
  *
@@ -588,6 +625,17 @@ H3_QPACK_INLINE h3_qpack_decoded_alone h3_qpack_decode_stateless(const uint8_t *
 #define H3_QPACK_CALL
 #endif
 
+/* A field in the text of its section, where its name begins at |start|. */
+typedef struct h3q_view {
+  const uint8_t *text;
+  size_t start;
+  size_t namelen;
+  size_t valuelen;
+  uint32_t flags;
+  int16_t static_name;
+  int16_t static_field;
+} h3q_view;
+
 H3_QPACK_CALL uint32_t h3q_version(void);
 H3_QPACK_CALL int32_t h3q_encoder_new(size_t max_capacity, size_t max_blocked, size_t capacity, size_t most_unacknowledged,
                                       uint64_t seed, void **at);
@@ -618,6 +666,7 @@ H3_QPACK_CALL h3_qpack_decoded h3q_decoder_decode(h3_qpack_decoder *decoder, uin
 H3_QPACK_CALL h3_qpack_field h3q_decoder_field(h3_qpack_decoder *decoder, size_t index, uint8_t *out, size_t outlen);
 H3_QPACK_CALL h3_qpack_written h3q_decoder_fields(h3_qpack_decoder *decoder, h3_qpack_field *fields, size_t fieldslen,
                                                   uint8_t *out, size_t outlen);
+H3_QPACK_CALL int32_t h3q_decoder_view(h3_qpack_decoder *decoder, size_t index, h3q_view *view);
 H3_QPACK_CALL h3_qpack_received h3q_decoder_read(h3_qpack_decoder *decoder, const uint8_t *src, size_t srclen);
 H3_QPACK_CALL size_t h3q_decoder_insert_count(h3_qpack_decoder *decoder);
 H3_QPACK_CALL size_t h3q_decoder_blocked(h3_qpack_decoder *decoder);
@@ -634,6 +683,7 @@ H3_QPACK_CALL h3_qpack_piece h3q_decoder_read_section(h3_qpack_decoder *decoder,
 H3_QPACK_CALL int32_t h3q_reader_new(uint64_t stream_id, void **at);
 H3_QPACK_CALL void h3q_reader_free(h3_qpack_section_reader reader);
 H3_QPACK_CALL h3_qpack_field h3q_reader_field(h3_qpack_section_reader *reader, uint8_t *out, size_t outlen);
+H3_QPACK_CALL int32_t h3q_reader_view(h3_qpack_section_reader *reader, h3q_view *view);
 H3_QPACK_CALL size_t h3q_reader_waiting(h3_qpack_section_reader *reader);
 H3_QPACK_CALL h3_qpack_written h3q_encode_stateless(const h3_qpack_nv *nva, size_t nvlen, uint8_t *section, size_t sectionlen);
 H3_QPACK_CALL h3_qpack_decoded_alone h3q_decode_stateless(const uint8_t *src, size_t srclen, uint64_t max_section_size,
@@ -646,6 +696,7 @@ H3_QPACK_CALL h3_qpack_decoded_alone h3q_decode_stateless(const uint8_t *src, si
 enum { H3Q_NO_FIELDS, H3Q_FIELDS, H3Q_HAVE_NULL };
 enum { H3Q_PREFIX = -10 }; /* a status of h3q_decoder_read_section alone: call it again */
 H3_QPACK_INLINE int h3q_are_fields(const h3_qpack_nv *nva, size_t nvlen);
+H3_QPACK_INLINE void h3q_show(const h3q_view *seen, h3_qpack_view *view);
 h3_qpack_encoded h3q_encode_copy(h3_qpack_encoder *encoder, uint64_t stream_id, const h3_qpack_nv *nva, size_t nvlen,
                                  uint8_t *section, size_t sectionlen);
 h3_qpack_written h3q_encode_copy_stateless(const h3_qpack_nv *nva, size_t nvlen, uint8_t *section, size_t sectionlen);
@@ -804,6 +855,32 @@ H3_QPACK_INLINE h3_qpack_written h3_qpack_decoder_fields(h3_qpack_decoder *decod
   return h3q_decoder_fields(decoder, H3Q_LEND(h3_qpack_field, fields), fieldslen, H3Q_LEND(uint8_t, out), outlen);
 }
 
+H3_QPACK_INLINE void h3q_show(const h3q_view *seen, h3_qpack_view *view) {
+  view->name = seen->text + seen->start;
+  view->value = view->name + seen->namelen;
+  view->namelen = seen->namelen;
+  view->valuelen = seen->valuelen;
+  view->flags = seen->flags;
+  view->static_name = seen->static_name;
+  view->static_field = seen->static_field;
+}
+
+H3_QPACK_INLINE int h3_qpack_decoder_view(h3_qpack_decoder *decoder, size_t index, h3_qpack_view *view) {
+  h3q_view seen = {NULL, 0, 0, 0, 0, 0, 0};
+  int32_t status;
+  if (!H3Q_IS_END(decoder) || !view) return H3_QPACK_ERR_INVALID;
+  status = h3q_decoder_view(decoder, index, &seen);
+  if (!status) h3q_show(&seen, view);
+  return status;
+}
+
+H3_QPACK_INLINE size_t h3_qpack_decoder_views(h3_qpack_decoder *decoder, h3_qpack_view *views, size_t viewslen) {
+  size_t i = 0;
+  if (!views) return 0;
+  while (i < viewslen && !h3_qpack_decoder_view(decoder, i, &views[i])) i++;
+  return i;
+}
+
 H3_QPACK_INLINE int h3_qpack_decoder_next_ready(h3_qpack_decoder *decoder, uint64_t *stream_id) {
   return H3Q_IS_END(decoder) && stream_id && h3q_decoder_next_ready(decoder, stream_id);
 }
@@ -876,6 +953,15 @@ H3_QPACK_INLINE h3_qpack_field h3_qpack_section_reader_field(h3_qpack_section_re
   h3_qpack_field invalid = {H3_QPACK_ERR_INVALID, 0, 0, 0};
   if (!H3Q_IS_END(reader) || !H3Q_IS_MEMORY(out, outlen)) return invalid;
   return h3q_reader_field(reader, H3Q_LEND(uint8_t, out), outlen);
+}
+
+H3_QPACK_INLINE int h3_qpack_section_reader_view(h3_qpack_section_reader *reader, h3_qpack_view *view) {
+  h3q_view seen = {NULL, 0, 0, 0, 0, 0, 0};
+  int32_t status;
+  if (!H3Q_IS_END(reader) || !view) return H3_QPACK_ERR_INVALID;
+  status = h3q_reader_view(reader, &seen);
+  if (!status) h3q_show(&seen, view);
+  return status;
 }
 
 H3_QPACK_INLINE h3_qpack_pieces h3_qpack_section_reader_read_all(h3_qpack_section_reader *reader, h3_qpack_decoder *decoder,

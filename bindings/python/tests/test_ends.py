@@ -180,8 +180,8 @@ class EndsTest(unittest.TestCase):
     def test_too_large(self) -> None:
         with Decoder(max_section_size=50) as decoder:
             error = self.refused(SectionTooLarge, decoder.decode, 0, METHOD + METHOD[2:])
-            self.assertEqual(error.number, 2)
-            self.assertIn("line 2", str(error))
+            self.assertEqual((error.number, error.offset), (2, 3))
+            self.assertIn("the section is too large, at line 2, byte 3: ", str(error))
             decoder.cancel_stream(0)
             self.assertEqual(decoder.decode(4, METHOD), REQUEST[:1])
 
@@ -203,7 +203,7 @@ class EndsTest(unittest.TestCase):
         _, decoder = self.pair()
         error = self.refused(DecompressionFailed, decoder.decode, 0, METHOD + b"\xff\x3f")
         self.assertEqual((error.code, error.number, error.offset), (0x200, 2, 3))
-        self.assertTrue(str(error).endswith("at line 2, byte 3: close the connection with 0x200"), error)
+        self.assertEqual(str(error), "a section is invalid, at line 2, byte 3: close the connection with 0x200")
         self.assertIsInstance(error, QpackConnectionError)
         self.refused(DecompressionFailed, decoder.receive, b"\x20")
         self.refused(DecompressionFailed, decoder.cancel_stream, 0)

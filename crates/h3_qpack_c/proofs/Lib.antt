@@ -1,2 +1,3 @@
 mod Sizes
+mod StaticNumbers
 mod Told

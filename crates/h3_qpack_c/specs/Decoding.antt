@@ -1,7 +1,6 @@
 -- What the calls of a decoding end do in C.
 use Rattle.std.specs.Prelude.{◌≡◌, ◌<◌, ◌^◌, ◌-◌, ℕ, ℤ, ⊤, min, if◌then◌else◌, nat_lt}
 use Rattle.std.specs.Prelude.{List, [], length, take, drop, Option, None, Some, Result, Ok, Err}
-use Rattle.qpack_codec.specs.Receiving.{written_report}
 use Rattle.std.specs.Option.{IfSome}
 use Rattle.qpack_spec.specs.Field.{FieldLine}
 use Rattle.qpack_spec.specs.StrictReading.{strict_reading}
@@ -15,10 +14,10 @@ use Rattle.qpack_ends.specs.declared.section.SectionPrefix.{SectionPrefix}
 use Rattle.qpack_ends.specs.declared.section.Reading.{Reading}
 use Rattle.qpack_ends.specs.declared.section.Reading.TheVariants.{Fields, Blocked}
 use Rattle.qpack_ends.specs.declared.decoder.DecoderSettings.{DecoderSettings}
-use Rattle.qpack_ends.specs.Decoders.{end_of, Begins, Decodes, Cancels, ReceivesBytes}
-use Rattle.qpack_ends.specs.Decoders.{NeedsMemoryToDecode, AsksForBytes, answer_to, cancellation_of}
-use Rattle.qpack_ends.specs.FieldSections.{IsRoomWithin, text_of}
-use Rattle.qpack_ends.specs.Receiving.{Receives}
+use Rattle.qpack_ends.specs.Decoders.{DecoderView, end_of, Begins, TakesStream, Decodes, Cancels, ReceivesBytes}
+use Rattle.qpack_ends.specs.Decoders.{NeedsMemoryToDecode, answer_to, cancellation_of}
+use Rattle.qpack_ends.specs.FieldSections.{IsRoomWithin, HoldsNothing, text_of}
+use Rattle.qpack_ends.specs.Receiving.{Receives, AsksToReceive}
 use Rattle.qpack_ends.specs.Unsent.{LacksRoom, KeepsRoom, Drops}
 use Rattle.h3_qpack_c.specs.declared.answers.Decoding.{Decoding}
 use Rattle.h3_qpack_c.specs.declared.answers.Prefixed.{Prefixed}
@@ -35,7 +34,7 @@ InRange max_capacity max_blocked = (max_capacity < 2 ^ 30) × (max_blocked < 655
 pub record IsNew (settings : DecoderSettings) (s : State) : Type 0 where
   pub end : Begins settings (end_of s.end)
   pub unsent : s.end.unsent ≡ record { bytes = []; front = 0; capacity = 0 }
-  pub fields : s.fields ≡ record { fields = []; text_room = 0; fields_room = 0 }
+  pub fields : HoldsNothing s.fields
 
 -- such an end is kept
 abbrev pub KeepsNew : DecoderSettings → Option State → Type 0
@@ -124,18 +123,20 @@ pub record ReceivesTo (old new : State) (bytes : List ℕ) (told : Received) : T
       → Receives start old.end.table before old.end.stream
       → ReceivesBytes start before (end_of old.end) (end_of new.end) bytes left answer
   pub ended : IfSome old.end.failure (λ e. (answer ≡ Err e) × (new.end ≡ old.end) × (left ≡ bytes))
-  pub memory : answer ≡ Err Memory → AsksForBytes old.end.unsent (end_of new.end) left
-  pub unsent : KeepsRoom (length (written_report (insert_count new.end.table - old.end.reported))) old.end.unsent
-      new.end.unsent
+  pub memory : answer ≡ Err Memory → AsksToReceive new.end.table left new.end.stream
+  pub unsent : new.end.unsent ≡ old.end.unsent
   pub fields : new.fields ≡ old.fields
   pub told_is : told ≡ told_of_receiving answer (taken_of old.end.failure answer (length bytes) (length left))
 
--- a front of the decoder stream, as much as the caller's memory has room for, is copied there, and dropped
-pub record TakesStream (old new : State) (before after : List ℕ) (taken : ℕ) : Type 0 where
-  pub taken_is : taken ≡ min (length old.end.unsent.bytes) (length before)
-  pub copied_is : after ≡ written_over (take taken old.end.unsent.bytes) before
-  pub end_is : end_of new.end ≡ record (end_of old.end) { unsent = drop taken old.end.unsent.bytes }
-  pub unsent : Drops taken old.end.unsent new.end.unsent
+-- the decoder stream is taken, and a front of it, as much as the caller's memory has room for, is copied there and
+-- dropped
+pub record TakesFront (old new : State) (before after : List ℕ) (taken : ℕ) : Type 0 where
+  pub end : DecoderView
+  pub takes : TakesStream old.end end
+  pub taken_is : taken ≡ min (length end.unsent.bytes) (length before)
+  pub copied_is : after ≡ written_over (take taken end.unsent.bytes) before
+  pub end_is : end_of new.end ≡ record (end_of end) { unsent = drop taken end.unsent.bytes }
+  pub unsent : Drops taken end.unsent new.end.unsent
   pub fields : new.fields ≡ old.fields
 
 -- a stream is cancelled as the end does it

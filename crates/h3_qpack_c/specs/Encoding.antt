@@ -7,19 +7,19 @@ use Rattle.qpack_spec.specs.Instruction.{DecoderInstruction}
 use Rattle.qpack_ends.specs.declared.encoder.EncodingError.{EncodingError}
 use Rattle.qpack_ends.specs.declared.encoder.EncodingError.TheVariants.{DecoderStream}
 use Rattle.qpack_ends.specs.declared.encoder.EncoderSettings.{EncoderSettings}
-use Rattle.qpack_ends.specs.Encoders.{Starts, ReceivesBytes, SetsCapacity, TakesPeer}
+use Rattle.qpack_ends.specs.Encoders.{Starts, Encodes, ReceivesBytes, SetsCapacity, Shrinks, TakesPeer}
 use Rattle.qpack_ends.specs.Hearing.{Receives}
+use Rattle.qpack_ends.specs.Wishes.{EncodesAsWished}
 use Rattle.qpack_codec.specs.declared.encoder.choices.Wish.{Wish}
 use Rattle.h3_qpack_c.specs.declared.answers.Encoded.{Encoded}
 use Rattle.h3_qpack_c.specs.declared.answers.Received.{Received}
 use Rattle.h3_qpack_c.specs.declared.encoder.State.{State}
-use Rattle.h3_qpack_c.specs.Lowering.{EncodesLowered}
 use Rattle.h3_qpack_c.specs.Crossing.{copied, list_size, status_of_copy, written_over}
 use Rattle.h3_qpack_c.specs.Statuses.{done, of_encoding, of_encoding_call}
 
--- an end at which nothing happened yet, no section, and no capacity that waits
+-- an end at which nothing happened yet, and no section
 abbrev pub IsNew : EncoderSettings → State → Type 0
-IsNew settings s = Starts settings s.end × (s.section.items ≡ []) × (s.lower ≡ None)
+IsNew settings s = Starts settings s.end × (s.section.items ≡ [])
 
 -- such an end is kept
 abbrev pub KeepsNew : EncoderSettings → Option State → Type 0
@@ -36,12 +36,13 @@ told_of_encoding (Ok required) fields section before =
     }
 told_of_encoding (Err e) fields section before = record { status = of_encoding e; len = 0; required = 0; size = 0 }
 
--- a section is encoded as the end does it, and as the caller wishes, unless a capacity waits; it is copied to the
--- caller's memory if it fits. On error there is none
+-- a section is encoded as the end does it, and as the caller wishes; it is copied to the caller's memory if it fits. On
+-- error there is none
 pub record EncodesTo (old new : State) (stream : ℕ) (fields : List FieldLine) (wishes : List Wish) (before after : List ℕ)
     (told : Encoded) : Type 0 where
   pub answer : Result ℕ EncodingError
-  pub encodes : EncodesLowered old.lower old new stream fields wishes answer
+  pub encodes : Encodes old.end new.end stream fields [] new.section.items answer
+  pub wished : EncodesAsWished old.end new.end stream fields wishes [] new.section.items answer
   pub copied_is : after ≡ copied new.section.items before
   pub told_is : told ≡ told_of_encoding answer fields new.section.items before
 
@@ -67,20 +68,20 @@ pub record HearsTo (old new : State) (bytes : List ℕ) (told : Received) : Type
       → Receives heard before old.end.stream → ReceivesBytes heard before old.end new.end bytes answer)
   pub ended : IfSome old.end.failure (λ e. (answer ≡ Err e) × (new.end ≡ old.end) × (left ≡ bytes))
   pub section : new.section ≡ old.section
-  pub lower : new.lower ≡ old.lower
   pub told_is : told ≡ told_of_hearing answer (length bytes - length left)
-
--- a capacity that was set takes the place of one that waits
-abbrev pub lower_behind : Result ⊤ EncodingError → Option ℕ → Option ℕ
-lower_behind (Ok done_) lower = None
-lower_behind (Err e) lower = lower
 
 -- a capacity is set as the end does it
 pub record SetsCapacityTo (old new : State) (capacity : ℕ) (status : ℤ) : Type 0 where
   pub answer : Result ⊤ EncodingError
   pub sets : SetsCapacity old.end new.end capacity answer
   pub section : new.section ≡ old.section
-  pub lower : new.lower ≡ lower_behind answer old.lower
+  pub status_is : status ≡ of_encoding_call answer
+
+-- a capacity is set as the end does it, or waits
+pub record ShrinksTo (old new : State) (capacity : ℕ) (status : ℤ) : Type 0 where
+  pub answer : Result ⊤ EncodingError
+  pub shrinks : Shrinks old.end new.end capacity answer
+  pub section : new.section ≡ old.section
   pub status_is : status ≡ of_encoding_call answer
 
 -- the settings of the peer are taken as the end does it
@@ -88,5 +89,4 @@ pub record TakesPeerTo (old new : State) (maximum blocked : ℕ) (status : ℤ) 
   pub answer : Result ⊤ EncodingError
   pub takes : TakesPeer old.end new.end maximum blocked answer
   pub section : new.section ≡ old.section
-  pub lower : new.lower ≡ old.lower
   pub status_is : status ≡ of_encoding_call answer

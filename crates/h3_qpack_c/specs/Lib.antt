@@ -1,12 +1,12 @@
 pub mod Statuses
 pub mod Tokens
 pub mod Crossing
-pub mod Lowering
 pub mod Encoding
 pub mod Decoding
 pub mod Pieces
 pub mod Alone
 pub mod Tables
+pub mod Views
 pub mod EncoderSlots
 pub mod DecoderSlots
 pub mod ReaderSlots

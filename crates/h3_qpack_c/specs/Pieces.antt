@@ -1,12 +1,12 @@
 -- What the calls over sections that come in pieces do in C.
-use Rattle.std.specs.Prelude.{◌≡◌, ◌-◌, ℕ, Bool, List, [], length, Option, Some, Result, Ok, Err}
+use Rattle.std.specs.Prelude.{◌≡◌, ◌-◌, ℕ, Bool, List, length, Option, Some, Result, Ok, Err}
 use Rattle.qpack_ends.specs.declared.decoder.DecodingError.{DecodingError}
 use Rattle.qpack_ends.specs.declared.decoder.DecodingError.TheVariants.{Section, Memory}
 use Rattle.qpack_ends.specs.declared.section.SectionError.TheVariants.{Line}
 use Rattle.qpack_ends.specs.declared.section.reader.Progress.{Progress}
 use Rattle.qpack_ends.specs.declared.section.reader.Progress.TheVariants.{Waits, Prefix, Blocked, Field, Ends}
 use Rattle.qpack_ends.specs.Decoders.{end_of}
-use Rattle.qpack_ends.specs.FieldSections.{GrowsWithin}
+use Rattle.qpack_ends.specs.FieldSections.{GrowsWithin, HoldsNothing}
 use Rattle.qpack_ends.specs.PieceDecoders.{ReadsPiece, NeedsMemoryForPiece, answer_to_next, next_here}
 use Rattle.qpack_ends.specs.Pieces.{KeepsWithin, fresh}
 use Rattle.qpack_ends.specs.Unsent.{KeepsRoom}
@@ -18,7 +18,7 @@ use Rattle.h3_qpack_c.specs.Statuses.{done, blocked, gives_field, ends, begins, 
 -- a reader at the start of a section, which has no field
 pub record IsReader (stream : ℕ) (r : Reader) : Type 0 where
   pub reader : r.reader ≡ record { section = fresh stream; room = 0 }
-  pub fields : r.fields ≡ record { fields = []; text_room = 0; fields_room = 0 }
+  pub fields : HoldsNothing r.fields
 
 -- such a reader is kept
 abbrev pub KeepsReader : ℕ → Option Reader → Type 0

@@ -4,10 +4,10 @@ ghost use Rattle.h3_qpack_c.specs.declared.decoder.State.{State};
 ghost use Rattle.std.specs.Prelude.{◌≡◌, ◌<◌, ◌≤◌, ◌^◌, length, slice_get, IfOk, IfErr, [], ℕ};
 ghost use Rattle.qpack_spec.specs.Table.{insert_count};
 ghost use Rattle.qpack_ends.specs.Blocked.{ready};
-ghost use Rattle.qpack_ends.specs.Decoders.{end_of, FailsSettings, blocked_streams};
+ghost use Rattle.qpack_ends.specs.Decoders.{end_of, FailsSettings, blocked_streams, with_report};
 ghost use Rattle.qpack_ends.specs.declared.decoder.DecoderSettings.{DecoderSettings};
 ghost use Rattle.h3_qpack_c.specs.Crossing.{Makes, Gives, GivesAll, StoresOption};
-ghost use Rattle.h3_qpack_c.specs.Decoding.{DecodesTo, ReceivesTo, CancelsTo, TakesStream, InRange};
+ghost use Rattle.h3_qpack_c.specs.Decoding.{DecodesTo, ReceivesTo, CancelsTo, TakesFront, InRange};
 ghost use Rattle.h3_qpack_c.specs.Decoding.{SaysPrefix, of_waiting, taken_of};
 ghost use Rattle.h3_qpack_c.specs.Decoding.{told_of_refusal, told_of_receiving, IsNew, KeepsNew};
 
@@ -29,14 +29,14 @@ mod pieces;
 mod slot;
 mod table;
 
-use lend::state;
+pub(crate) use lend::state;
 use slot::{Slot, put};
 
 /// A decoding end, and the fields of the section that it decoded last.
 #[derive(Drop)]
 pub struct State {
     end: ConnectionDecoder,
-    fields: FieldSection,
+    pub(crate) fields: FieldSection,
 }
 
 /// A decoding end that C keeps.
@@ -356,10 +356,11 @@ pub extern "C" fn h3q_decoder_next_ready(handle: &mut Handle, stream: &mut u64) 
     ready
 }
 
-/// Takes as many bytes of the decoder stream as the caller's memory has room for, and returns their number.
+/// Takes as many bytes of the decoder stream as the caller's memory has room for, and returns their number. At its end are
+/// increments for what was not reported yet, unless memory is refused for them.
 #[unsafe(no_mangle)]
 pub extern "C" fn h3q_decoder_stream(handle: &mut Handle, out: &mut [u8]) -> usize
-    ensures { TakesStream handle.old.value handle.new.value out.old out.new result }
+    ensures { TakesFront handle.old.value handle.new.value out.old out.new result }
 {
     let state = state(handle);
     let taken = take_stream(state, out);
@@ -368,21 +369,21 @@ pub extern "C" fn h3q_decoder_stream(handle: &mut Handle, out: &mut [u8]) -> usi
 
 /// Takes bytes as `h3q_decoder_stream` does, given what the handle keeps.
 fn take_stream(state: &mut State, out: &mut [u8]) -> usize
-    ensures { TakesStream state.old state.new out.old out.new result }
+    ensures { TakesFront state.old state.new out.old out.new result }
 {
     let taken = copy_front(state.end.decoder_stream(), out);
     state.end.sent(taken);
     taken
 }
 
-/// Returns how many bytes of the decoder stream are to be taken.
+/// Returns how many bytes of the decoder stream are to be taken, unless memory is refused.
 #[unsafe(no_mangle)]
 pub extern "C" fn h3q_decoder_stream_len(handle: &mut Handle) -> usize
     ensures same { handle.new.value ≡ handle.old.value }
-    ensures exact { result ≡ length handle.old.value.end.unsent.bytes }
+    ensures exact { result ≡ length (with_report (end_of handle.old.value.end)).unsent }
 {
     let state = state(handle);
-    let len = state.end.decoder_stream().len();
+    let len = state.end.decoder_stream_len();
     len
 }
 

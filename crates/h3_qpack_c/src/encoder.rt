@@ -1,15 +1,13 @@
 //! The encoding end of a handle.
 
 ghost use Rattle.h3_qpack_c.specs.declared.encoder.State.{State};
-ghost use Rattle.std.specs.Prelude.{◌≡◌, ◌<◌, ◌≤◌, ◌^◌, ◌++◌, [], pos, length, map, IfOk, IfErr, ℤ};
+ghost use Rattle.std.specs.Prelude.{◌≡◌, ◌<◌, ◌≤◌, ◌^◌, [], pos, length, map, IfOk, IfErr, ℤ};
 ghost use Rattle.qpack_ends.specs.declared.decoder.SettingsError.TheVariants.{CapacityTooLarge};
 ghost use Rattle.h3_qpack_c.specs.Crossing.{line_of_lent, wish_of_lent, copied, told_of_copy, Makes};
 ghost use Rattle.h3_qpack_c.specs.Encoding.{EncodesTo, HearsTo, SetsCapacityTo, TakesStream, told_of_hearing};
-ghost use Rattle.h3_qpack_c.specs.Encoding.{IsNew, KeepsNew, TakesPeerTo};
-ghost use Rattle.h3_qpack_c.specs.Lowering.{EncodesLowered, EncodesWaiting, ShrinksTo};
+ghost use Rattle.h3_qpack_c.specs.Encoding.{IsNew, KeepsNew, ShrinksTo, TakesPeerTo};
 ghost use Rattle.h3_qpack_c.specs.Crossing.{StoresOption};
-ghost use Rattle.qpack_ends.specs.declared.encoder.EncodingError.TheVariants.{Memory};
-ghost use Rattle.qpack_ends.specs.Encoders.{written_alone};
+ghost use Rattle.qpack_ends.specs.Encoders.{pending_capacity};
 ghost use Rattle.qpack_ends.specs.declared.encoder.EncoderSettings.{EncoderSettings};
 ghost use Rattle.qpack_ends.specs.Risk.{streams_at_risk};
 
@@ -17,7 +15,6 @@ use crate::answers::{Encoded, Received, Written};
 use crate::fields::{Field, copy_front, list_size, write};
 use crate::statuses::{DECODER_STREAM_ERROR, DONE, INVALID, NO_MEMORY, status_of_encoding};
 use qpack_base::coding::Cursor;
-use qpack_codec::encoder::encode_section_stateless;
 use qpack_ends::room::shrink_within;
 use qpack_ends::{ConnectionEncoder, EncoderSettings, EncodingError, SettingsError};
 use std::alloc::Global;
@@ -30,13 +27,11 @@ mod table;
 use lend::state;
 use slot::{Slot, put};
 
-/// An encoding end, the section that it encoded last, and a capacity that waits.
+/// An encoding end, and the section that it encoded last.
 #[derive(Drop)]
 pub struct State {
     end: ConnectionEncoder,
     section: Vec<u8>,
-    /// The capacity that the table gets once no entry that it evicts is needed, in bytes.
-    lower: Option<usize>,
 }
 
 /// An encoding end that C keeps.
@@ -73,7 +68,6 @@ fn begin(alloc: Global, settings: EncoderSettings) -> Result<State, SettingsErro
     Ok(State {
         end,
         section: Vec::new(alloc),
-        lower: None,
     })
 }
 
@@ -147,7 +141,7 @@ fn encode(state: &mut State, stream: u64, fields: &[Field], section: &mut [u8]) 
 {
     state.section.clear();
     shrink_within(&mut state.section, KEPT_ROOM);
-    match encode_section(state, stream, fields) {
+    match state.end.encode(stream, fields, &mut state.section) {
         Ok(required) => {
             let Written { status, len } = write(&state.section, section);
             Encoded {
@@ -165,58 +159,6 @@ fn encode(state: &mut State, stream: u64, fields: &[Field], section: &mut [u8]) 
         },
     }
 }
-
-/// Encodes a section to the memory that is kept for it, which is empty.
-#[inline(always)]
-fn encode_section(state: &mut State, stream: u64, fields: &[Field]) -> Result<usize, EncodingError>
-    requires { state.old.section.items ≡ [] }
-    ensures { EncodesLowered state.old.lower state.old state.new stream (map line_of_lent fields.now)
-        (map wish_of_lent fields.now) result }
-{
-    match state.lower {
-        Some(capacity) if stream < STREAMS => encode_waiting(state, capacity, stream, fields),
-        _ => state.end.encode(stream, fields, &mut state.section),
-    }
-}
-
-/// Encodes a section while a capacity waits, which the table gets before if it takes it. Else the section references no
-/// entry, and the end stays as it is.
-#[inline(never)]
-fn encode_waiting(
-    state: &mut State,
-    capacity: usize,
-    stream: u64,
-    fields: &[Field],
-) -> Result<usize, EncodingError>
-    requires empty { state.old.section.items ≡ [] }
-    requires stream { stream < 2 ^ 62 }
-    ensures { EncodesWaiting capacity state.old state.new stream (map line_of_lent fields.now)
-        (map wish_of_lent fields.now) result }
-{
-    match state.end.set_capacity(capacity) {
-        Ok(()) => {
-            state.lower = None;
-            state.end.encode(stream, fields, &mut state.section)
-        }
-        Err(EncodingError::EntriesHeld) => encode_alone(fields, &mut state.section),
-        Err(error) => Err(error),
-    }
-}
-
-/// Appends the section of fields that references no entry. Returns its required insert count, which is 0.
-fn encode_alone(fields: &[Field], section: &mut Vec<u8>) -> Result<usize, EncodingError>
-    ensures ok { IfOk result (λ required. (required ≡ 0)
-        × (section.new.items ≡ section.old.items ++ written_alone (map line_of_lent fields.now))) }
-    ensures err { IfErr result (λ e. (e ≡ Memory) × (section.new.items ≡ section.old.items)) }
-{
-    match encode_section_stateless(section, fields) {
-        Ok(()) => Ok(0),
-        Err(_) => Err(EncodingError::Memory),
-    }
-}
-
-/// Stream numbers are below this (RFC 9000, section 2.1).
-const STREAMS: u64 = 1 << 62;
 
 /// How much memory is kept for the next section, in bytes.
 const KEPT_ROOM: usize = 4096;
@@ -347,10 +289,7 @@ fn set_capacity(state: &mut State, capacity: usize) -> i32
     ensures { SetsCapacityTo state.old state.new capacity result }
 {
     match state.end.set_capacity(capacity) {
-        Ok(()) => {
-            state.lower = None;
-            DONE
-        }
+        Ok(()) => DONE,
         Err(error) => status_of_encoding(&error),
     }
 }
@@ -369,15 +308,8 @@ pub extern "C" fn h3q_encoder_shrink(handle: &mut Handle, capacity: usize) -> i3
 fn shrink(state: &mut State, capacity: usize) -> i32
     ensures { ShrinksTo state.old state.new capacity result }
 {
-    match state.end.set_capacity(capacity) {
-        Ok(()) => {
-            state.lower = None;
-            DONE
-        }
-        Err(EncodingError::EntriesHeld) => {
-            state.lower = Some(capacity);
-            DONE
-        }
+    match state.end.shrink(capacity) {
+        Ok(()) => DONE,
         Err(error) => status_of_encoding(&error),
     }
 }
@@ -386,12 +318,12 @@ fn shrink(state: &mut State, capacity: usize) -> i32
 #[unsafe(no_mangle)]
 pub extern "C" fn h3q_encoder_pending_capacity(handle: &mut Handle, capacity: &mut usize) -> u32
     ensures same { handle.new.value ≡ handle.old.value }
-    ensures tells { StoresOption handle.old.value.lower capacity.old capacity.new result }
+    ensures tells { StoresOption (pending_capacity handle.old.value.end) capacity.old capacity.new result }
 {
     let state = state(handle);
-    let waits = match state.lower {
-        Some(lower) => {
-            *capacity = lower;
+    let waits = match state.end.pending_capacity() {
+        Some(pending) => {
+            *capacity = pending;
             1
         }
         None => 0,

@@ -12,6 +12,7 @@ mod reader;
 mod stateless;
 mod statuses;
 mod tables;
+mod views;
 
 /// Returns the version of this interface, 0.2: 65,536 for each breaking change from 1.0 on, 1 for each addition.
 #[unsafe(no_mangle)]

@@ -4,6 +4,7 @@ ghost use Rattle.std.specs.Prelude.{◌≡◌, ◌⊎◌, ◌≤◌, ◌*◌, �
 ghost use Rattle.qpack_spec.specs.StrictReading.{strict_reading};
 ghost use Rattle.qpack_spec.specs.Table.{empty_table, window};
 ghost use Rattle.qpack_wire.specs.Memory.{AsksSectionForMemory};
+ghost use Rattle.qpack_ends.specs.FieldSections.{HoldsNothing};
 ghost use Rattle.qpack_ends.specs.Sections.{ReadsSection};
 ghost use Rattle.qpack_ends.specs.declared.section.SectionError.TheVariants.{Memory};
 ghost use Rattle.h3_qpack_c.specs.Alone.{DecodesAlone, GivesAlone, told_of_refusal};
@@ -83,7 +84,7 @@ fn read_alone(
     most_bytes: usize,
     fields: &mut FieldSection,
 ) -> Result<Reading, SectionError>
-    requires { fields.old ≡ record { fields = []; text_room = 0; fields_room = 0 } }
+    requires { HoldsNothing fields.old }
     ensures exact { ReadsSection result fields.new.fields (strict_reading (window (empty_table 0 None 0)) limit section.now) }
     ensures memory { result ≡ Err Memory → AsksSectionForMemory section.now }
     ensures text { fields.new.text_room ≤ max (min (2 * length section.now) most_bytes) limit }

@@ -24,7 +24,7 @@ use Rattle.qpack_safety.proofs.Invariant.{Invariant, KeepsBlock, sound_received,
 use Rattle.qpack_safety.proofs.TwoEnds.{holds_started, holds_behind}
 use Rattle.qpack_ends.specs.declared.section.Reading.TheVariants as reading
 use Rattle.qpack_connection.specs.ArrivedSections.{SectionsArrive}
-use Rattle.qpack_connection.specs.Connections.{SentSection, Connection, Call, Encode, SetCapacity, Hear, Receive}
+use Rattle.qpack_connection.specs.Connections.{SentSection, Connection, Call, Encode, SetCapacity, Shrink, Hear, Receive}
 use Rattle.qpack_connection.specs.Connections.{Decode, Cancel, Step, Run, next_of}
 use Rattle.qpack_ends.specs.Decoders as decoders
 use Rattle.qpack_connection.specs.RefinedConnections.{received_of, RefinesSection, RefinesSession}
@@ -60,8 +60,10 @@ call_grown (Encode s fields (Err e)) old new step =
     (step.encoder.unsent, ap (λ (c : Connection). c.encoder_stream.written) step.new_is)
 call_grown (SetCapacity n answer) old new step =
     (step.encoder.unsent, ap (λ (c : Connection). c.encoder_stream.written) step.new_is)
-call_grown (Hear many answer) old new step =
+call_grown (Shrink n answer) old new step =
     (step.encoder.unsent, ap (λ (c : Connection). c.encoder_stream.written) step.new_is)
+call_grown (Hear many answer) old new step =
+    (step.hears.encoder.unsent, ap (λ (c : Connection). c.encoder_stream.written) step.hears.new_is)
 call_grown (Receive many answer) old new step =
     none_grown old new (ap (λ (c : Connection). c.encoder_stream.written) step.new_is)
 call_grown (Decode s fields (Ok (reading.Fields required))) old new step =

@@ -11,7 +11,6 @@ use Rattle.qpack_spec.specs.Instruction.{DecoderInstruction}
 use Rattle.qpack_rules.specs.Session.{RequestStream, stream_at, with_stream, oldest_undecoded}
 use Rattle.qpack_spec.specs.StrictReading.{StrictReading, Read, Blocked, Refused, strict_reading}
 use Rattle.qpack_spec.specs.Table.{Table, insert_count, window}
-use Rattle.qpack_codec.specs.Receiving.{written_report}
 use Rattle.qpack_codec.specs.RequestStreams.{KeepsStreams, ChangesStream}
 use Rattle.qpack_connection.specs.declared.connection.Event.{Event}
 use Rattle.qpack_connection.specs.declared.connection.Event.TheVariants as event
@@ -30,14 +29,14 @@ use Rattle.qpack_ends.specs.declared.section.Reading.{Reading}
 use Rattle.qpack_ends.specs.declared.section.Reading.TheVariants as reading
 use Rattle.qpack_connection.specs.ConnectionEvents.{connection_of, Shows, IsReached, HasBytes, decoded_with}
 use Rattle.qpack_connection.specs.ConnectionEvents.{SendsAmong, decode_skip, cancel_skip, Makes, Goes}
-use Rattle.qpack_connection.specs.Connections.{Wire, SentSection, Connection, Encode, SetCapacity}
+use Rattle.qpack_connection.specs.Connections.{Wire, SentSection, Connection, HearsOn, Encode, SetCapacity, Shrink}
 use Rattle.qpack_connection.specs.Connections.{with_encoder, with_decoder, with_section, with_reading}
 use Rattle.qpack_connection.specs.Connections.{with_cancelled, behind_received}
-use Rattle.qpack_ends.specs.Decoders.{DecodingEnd, DecoderView, end_of, Decodes, Cancels, EndsReceiving}
+use Rattle.qpack_ends.specs.Decoders.{DecodingEnd, DecoderView, end_of, IsTaken, Decodes, Cancels, EndsReceiving}
 use Rattle.qpack_ends.specs.Decoders.{AsksBehind, AsksToDecode, NeedsMemoryBehind, NeedsMemoryToDecode}
 use Rattle.qpack_ends.specs.FieldSections.{SectionView}
 use Rattle.qpack_ends.specs.Decoders as decoders
-use Rattle.qpack_ends.specs.Encoders.{EncodingEnd, SetsCapacity}
+use Rattle.qpack_ends.specs.Encoders.{EncodingEnd, SetsCapacity, Shrinks}
 use Rattle.qpack_ends.specs.Encoders as encoders
 use Rattle.qpack_ends.specs.Hearing as hearing
 use Rattle.qpack_ends.specs.Receiving as receiving
@@ -160,6 +159,17 @@ module _ (e e' : EncodingEnd) (d : DecodingEnd) (er dr : ℕ) (ps qs : List (ℕ
         shows = encoder_shown _ f ps keeps;
       }
 
+  shrink_makes : (n : ℕ) (answer : Result ⊤ EncodingError) → Shrinks e e' n answer → KeepsStreams qs ps
+      → Makes (Shrink n answer) old new
+  shrink_makes n answer call keeps =
+      let f = encoder.shrink_framed e e' n answer call in
+      record {
+        next = with_encoder (encoder.with_unsent f.more e') old;
+        step = record { encoder = encoder.with_unsent f.more e'; call = f.call; new_is = refl };
+        fits = tt;
+        shows = encoder_shown _ f ps keeps;
+      }
+
   pub encode_goes : (now : Connection) (s : ℕ) (fields : Vec OwnedFieldLine Global) (answer : Result ℕ EncodingError)
       → old ≡ now → SendsAmong s (lines_of fields.items) e e' ps qs answer
       → Goes now new (event.Encode s fields) (outcome.Encoded answer)
@@ -175,13 +185,21 @@ capacity_goes e e' d er dr ps now n answer same call =
     goes_from (connection_of e d er dr ps) now (connection_of e' d er dr ps) (event.SetCapacity n)
     (outcome.CapacitySet answer) same (refl, capacity_makes e e' d er dr ps ps n answer call (λ q. refl))
 
+pub shrink_goes : (e e' : EncodingEnd) (d : DecodingEnd) (er dr : ℕ) (ps : List (ℕ × RequestStream SentSection))
+    (now : Connection) (n : ℕ) (answer : Result ⊤ EncodingError) → connection_of e d er dr ps ≡ now
+    → Shrinks e e' n answer
+    → Goes now (connection_of e' d er dr ps) (event.Shrink n) (outcome.CapacitySet answer)
+shrink_goes e e' d er dr ps now n answer same call =
+    goes_from (connection_of e d er dr ps) now (connection_of e' d er dr ps) (event.Shrink n)
+    (outcome.CapacitySet answer) same (refl, shrink_makes e e' d er dr ps ps n answer call (λ q. refl))
+
 -- ---- what an encoding end hears
 
-module _ (e e' : EncodingEnd) (d : DecodingEnd) (er dr : ℕ) (ps : List (ℕ × RequestStream SentSection))
+module _ (e e' : EncodingEnd) (d d' : DecodingEnd) (er dr : ℕ) (ps : List (ℕ × RequestStream SentSection))
     (many : ℕ) (left : List ℕ) (answer : Result ⊤ EncodingError) where
   abbrev HearsSo : EncodingEnd → EncodingEnd → Type 0
   HearsSo x y = (heard : List DecoderInstruction) (before : List ℕ) → hearing.Receives heard before x.stream
-      → encoders.ReceivesBytes heard before x y (take many (drop dr d.unsent)) answer
+      → encoders.ReceivesBytes heard before x y (take many (drop dr d'.unsent)) answer
 
   hearing_still : (a : Result ⊤ EncodingError) (heard : List DecoderInstruction) (before bytes : List ℕ)
       → encoders.ReceivesBytes heard before e e' bytes a → e'.unsent ≡ e.unsent
@@ -208,81 +226,88 @@ module _ (e e' : EncodingEnd) (d : DecodingEnd) (er dr : ℕ) (ps : List (ℕ ×
   hearing_framed (Err encoding.MaximumTooLarge) heard before bytes r = absurd r
   hearing_framed (Err encoding.Memory) heard before bytes r = absurd r
 
-  hear_makes : (position : ℕ) → IsReached (connection_of e d er dr ps)
+  hear_makes : (position : ℕ) → IsReached (connection_of e d er dr ps) → IsTaken d d'
       → (e.failure ≡ None → HearsSo e e') → (e.failure ≡ None → left ≡ [])
-      → position + length left ≡ length (take many (drop dr d.unsent))
-      → Goes (connection_of e d er dr ps) (connection_of e' d er (dr + position) ps) (event.ToEncoder many)
+      → position + length left ≡ length (take many (drop dr d'.unsent))
+      → Goes (connection_of e d er dr ps) (connection_of e' d' er (dr + position) ps) (event.ToEncoder many)
       (outcome.Heard answer)
-  hear_makes position at receives none_left counts =
+  hear_makes position at takes receives none_left counts =
       let k = (reached_holds (connection_of e d er dr ps) at).kept in
       let alive = k.alive.encoder in
-      let bytes = take many (drop dr d.unsent) in
+      let bytes = take many (drop dr d'.unsent) in
       let still = hearing_still answer k.refines.heard _ bytes
       (receives alive k.refines.heard _ k.refines.hears) in
-      let moved : dr + (length bytes - length left) ≡ dr + position = omega (arith, counts) in (
+      let moved : dr + (length bytes - length left) ≡ dr + position = omega (arith, counts) in
+      let adds = decoder.taken_framed d d' takes in
+      let taken = connection_of e d' er dr ps in
+      let is : taken ≡ with_decoder (decoder.with_unsent adds.more d') (connection_of e d er dr ps) =
+      ap (λ (b : List ℕ). let x : Connection = record taken {
+        decoder_stream = record { written = b; received = dr };
+      } in x) adds.written in
+      let next : Connection = record (with_encoder (encoder.with_unsent [] e') taken) {
+        decoder_stream = behind_received (length bytes - length left) (record { written = d'.unsent; received = dr });
+      } in
+      let hears : HearsOn taken next many answer = record {
+        encoder = encoder.with_unsent [] e';
+        left = left;
+        receives = λ none heard before h. hearing_framed answer heard before bytes (receives none heard before h);
+        nothing_left = none_left;
+        ended = subst (λ (o : Option EncodingError). IfSome o (λ x. (answer ≡ Err x)
+            × (encoder.with_unsent [] e' ≡ encoder.with_unsent [] e) × (left ≡ bytes))) (sym alive) tt;
+        new_is = refl;
+      } in (
         refl,
         record {
-          next = record (with_encoder (encoder.with_unsent [] e') (connection_of e d er dr ps)) {
-            decoder_stream = behind_received (length bytes - length left)
-                (record { written = d.unsent; received = dr });
-          };
+          next = next;
           step = record {
-            encoder = encoder.with_unsent [] e';
-            left = left;
-            receives = λ none heard before h. hearing_framed answer heard before bytes (receives none heard before h);
-            nothing_left = none_left;
-            ended = subst (λ (o : Option EncodingError). IfSome o (λ x. (answer ≡ Err x)
-                × (encoder.with_unsent [] e' ≡ encoder.with_unsent [] e) × (left ≡ bytes))) (sym alive) tt;
-            new_is = refl;
+            decoder = decoder.with_unsent adds.more d';
+            takes = adds.call;
+            hears = subst (λ (x : Connection). HearsOn x next many answer) is hears;
           };
           fits = tt;
           shows = record {
             encoder = refl;
             decoder = refl;
             encoder_stream = wire_is (e.unsent ++ []) e'.unsent er (append-nil e.unsent ∙ sym still);
-            decoder_stream = ap (λ (n : ℕ). let w : Wire = record { written = d.unsent; received = n } in w) moved;
+            decoder_stream = ap (λ (n : ℕ). let w : Wire = record { written = d'.unsent; received = n } in w) moved;
             streams = λ n. refl;
           };
         },
       )
 
-  pub hear_goes : (now : Connection) (position : ℕ) → connection_of e d er dr ps ≡ now → IsReached now
+  pub hear_goes : (now : Connection) (position : ℕ) → connection_of e d er dr ps ≡ now → IsReached now → IsTaken d d'
       → (e.failure ≡ None → HearsSo e e') → (e.failure ≡ None → left ≡ [])
-      → position + length left ≡ length (take many (drop dr d.unsent))
-      → Goes now (connection_of e' d er (dr + position) ps) (event.ToEncoder many) (outcome.Heard answer)
-  hear_goes now position same at receives none_left counts =
-      goes_from (connection_of e d er dr ps) now (connection_of e' d er (dr + position) ps) (event.ToEncoder many)
-      (outcome.Heard answer) same (hear_makes position (subst IsReached (sym same) at) receives none_left counts)
+      → position + length left ≡ length (take many (drop dr d'.unsent))
+      → Goes now (connection_of e' d' er (dr + position) ps) (event.ToEncoder many) (outcome.Heard answer)
+  hear_goes now position same at takes receives none_left counts =
+      goes_from (connection_of e d er dr ps) now (connection_of e' d' er (dr + position) ps) (event.ToEncoder many)
+      (outcome.Heard answer) same
+      (hear_makes position (subst IsReached (sym same) at) takes receives none_left counts)
 
 -- ---- what a decoding end receives
 
 module _ (e : EncodingEnd) (d d' : DecodingEnd) (er dr : ℕ) (ps : List (ℕ × RequestStream SentSection))
     (many : ℕ) (left : List ℕ) where
-  -- what a call adds to what was written: increments for all that is not reported, or nothing
-  abbrev added_of : Result ℕ DecodingError → List ℕ
-  added_of (Ok total) = written_report (insert_count d'.table - d.reported)
-  added_of (Err x) = []
-
+  -- it writes nothing
   ends_still : (taken : Result ⊤ EncoderStreamError) (r : Result ℕ DecodingError)
-      → EndsReceiving (decoders.received d'.table d'.stream d) d' taken r → d'.unsent ≡ d.unsent ++ added_of r
+      → EndsReceiving (decoders.received d'.table d'.stream d) d' taken r → d'.unsent ≡ d.unsent
   ends_still (Ok it) (Ok total) ends = ap (λ (y : DecodingEnd). y.unsent) ends.1
-  ends_still (Ok it) (Err x) ends = ap (λ (y : DecodingEnd). y.unsent) ends.2 ∙ sym (append-nil d.unsent)
+  ends_still (Ok it) (Err x) ends = absurd ends
   ends_still (Err y) (Ok total) ends = absurd (let z : Ok total ≡ Err (decoders.stream_failure y) = ends.0 in cc)
-  ends_still (Err y) (Err x) ends = ap (λ (y : DecodingEnd). y.unsent) ends.1 ∙ sym (append-nil d.unsent)
+  ends_still (Err y) (Err x) ends = ap (λ (y : DecodingEnd). y.unsent) ends.1
 
   ends_framed : (taken : Result ⊤ EncoderStreamError) (r : Result ℕ DecodingError)
       → EndsReceiving (decoders.received d'.table d'.stream d) d' taken r
-      → EndsReceiving (decoders.received d'.table d'.stream (decoder.with_unsent [] d))
-      (decoder.with_unsent (added_of r) d') taken r
-  ends_framed (Ok it) (Ok total) ends = (ends.0, ap (decoder.with_unsent (added_of (Ok total))) ends.1)
-  ends_framed (Ok it) (Err x) ends = (ends.0, ends.1, ap (decoder.with_unsent []) ends.2)
+      → EndsReceiving (decoders.received d'.table d'.stream (decoder.with_unsent [] d)) (decoder.with_unsent [] d') taken
+      r
+  ends_framed (Ok it) (Ok total) ends = (ends.0, ap (decoder.with_unsent []) ends.1)
+  ends_framed (Ok it) (Err x) ends = absurd ends
   ends_framed (Err y) (Ok total) ends = absurd (let z : Ok total ≡ Err (decoders.stream_failure y) = ends.0 in cc)
   ends_framed (Err y) (Err x) ends = (ends.0, ap (decoder.with_unsent []) ends.1)
 
   receive_framed : (start : Table) (before bytes : List ℕ) (r : Result ℕ DecodingError)
       → decoders.ReceivesBytes start before d d' bytes left r
-      → decoders.ReceivesBytes start before (decoder.with_unsent [] d) (decoder.with_unsent (added_of r) d') bytes left
-      r
+      → decoders.ReceivesBytes start before (decoder.with_unsent [] d) (decoder.with_unsent [] d') bytes left r
   receive_framed start before bytes r k =
       record { taken = k.taken; stream = k.stream; ends = ends_framed k.taken r k.ends }
 
@@ -297,20 +322,20 @@ module _ (e : EncodingEnd) (d d' : DecodingEnd) (er dr : ℕ) (ps : List (ℕ ×
       let alive = k.alive.decoder in
       let bytes = take many (drop er e.unsent) in
       let one = receives alive _ _ k.refines.received in
-      let added = ends_still one.taken answer one.ends in
+      let still = ends_still one.taken answer one.ends in
       let moved : er + (length bytes - length left) ≡ er + position = omega (arith, counts) in (
         refl,
         record {
-          next = record (with_decoder (decoder.with_unsent (added_of answer) d') (connection_of e d er dr ps)) {
+          next = record (with_decoder (decoder.with_unsent [] d') (connection_of e d er dr ps)) {
             encoder_stream = behind_received (length bytes - length left)
                 (record { written = e.unsent; received = er });
           };
           step = record {
-            decoder = decoder.with_unsent (added_of answer) d';
+            decoder = decoder.with_unsent [] d';
             left = left;
             receives = λ none start before h. receive_framed start before bytes answer (receives none start before h);
             ended = subst (λ (o : Option DecodingError). IfSome o (λ x. (answer ≡ Err x)
-                × (decoder.with_unsent (added_of answer) d' ≡ decoder.with_unsent [] d) × (left ≡ bytes)))
+                × (decoder.with_unsent [] d' ≡ decoder.with_unsent [] d) × (left ≡ bytes)))
                 (sym alive) tt;
             new_is = refl;
           };
@@ -319,7 +344,7 @@ module _ (e : EncodingEnd) (d d' : DecodingEnd) (er dr : ℕ) (ps : List (ℕ ×
             encoder = refl;
             decoder = refl;
             encoder_stream = ap (λ (n : ℕ). let w : Wire = record { written = e.unsent; received = n } in w) moved;
-            decoder_stream = wire_is (d.unsent ++ added_of answer) d'.unsent dr (sym added);
+            decoder_stream = wire_is (d.unsent ++ []) d'.unsent dr (append-nil d.unsent ∙ sym still);
             streams = λ n. refl;
           };
         },

@@ -5,29 +5,19 @@ use Rattle.std.proofs.Common.{Some, IfSome, sym, ap, subst, ◌∙◌, arith}
 use Rattle.std.specs.Option.{IsSome}
 use Rattle.std.specs.Prelude.{nat_eq}
 use Rattle.qpack_spec.specs.Table.{Table}
+use Rattle.qpack_spec.specs.Window.{greatest_capacity}
 use Rattle.qpack_ends.specs.declared.encoder.EncoderSettings.{EncoderSettings}
 use Rattle.qpack_ends.specs.declared.encoder.EncodingError.{EncodingError}
 use Rattle.qpack_ends.specs.Encoders.{EncodingEnd, Starts, IsUnused, IsSound, IsToBeTold, begun, WritesSection, WritesAlone}
 use Rattle.qpack_ends.specs.Encoders.{ReceivesBytes, Encodes, SetsIt, first_capacity}
 use Rattle.qpack_ends.specs.Encoders as encoders
 
--- the first capacity is one that the table takes
-first_told : (d : EncodingEnd) (n most : ℕ) → n ≤ most → most < 2 ^ 30 → d.settings.max_capacity ≡ most
-    → d.table.agreed_max ≡ Some most → d.table.live ≡ [] → IsToBeTold d n
-first_told d n most within small settings agreed nothing =
-    record {
-      within = omega (arith, within, settings);
-      small = omega (arith, small, settings);
-      agreed = agreed ∙ ap (λ (m : ℕ). Some m) (sym settings);
-      nothing_live = nothing;
-    }
-
-first_wanted : (d : EncodingEnd) (n most : ℕ) (b : Bool) → n ≤ most → most < 2 ^ 30 → d.settings.max_capacity ≡ most
-    → d.table.agreed_max ≡ Some most → d.table.live ≡ []
+-- the first capacity is within the maximum
+first_wanted : (d : EncodingEnd) (n most : ℕ) (b : Bool) → n ≤ most → most < 2 ^ 30 → d.table.agreed_max ≡ Some most
     → IfSome (cond b None (Some n)) (λ m. IsToBeTold d m)
-first_wanted d n most true within small settings agreed nothing = tt
-first_wanted d n most false within small settings agreed nothing =
-    first_told d n most within small settings agreed nothing
+first_wanted d n most true within small agreed = tt
+first_wanted d n most false within small agreed =
+    subst (λ (o : Option ℕ). n ≤ greatest_capacity o) (sym agreed) (omega (arith, within, small))
 
 -- a new end is unused
 pub unused_first : (settings : EncoderSettings) (d : EncodingEnd) → Starts settings d → IsUnused settings d
@@ -48,8 +38,7 @@ sound_first s d e =
       wanted = subst (λ (o : Option ℕ). IfSome o (λ m. IsToBeTold d m)) (sym e.wanted)
           (first_wanted d (min s.capacity s.max_capacity) s.max_capacity
           (nat_eq (min s.capacity s.max_capacity) 0) (omega arith) e.capacity_in_range
-          (ap (λ x. x.max_capacity) e.settings_are) (ap (λ (t : Table). t.agreed_max) e.table)
-          (ap (λ (t : Table). t.live) e.table));
+          (ap (λ (t : Table). t.agreed_max) e.table));
       stream = λ none. e.stream;
       failure = subst (λ (o : Option EncodingError). IfSome o (λ x. IsSome (encoders.code_of x))) (sym e.failure) tt;
     }

@@ -11,7 +11,8 @@ use Rattle.qpack_ends.specs.declared.decoder.DecodingError.{DecodingError}
 use Rattle.qpack_ends.specs.declared.decoder.DecodingError.TheVariants as decoding
 use Rattle.qpack_ends.specs.declared.section.Reading.{Reading}
 use Rattle.qpack_ends.specs.declared.section.Reading.TheVariants as reading
-use Rattle.qpack_ends.specs.Decoders.{DecodingEnd, unreported, with_report, acknowledged, GivesReading}
+use Rattle.qpack_ends.specs.Decoders.{DecodingEnd, unreported, with_report, report_before, IsTaken, acknowledged}
+use Rattle.qpack_ends.specs.Decoders.{GivesReading, StopsBehindReport}
 use Rattle.qpack_ends.specs.Decoders.{StopsForMemory, StopsDecoding, IsNotAnswered, Checks, Decodes, Cancels}
 
 -- the end with other bytes that are to be sent
@@ -42,7 +43,7 @@ module _ (d d' : DecodingEnd) (s : ℕ) (read : StrictReading) (fields : List Fi
       still_adds d d' (IsDecode (Ok (reading.Fields 0))) (ap (λ (y : DecodingEnd). y.unsent) same)
       (checks, (reads, ap (with_unsent []) same))
   fields_framed (suc required) checks reads same =
-      let report = written_report (unreported d) in
+      let report = report_before (suc required) d in
       let ack = written_decoder_instruction (Acknowledgment s) in
       record {
         more = report ++ ack;
@@ -66,15 +67,15 @@ module _ (d d' : DecodingEnd) (s : ℕ) (read : StrictReading) (fields : List Fi
       still_adds d d' (λ y z. z ≡ y) (ap (λ (y : DecodingEnd). y.unsent) same) (ap (with_unsent []) same)
   memory_framed (Read fs (suc required)) stops = either stops
     where
-      either : (d' ≡ d) ⊎ (d' ≡ with_report d) → Adds d d' (λ y z. (z ≡ y) ⊎ (z ≡ with_report y))
+      either : StopsBehindReport d d' (suc required) → Adds d d' (λ y z. StopsBehindReport y z (suc required))
       either (inl same) =
-          still_adds d d' (λ y z. (z ≡ y) ⊎ (z ≡ with_report y)) (ap (λ (y : DecodingEnd). y.unsent) same)
+          still_adds d d' (λ y z. StopsBehindReport y z (suc required)) (ap (λ (y : DecodingEnd). y.unsent) same)
           (inl (ap (with_unsent []) same))
-      either (inr same) =
+      either (inr (more, same)) =
           record {
             more = written_report (unreported d);
             written = ap (λ (y : DecodingEnd). y.unsent) same;
-            call = inr (ap (with_unsent (written_report (unreported d))) same);
+            call = inr (more, ap (with_unsent (written_report (unreported d))) same);
           }
   memory_framed (Blocked required) same =
       still_adds d d' (λ y z. z ≡ y) (ap (λ (y : DecodingEnd). y.unsent) same) (ap (with_unsent []) same)
@@ -136,3 +137,16 @@ module _ (d d' : DecodingEnd) (s : ℕ) where
         call = (call.0, ap (with_unsent more) call.1);
       }
   cancel_framed (Err x) call = refused_cancel x call
+
+-- ---- the stream is taken
+
+pub taken_framed : (d d' : DecodingEnd) → IsTaken d d' → Adds d d' IsTaken
+taken_framed d d' (inl reports) =
+    let report = written_report (unreported d) in
+    record {
+      more = report;
+      written = ap (λ (y : DecodingEnd). y.unsent) reports;
+      call = inl (ap (with_unsent report) reports);
+    }
+taken_framed d d' (inr same) =
+    still_adds d d' IsTaken (ap (λ (y : DecodingEnd). y.unsent) same) (inr (ap (with_unsent []) same))

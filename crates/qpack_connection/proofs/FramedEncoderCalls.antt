@@ -9,7 +9,10 @@ use Rattle.qpack_spec.specs.Chosen.{chosen_rule}
 use Rattle.qpack_spec.specs.Text.{WhereShorter}
 use Rattle.qpack_ends.specs.declared.encoder.EncodingError.{EncodingError}
 use Rattle.qpack_ends.specs.declared.encoder.EncodingError.TheVariants.{Memory}
-use Rattle.qpack_ends.specs.Encoders.{EncodingEnd, begun, begun_with, WritesSection, WritesAlone, GivesUpSection}
+use Rattle.qpack_spec.specs.Table.{Table, with_capacity}
+use Rattle.qpack_spec.specs.Window.{TableRefusal, DoesNotFit}
+use Rattle.qpack_ends.specs.Encoders.{EncodingEnd, begun, begun_with, told_if, waiting, WritesSection, WritesAlone}
+use Rattle.qpack_ends.specs.Encoders.{GivesUpSection, Shrinks}
 use Rattle.qpack_ends.specs.Encoders.{AsksFirst, StopsForMemory, Encodes, SetsIt, SetsCapacity, TellsCapacity}
 use Rattle.qpack_ends.specs.Encoders.{IsNoCapacity}
 use Rattle.qpack_ends.specs.Encoders.{Checks}
@@ -34,18 +37,24 @@ unchanged_adds e e' Call same call =
       call = call (ap (with_unsent []) same);
     }
 
--- ---- the capacity that is told before the first section
+-- ---- the capacity that waits
 
 record Begun (d : EncodingEnd) : Type 0 where
   more : List ℕ
   written : (begun d).unsent ≡ d.unsent ++ more
   same : begun (with_unsent [] d) ≡ with_unsent more (begun d)
 
+told_by : (n : ℕ) (d : EncodingEnd) (r : Result Table TableRefusal)
+    → (more : List ℕ) × ((told_if n d r).unsent ≡ d.unsent ++ more)
+    × (told_if n (with_unsent [] d) r ≡ with_unsent more (told_if n d r))
+told_by n d (Ok t) = (written_encoder_instruction (SetCapacity n), refl, refl)
+told_by n d (Err e) = ([], sym (append-nil d.unsent), refl)
+
 begun_by : (o : Option ℕ) (d : EncodingEnd)
     → (more : List ℕ) × ((begun_with o d).unsent ≡ d.unsent ++ more)
     × (begun_with o (with_unsent [] d) ≡ with_unsent more (begun_with o d))
 begun_by None d = ([], sym (append-nil d.unsent), refl)
-begun_by (Some n) d = (written_encoder_instruction (SetCapacity n), refl, refl)
+begun_by (Some n) d = told_by n d (with_capacity d.table n)
 
 begun_framed : (d : EncodingEnd) → Begun d
 begun_framed d = let b = begun_by d.wanted d in record { more = b.0; written = b.1; same = b.2 }
@@ -87,7 +96,7 @@ module _ (e e' : EncodingEnd) (s : ℕ) (fields : List FieldLine) (section : Lis
     ap (λ (y : EncodingEnd). y.unsent) w.new_is ∙ b.written,
     subst (λ (x : EncodingEnd). WritesAlone x (with_unsent b.more e') fields [] section required) (sym b.same)
         (record {
-          full = w.full;
+          alone = w.alone;
           required_is = w.required_is;
           section = w.section;
           new_is = ap (with_unsent b.more) w.new_is;
@@ -198,3 +207,25 @@ module _ (e e' : EncodingEnd) (n : ℕ) where
   pub capacity_framed : (answer : Result ⊤ EncodingError) → SetsCapacity e e' n answer → Adds e e' (IsSetting answer)
   capacity_framed (Ok it) call = set_framed call.0 call.1
   capacity_framed (Err x) call = refused_set x call
+
+  abbrev IsShrink : Result ⊤ EncodingError → EncodingEnd → EncodingEnd → Type 0
+  IsShrink answer x y = Shrinks x y n answer
+
+  shrunk_framed : e.failure ≡ None
+      → SetsIt e e' n ⊎ ((with_capacity e.table n ≡ Err DoesNotFit) × (e' ≡ waiting n e))
+      → Adds e e' (IsShrink (Ok tt))
+  shrunk_framed alive (inl sets) =
+      let f = set_framed alive sets in
+      record { more = f.more; written = f.written; call = (f.call.0, inl f.call.1) }
+  shrunk_framed alive (inr waits) =
+      record {
+        more = [];
+        written = ap (λ (y : EncodingEnd). y.unsent) waits.1 ∙ sym (append-nil e.unsent);
+        call = (alive, inr (waits.0, ap (with_unsent []) waits.1));
+      }
+
+  pub shrink_framed : (answer : Result ⊤ EncodingError) → Shrinks e e' n answer → Adds e e' (IsShrink answer)
+  shrink_framed (Ok it) call = shrunk_framed call.0 call.1
+  shrink_framed (Err x) call =
+      let f = refused_set x call.1 in
+      record { more = f.more; written = f.written; call = (call.0, f.call) }

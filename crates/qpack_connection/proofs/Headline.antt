@@ -15,7 +15,7 @@ use Rattle.qpack_connection.proofs.FollowedRuns.{follows_none}
 use Rattle.qpack_connection.proofs.HandedStreams.{IsStream, none_handed, decode_skipped, cancel_answers, cancel_skipped}
 use Rattle.qpack_connection.proofs.ReachedConnections.{shows_itself}
 use Rattle.qpack_connection.proofs.HeadlineEnds.{Kept, shown}
-use Rattle.qpack_connection.proofs.HeadlineEvents.{Right, encoded, capacity_set, heard, delivered, decoded, cancelled}
+use Rattle.qpack_connection.proofs.HeadlineEvents.{Right, encoded, capacity_set, shrunk, heard, delivered, decoded, cancelled}
 
 module _ (settings : ConnectionSettings) (first : Connection) (begins : BeginsWith settings first) where
   right_shown : (h : SoFar) (e : Event) (o : Outcome) (old new : Connection) → Right settings first begins h e o old
@@ -34,6 +34,7 @@ module _ (settings : ConnectionSettings) (first : Connection) (begins : BeginsWi
   )
   skipped h old new (event.Encode s fields) why k g = absurd (let x = g.0 in cc)
   skipped h old new (event.SetCapacity n) why k g = absurd (let x = g.0 in cc)
+  skipped h old new (event.Shrink n) why k g = absurd (let x = g.0 in cc)
   skipped h old new (event.ToDecoder many) why k g = absurd (let x = g.0 in cc)
   skipped h old new (event.ToEncoder many) why k g = absurd (let x = g.0 in cc)
 
@@ -47,6 +48,7 @@ module _ (settings : ConnectionSettings) (first : Connection) (begins : BeginsWi
   )
   no_room h old new (event.Decode s) k g = absurd g.1
   no_room h old new (event.SetCapacity n) k g = absurd g.1
+  no_room h old new (event.Shrink n) k g = absurd g.1
   no_room h old new (event.ToDecoder many) k g = absurd g.1
   no_room h old new (event.ToEncoder many) k g = absurd g.1
 
@@ -72,6 +74,15 @@ module _ (settings : ConnectionSettings) (first : Connection) (begins : BeginsWi
   event_right h old new (event.SetCapacity n) (outcome.Heard r) k g = absurd g.1
   event_right h old new (event.SetCapacity n) (outcome.Decoded r lines) k g = absurd g.1
   event_right h old new (event.SetCapacity n) (outcome.Cancelled r) k g = absurd g.1
+  event_right h old new (event.Shrink n) (outcome.Encoded r) k g = absurd g.1
+  event_right h old new (event.Shrink n) (outcome.CapacitySet r) k g =
+      let m = g.1 in
+      right_shown h (event.Shrink n) (outcome.CapacitySet r) m.next new
+      (shrunk settings first begins h old m.next n r m.step m.fits k) m.shows
+  event_right h old new (event.Shrink n) (outcome.Delivered r) k g = absurd g.1
+  event_right h old new (event.Shrink n) (outcome.Heard r) k g = absurd g.1
+  event_right h old new (event.Shrink n) (outcome.Decoded r lines) k g = absurd g.1
+  event_right h old new (event.Shrink n) (outcome.Cancelled r) k g = absurd g.1
   event_right h old new (event.ToDecoder many) (outcome.Encoded r) k g = absurd g.1
   event_right h old new (event.ToDecoder many) (outcome.CapacitySet r) k g = absurd g.1
   event_right h old new (event.ToDecoder many) (outcome.Delivered r) k g =

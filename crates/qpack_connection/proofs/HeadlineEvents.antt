@@ -17,7 +17,8 @@ use Rattle.qpack_ends.specs.FieldSections.{SectionView}
 use Rattle.qpack_ends.specs.Blocked.{without, with_blocked}
 use Rattle.qpack_ends.specs.Decoders.{DecodingEnd, acknowledged, blocked_streams}
 use Rattle.qpack_ends.specs.Decoders as decoders
-use Rattle.qpack_ends.specs.Encoders.{EncodingEnd, SetsCapacity, StopsTelling}
+use Rattle.qpack_ends.specs.Encoders.{EncodingEnd, SetsIt, SetsCapacity, Shrinks, StopsTelling}
+use Rattle.qpack_ends.proofs.Encoders.{held_within}
 use Rattle.qpack_ends.specs.Encoders as encoders
 use Rattle.qpack_ends.specs.declared.blocked.BlockedStream.{BlockedStream}
 use Rattle.qpack_ends.specs.declared.decoder.DecoderSettings.{DecoderSettings}
@@ -35,8 +36,8 @@ use Rattle.qpack_connection.specs.declared.connection.Outcome.{Outcome}
 use Rattle.qpack_connection.specs.declared.connection.Outcome.TheVariants as outcome
 use Rattle.qpack_connection.specs.declared.connection.fields.OwnedFieldLine.{OwnedFieldLine}
 use Rattle.qpack_connection.specs.ConnectionEvents.{BeginsWith, cancel_skip}
-use Rattle.qpack_connection.specs.Connections.{SentSection, Connection, Call, Encode, SetCapacity, Hear, Receive}
-use Rattle.qpack_connection.specs.Connections.{Decode, Cancel, Step, next_of}
+use Rattle.qpack_connection.specs.Connections.{SentSection, Connection, Call, Encode, SetCapacity, Shrink, Hear, Receive}
+use Rattle.qpack_connection.specs.Connections.{Decode, Cancel, Step, next_of, with_decoder}
 use Rattle.qpack_connection.specs.Headline.{SoFar, least_of, others, after, Answers, AnswersCapacity, AnswersDelivery}
 use Rattle.qpack_connection.specs.Headline.{AnswersSection}
 use Rattle.qpack_connection.specs.OwnedLines.{lines_of}
@@ -51,6 +52,7 @@ use Rattle.qpack_connection.proofs.FollowedRuns.{Follows, IsSent, follows_call, 
 use Rattle.qpack_connection.proofs.FollowedRuns.{all_arrive}
 use Rattle.qpack_connection.proofs.HandedStreams.{AreStreams, handed_of, one_handed, one_decoded, now_cancelled}
 use Rattle.qpack_connection.proofs.HandedStreams.{one_changed, is_number, decode_answers, cancel_answers}
+use Rattle.qpack_connection.proofs.KeptEncoderCalls.{taken_same}
 use Rattle.qpack_connection.proofs.TakenInstructions.{received_grows}
 use Rattle.qpack_connection.proofs.TwoEndsHeadline.{step_kept, kept_within}
 use Rattle.qpack_connection.proofs.HeadlineEnds.{IsDecoder, still_decoder, received_keeps, acknowledged_keeps_table}
@@ -182,6 +184,17 @@ module _ (settings : ConnectionSettings) (first : Connection) (begins : BeginsWi
       why alive (inr (checks, memory, stops)) = inl (memory, checks.1)
 
   -- a capacity
+  never_held : (bound n : ℕ) (x : EncodingError) → (x ≡ encoding.EntriesHeld → ⊥)
+      → AnswersCapacity true bound n (Err x) → AnswersCapacity false bound n (Err x)
+  never_held bound n encoding.EntriesHeld goes right = absurd (goes refl)
+  never_held bound n encoding.Memory goes right = right
+  never_held bound n encoding.CapacityTooLarge goes right = right
+  never_held bound n (encoding.NoStream q) goes right = absurd right
+  never_held bound n encoding.MaximumChanged goes right = absurd right
+  never_held bound n encoding.LimitLowered goes right = absurd right
+  never_held bound n encoding.MaximumTooLarge goes right = absurd right
+  never_held bound n (encoding.DecoderStream y) goes right = absurd right
+
   has_entries : (t : Table) (n : ℕ) (b : Bool) → (b ≡ false → t.live ≡ []) → with_capacity t n ≡ Err DoesNotFit
       → b ≡ true
   has_entries t n true empty held = refl
@@ -235,26 +248,73 @@ module _ (settings : ConnectionSettings) (first : Connection) (begins : BeginsWi
             ∙ capacity_empty old.encoder step.encoder n r step.call (k.empty none)),
       )
 
+  -- one that may wait
+  shrink_right : (old : Connection) (e : EncodingEnd) (n : ℕ) (r : Result ⊤ EncodingError)
+      → greatest_capacity old.encoder.table.agreed_max ≡ settings.decoder.max_capacity → IsOpen old
+      → Shrinks old.encoder e n r → AnswersCapacity false settings.decoder.max_capacity n r
+  shrink_right old e n (Ok it) agreed alive (is, inl none) = by_set none
+    where
+      by_set : SetsIt old.encoder e n → n ≤ settings.decoder.max_capacity
+      by_set (inl none) = omega (arith, none.0.1)
+      by_set (inr tells) = elim (above_or_within old.encoder.table n) [
+        | inl within ↦ omega (arith, within.0, agreed)
+        | inr above ↦ absurd (let x = sym tells.1.0 ∙ above.1 in cc)
+      ]
+  shrink_right old e n (Ok it) agreed alive (is, inr waits) =
+      omega (arith, held_within old.encoder.table n waits.0, agreed)
+  shrink_right old e n (Err x) agreed alive (goes, stops) =
+      never_held settings.decoder.max_capacity n x goes (capacity_right true old e n (Err x) (λ q. absurd cc) agreed alive stops)
+
+  shrink_empty : (old new : EncodingEnd) (n : ℕ) (r : Result ⊤ EncodingError) → Shrinks old new n r
+      → old.table.live ≡ [] → new.table.live ≡ []
+  shrink_empty old new n (Ok it) (alive, inl sets) empty = capacity_empty old new n (Ok it) (alive, sets) empty
+  shrink_empty old new n (Ok it) (alive, inr waits) empty = ap (λ (e : EncodingEnd). e.table.live) waits.1 ∙ empty
+  shrink_empty old new n (Err x) (goes, stops) empty = capacity_empty old new n (Err x) stops empty
+
+  pub shrunk : (h : SoFar) (old new : Connection) (n : ℕ) (r : Result ⊤ EncodingError)
+      (step : Step (Shrink n r) old new) → Fits (Shrink n r) old new step → Kept settings first h old
+      → Right h (event.Shrink n) (outcome.CapacitySet r) new
+  shrunk h old new n r step fits k =
+      let d = done h (Shrink n r) old new step fits k in (
+        shrink_right old step.encoder n r d.agreed d.alive step.call,
+        encoder_stepped h h.has_encoded (Shrink n r) old new step fits k
+            (ap (λ (c : Connection). c.decoder) step.new_is) (ap (λ (c : Connection). c.streams) step.new_is)
+            (λ none. ap (λ (c : Connection). c.encoder.table.live) step.new_is
+            ∙ shrink_empty old.encoder step.encoder n r step.call (k.empty none)),
+      )
+
   heard_live : (h : SoFar) (old new : Connection) (many : ℕ) (r : Result ⊤ EncodingError)
       (step : Step (Hear many r) old new) → Kept settings first h old → r ≡ Ok tt
-      → step.encoder.table.live ≡ old.encoder.table.live
+      → step.hears.encoder.table.live ≡ old.encoder.table.live
   heard_live h old new many r step k ok =
       let at = (follows_kept first old begins.new k.follows).1 in
+      let stream = (with_decoder step.decoder old).decoder_stream in
       let hears = subst (λ (a : Result ⊤ EncodingError). encoders.ReceivesBytes at.refines.heard
-      (received_of old.decoder_stream) old.encoder step.encoder (next_of many old.decoder_stream) a) ok
-      (step.receives at.alive.encoder at.refines.heard (received_of old.decoder_stream) at.refines.hears) in
-      live_heard old.encoder.table step.encoder.table hears.0.more hears.0.applies
+      (received_of old.decoder_stream) old.encoder step.hears.encoder (next_of many stream) a) ok
+      (step.hears.receives at.alive.encoder at.refines.heard (received_of old.decoder_stream) at.refines.hears) in
+      live_heard old.encoder.table step.hears.encoder.table hears.0.more hears.0.applies
 
   pub heard : (h : SoFar) (old new : Connection) (many : ℕ) (r : Result ⊤ EncodingError)
       (step : Step (Hear many r) old new) → Fits (Hear many r) old new step → Kept settings first h old
       → Right h (event.ToEncoder many) (outcome.Heard r) new
-  heard h old new many r step fits k = (
-    (done h (Hear many r) old new step fits k).answers,
-    encoder_stepped h h.has_encoded (Hear many r) old new step fits k (ap (λ (c : Connection). c.decoder) step.new_is)
-        (ap (λ (c : Connection). c.streams) step.new_is)
-        (λ none. ap (λ (c : Connection). c.encoder.table.live) step.new_is
-        ∙ heard_live h old new many r step k (done h (Hear many r) old new step fits k).answers ∙ k.empty none),
-  )
+  heard h old new many r step fits k =
+      let d = done h (Hear many r) old new step fits k in
+      let is = step.hears.new_is in
+      let same = taken_same old.decoder step.decoder step.takes in (
+        d.answers,
+        stepped h (Hear many r) old new step k.follows fits d.blocked
+            (sent_call first old new h.required (Hear many r) k.sent step fits)
+            (still_decoder settings h.received h.below h.waiting old.decoder new.decoder old.decoder.blocked
+            k.decoder.settings_are k.decoder.least k.decoder.fewer
+            (record {
+              settings = ap (λ (c : Connection). c.decoder.settings) is ∙ same.0;
+              table = ap (λ (c : Connection). c.decoder.table) is ∙ same.2;
+              blocked_are = ap (λ (c : Connection). c.decoder.blocked) is ∙ same.1;
+            }) k.decoder.counted)
+            (subst (AreStreams h.streams) (sym (ap (λ (c : Connection). c.streams) is)) k.streams)
+            (λ none. ap (λ (c : Connection). c.encoder.table.live) is
+            ∙ heard_live h old new many r step k d.answers ∙ k.empty none),
+      )
 
   -- a delivery to the decoding end
   delivered_keeps : (h : SoFar) (old new : Connection) (many : ℕ) (r : Result ℕ DecodingError)

@@ -6,6 +6,7 @@ use Rattle.std.specs.Global.{Vec}
 use denote.RawPtr.{null_ptr}
 use Rattle.qpack_spec.specs.Field.{FieldLine}
 use Rattle.qpack_codec.specs.declared.encoder.choices.Wish.TheVariants.{Unmarked}
+use denote.RawPtr.{null_ptr}
 use Rattle.qpack_ends.specs.FieldSections.{SectionView}
 use Rattle.qpack_ends.specs.declared.decoder.DecodingError.TheVariants as decoding
 use Rattle.qpack_ends.specs.declared.encoder.EncodingError.TheVariants as encoding
@@ -60,7 +61,7 @@ settings most limit =
 
 -- fields that were answered, in as much memory as it may be
 abbrev pub shown : List FieldLine → SectionView
-shown fields = record { fields = fields; text_room = 0; fields_room = 0 }
+shown fields = record { fields = fields; text_at = null_ptr; text_room = 0; fields_room = 0 }
 
 -- an encode of these fields, and a decode that answered these
 abbrev pub encode : ℕ → (fields : List OwnedFieldLine) → length fields < 2 ^ 63 → Event

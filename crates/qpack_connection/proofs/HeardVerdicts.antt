@@ -17,11 +17,11 @@ use Rattle.qpack_connection.specs.LawfulVerdicts.{HeardStreamsAreLawful}
 use Rattle.qpack_connection.proofs.ReadPrefixes.{positive_of}
 
 -- a section requires no more than this number of insertions
-abbrev AtMost : ℕ → UnacknowledgedBlock → Type 0
+abbrev pub AtMost : ℕ → UnacknowledgedBlock → Type 0
 AtMost n b = required_by b ≤ n
 
 -- the oldest section of a stream, and the others
-record IsOldest (n s : ℕ) (bs others : List UnacknowledgedBlock) : Type 0 where
+pub record IsOldest (n s : ℕ) (bs others : List UnacknowledgedBlock) : Type 0 where
   pub required : ℕ
   pub oldest : oldest_required s bs ≡ Some required
   pub low : required ≤ n
@@ -30,7 +30,7 @@ record IsOldest (n s : ℕ) (bs others : List UnacknowledgedBlock) : Type 0 wher
 same_list : (xs ys : List UnacknowledgedBlock) → Some xs ≡ Some ys → xs ≡ ys
 same_list xs ys e = cc
 
-oldest_of : (n s : ℕ) (bs others : List UnacknowledgedBlock) → AllByRecursion (AtMost n) bs
+pub oldest_of : (n s : ℕ) (bs others : List UnacknowledgedBlock) → AllByRecursion (AtMost n) bs
     → without_oldest s bs ≡ Some others → IsOldest n s bs others
 unfolding without_oldest
 oldest_of n s [] others low e = absurd cc
@@ -57,7 +57,7 @@ oldest_of n s (b ∷ bs) others low e =
           rest = subst (AllByRecursion (AtMost n)) (same_list (b ∷ more) others h) (low.0, k.rest);
         }
 
-others_low : (n s : ℕ) (bs : List UnacknowledgedBlock) → AllByRecursion (AtMost n) bs
+pub others_low : (n s : ℕ) (bs : List UnacknowledgedBlock) → AllByRecursion (AtMost n) bs
     → AllByRecursion (AtMost n) (without_stream s bs)
 unfolding without_stream
 others_low n s [] low = tt

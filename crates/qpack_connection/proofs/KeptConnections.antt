@@ -1,21 +1,25 @@
 -- What is kept beside the session by each call of a connection in bytes: the encoder's soundness, and that the streams
 -- that the decoder counts as blocked wait with their next sections.
 use Rattle.std.proofs.Common.{◌≡◌, ℕ, zero, suc, Bool, true, false, cond, List, [], ◌∷◌, ◌++◌, Option, None, Some}
-use Rattle.std.proofs.Common.{IfSome, refl, sym, ap, subst, ◌∙◌}
+use Rattle.std.proofs.Common.{Result, Ok, Err, IfSome, refl, sym, ap, subst, ◌∙◌}
 use Rattle.std.specs.List.{AllByRecursion}
 use Rattle.std.specs.Option.{IsSome}
 use Rattle.std.specs.Prelude.{nat_eq, not, slice_get}
 use Rattle.std.proofs.lemmas.Bool.{eqb-true}
 use Rattle.qpack_rules.specs.Session.{RequestStream, stream_at, with_stream, oldest_undecoded}
+use Rattle.qpack_spec.specs.Table.{Table, with_capacity}
+use Rattle.qpack_spec.specs.Window.{TableRefusal, DoesNotFit}
 use Rattle.qpack_spec.proofs.Lists.{every_weaker}
 use Rattle.qpack_ends.specs.declared.blocked.BlockedStream.{BlockedStream}
 use Rattle.qpack_ends.specs.Blocked.{without, with_blocked}
 use Rattle.qpack_connection.specs.Connections.{SentSection, Connection}
 use Rattle.qpack_ends.specs.Encoders.{EncodingEnd, IsSound, IsToBeTold, HasReceived, begun, begun_with, code_of}
+use Rattle.qpack_ends.specs.Encoders.{told, told_if, waiting, is_alone, with_section}
 use Rattle.qpack_connection.specs.Waiting.{AreOfOneEach, IsNextOf, BlockedAreNext}
 use Rattle.qpack_ends.specs.declared.encoder.EncodingError.{EncodingError}
 use Rattle.qpack_ends.proofs.BlockedStreams.{once_without, once_with, all_with}
-use Rattle.qpack_ends.proofs.Encoders.{told_still}
+use Rattle.qpack_ends.proofs.Encoders.{told_still, held_within}
+use Rattle.qpack_ends.proofs.LimitedSections.{none_waits, sound_with}
 use Rattle.qpack_connection.proofs.WaitingStreams.{apart_swap}
 
 -- ---- the encoder stays sound
@@ -23,12 +27,12 @@ use Rattle.qpack_connection.proofs.WaitingStreams.{apart_swap}
 pub sound_sent : (e : EncodingEnd) → IsSound e → IsSound (record e { unsent = [] })
 sound_sent e k =
     record {
-      wanted = told_still e (record e { unsent = [] }) e.wanted refl (refl, refl) k.wanted;
+      wanted = told_still e (record e { unsent = [] }) e.wanted refl k.wanted;
       stream = k.stream;
       failure = k.failure;
     }
 
--- once the first capacity is told
+-- once a capacity is told
 sound_told : (old new : EncodingEnd) → IsSound old → new.wanted ≡ None → new.stream ≡ old.stream
     → new.failure ≡ old.failure → IsSound new
 sound_told old new k told stream failure =
@@ -38,27 +42,41 @@ sound_told old new k told stream failure =
       failure = subst (λ (o : Option EncodingError). IfSome o (λ e. IsSome (code_of e))) (sym failure) k.failure;
     }
 
-begun_wanted : (o : Option ℕ) (d : EncodingEnd) → d.wanted ≡ o → (begun_with o d).wanted ≡ None
-begun_wanted None d is = is
-begun_wanted (Some n) d is = refl
-
-begun_stream : (o : Option ℕ) (d : EncodingEnd) → (begun_with o d).stream ≡ d.stream
-begun_stream None d = refl
-begun_stream (Some n) d = refl
+told_failure : (n : ℕ) (d : EncodingEnd) (r : Result Table TableRefusal) → (told_if n d r).failure ≡ d.failure
+told_failure n d (Ok t) = refl
+told_failure n d (Err e) = refl
 
 pub begun_failure : (o : Option ℕ) (d : EncodingEnd) → (begun_with o d).failure ≡ d.failure
 begun_failure None d = refl
-begun_failure (Some n) d = refl
-
-pub sound_begun : (old new : EncodingEnd) → IsSound old → new.wanted ≡ (begun old).wanted
-    → new.stream ≡ (begun old).stream → new.failure ≡ (begun old).failure → IsSound new
-sound_begun old new k wanted stream failure =
-    sound_told old new k (wanted ∙ begun_wanted old.wanted old refl) (stream ∙ begun_stream old.wanted old)
-    (failure ∙ begun_failure old.wanted old)
+begun_failure (Some n) d = told_failure n d (with_capacity d.table n)
 
 pub sound_set : (old new : EncodingEnd) → IsSound old → new.wanted ≡ None → new.stream ≡ old.stream
     → new.failure ≡ old.failure → IsSound new
 sound_set = sound_told
+
+-- while one waits
+pub sound_waiting : (d : EncodingEnd) (n : ℕ) → IsSound d → with_capacity d.table n ≡ Err DoesNotFit
+    → IsSound (waiting n d)
+sound_waiting d n k held =
+    record { wanted = held_within d.table n held; stream = k.stream; failure = k.failure }
+
+-- as a section meets it
+sound_if : (n : ℕ) (d : EncodingEnd) (r : Result Table TableRefusal) → IsSound d → IsSound (told_if n d r)
+sound_if n d (Ok t) k = sound_told d (told n t d) k refl refl refl
+sound_if n d (Err e) k = k
+
+sound_with_any : (o : Option ℕ) (d : EncodingEnd) → IsSound d → IsSound (begun_with o d)
+sound_with_any None d k = k
+sound_with_any (Some n) d k = sound_if n d (with_capacity d.table n) k
+
+pub sound_begun : (old new : EncodingEnd) → IsSound old → new ≡ begun old → IsSound new
+sound_begun old new k is = subst IsSound (sym is) (sound_with_any old.wanted old k)
+
+-- behind a section that may reference entries
+pub sound_section : (old new : EncodingEnd) (t : Table) (b : List ℕ) → IsSound old → is_alone (begun old) ≡ false
+    → new ≡ with_section t b (begun old) → IsSound new
+sound_section old new t b k room is =
+    subst IsSound (sym is) (sound_with (begun old) t b (none_waits (begun old) room) (sound_with_any old.wanted old k))
 
 -- ---- what waits, where the decoder counts the same
 

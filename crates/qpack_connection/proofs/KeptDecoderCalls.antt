@@ -53,8 +53,7 @@ pub ends_keep : (d0 d : DecodingEnd) (taken : Result ⊤ EncoderStreamError) (a 
     → EndsReceiving d0 d taken a → (d.settings ≡ d0.settings) × (d.blocked ≡ d0.blocked)
 ends_keep d0 d (Ok it) (Ok total) ends =
     (ap (λ (y : DecodingEnd). y.settings) ends.1, ap (λ (y : DecodingEnd). y.blocked) ends.1)
-ends_keep d0 d (Ok it) (Err e) ends =
-    (ap (λ (y : DecodingEnd). y.settings) ends.2, ap (λ (y : DecodingEnd). y.blocked) ends.2)
+ends_keep d0 d (Ok it) (Err e) ends = absurd ends
 ends_keep d0 d (Err e) a ends =
     (ap (λ (y : DecodingEnd). y.settings) ends.1, ap (λ (y : DecodingEnd). y.blocked) ends.1)
 

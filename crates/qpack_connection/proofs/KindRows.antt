@@ -48,6 +48,30 @@ capacity_fails : HasOne (section_of 0 ∷ []) (Encoded (Ok 1) ∷ []) (event.Set
     ∷ CapacitySet (Err encoding.MaximumTooLarge) ∷ []) → ⊥
 capacity_fails r = grind (r, arith)
 
+-- ---- of a capacity that may wait, after an encode too
+
+shrink_of_another_kind : HasOne [] [] (event.Shrink 64)
+    (Encoded (Ok 0) ∷ Delivered (Ok 0) ∷ Heard (Ok tt) ∷ waits 1 ∷ Cancelled (Ok tt) ∷ NoRoom ∷ []) → ⊥
+shrink_of_another_kind r = grind (r, arith)
+
+shrink_is_skipped : HasOne [] [] (event.Shrink 64) (Skipped NothingToDecode ∷ Skipped StreamCancelled ∷ []) → ⊥
+shrink_is_skipped r = grind (r, arith)
+
+shrink_fails : HasOne (section_of 0 ∷ []) (Encoded (Ok 1) ∷ []) (event.Shrink 64)
+    (CapacitySet (Err encoding.EntriesHeld) ∷ CapacitySet (Err encoding.CapacityTooLarge)
+    ∷ CapacitySet (Err (encoding.NoStream 0)) ∷ CapacitySet (Err encoding.MaximumChanged)
+    ∷ CapacitySet (Err encoding.LimitLowered) ∷ CapacitySet (Err encoding.MaximumTooLarge) ∷ []) → ⊥
+shrink_fails r = grind (r, arith)
+
+shrink_above_the_maximum : HasOne [] [] (event.Shrink 4097) (CapacitySet (Ok tt) ∷ CapacitySet (Err encoding.Memory) ∷ []) → ⊥
+shrink_above_the_maximum r = grind (r, arith)
+
+shrink_may_wait : Right (section_of 0 ∷ event.Shrink 30 ∷ []) (Encoded (Ok 1) ∷ CapacitySet (Ok tt) ∷ [])
+shrink_may_wait = grind arith
+
+shrink_without_memory : Right (section_of 0 ∷ event.Shrink 30 ∷ []) (Encoded (Ok 1) ∷ CapacitySet (Err encoding.Memory) ∷ [])
+shrink_without_memory = grind arith
+
 -- ---- of a delivery, to either end
 
 delivery_of_another_kind : HasOne [] [] (event.ToDecoder 9)

@@ -5,17 +5,19 @@ use Rattle.std.specs.Prelude.{⊤, nat_eq, nat_lt}
 use Rattle.std.proofs.lemmas.Bool.{cond_both, eq-eqb, eqb-true, ltb-true}
 use Rattle.qpack_spec.specs.Field.{FieldLine}
 use Rattle.qpack_spec.specs.Instruction.{DecoderInstruction}
-use Rattle.qpack_spec.specs.Table.{Table, empty_table}
+use Rattle.qpack_spec.specs.Table.{Table, empty_table, with_capacity}
+use Rattle.qpack_spec.specs.Window.{DoesNotFit}
 use Rattle.qpack_ends.specs.declared.encoder.EncoderSettings.{EncoderSettings}
 use Rattle.qpack_ends.specs.declared.encoder.EncodingError.{EncodingError}
 use Rattle.qpack_ends.specs.declared.encoder.EncodingError.TheVariants.{DecoderStream, CapacityTooLarge}
 use Rattle.qpack_ends.specs.declared.encoder.EncodingError.TheVariants.{EntriesHeld, NoStream, Memory}
 use Rattle.qpack_ends.specs.declared.encoder.EncodingError.TheVariants.{MaximumChanged, LimitLowered, MaximumTooLarge}
 use Rattle.qpack_ends.specs.Encoders.{EncodingEnd, IsUnused, begun, begun_with, first_capacity, with_section, Encodes}
-use Rattle.qpack_ends.specs.Encoders.{SetsCapacity, ReceivesBytes, StopsForMemory, of_peer, peer_refusal}
+use Rattle.qpack_ends.specs.Encoders.{SetsCapacity, Shrinks, ReceivesBytes, StopsForMemory, of_peer, peer_refusal}
 use Rattle.qpack_ends.specs.Encoders.{WritesSection, GivesUpSection}
+use Rattle.qpack_ends.proofs.Encoders.{takes_capacity, held_within}
 use Rattle.qpack_ends.proofs.BareEnds.{bare, encoded_bare, given_up_bare, sized_bare, heard_bare}
-use Rattle.qpack_connection.specs.LawfulDecoders.{Call, Encode, SetCapacity, Receive, Sent, Step, Run}
+use Rattle.qpack_connection.specs.LawfulDecoders.{Call, Encode, SetCapacity, Shrink, Receive, Sent, Step, Run}
 use Rattle.qpack_connection.specs.LateSettings.{EndsWithoutATableStayUnused, LateSettingsAreAsEarly}
 
 -- ---- an unused end of maximum 0
@@ -82,6 +84,18 @@ unused_capacity settings old new n (Ok done) no_table k (live, inr (some, tells)
 unused_capacity settings old new n (Err e) no_table k (inl ended) = subst (IsUnused settings) (sym ended.1) k
 unused_capacity settings old new n (Err e) no_table k (inr stops) = subst (IsUnused settings) (sym stops.2.1) k
 
+unused_shrink : (settings : EncoderSettings) (old new : EncodingEnd) (n : ℕ) (answer : Result ⊤ EncodingError)
+    → settings.max_capacity ≡ 0 → IsUnused settings old → Shrinks old new n answer → IsUnused settings new
+unused_shrink settings old new n (Ok done) no_table k (live, inl sets) =
+    unused_capacity settings old new n (Ok done) no_table k (live, sets)
+unused_shrink settings old new n (Ok done) no_table k (live, inr waits) =
+    let is = is_bare settings old no_table k in
+    let takes = subst (λ (t : Table). with_capacity t n ≡ Err DoesNotFit) is waits.0 in
+    let small = held_within bare n takes in
+    absurd (let x = sym takes ∙ takes_capacity bare n 0 (omega (arith, small)) (omega arith) refl refl in cc)
+unused_shrink settings old new n (Err e) no_table k (goes, stops) =
+    unused_capacity settings old new n (Err e) no_table k stops
+
 unused_received : (settings : EncoderSettings) (old new : EncodingEnd) (heard : List DecoderInstruction)
     (before bytes : List ℕ) (answer : Result ⊤ EncodingError) → settings.max_capacity ≡ 0 → IsUnused settings old
     → new.failure ≡ None → ReceivesBytes heard before old new bytes answer → IsUnused settings new
@@ -119,6 +133,8 @@ unused_call settings (Encode s fields wishes section answer) old new no_table k 
     unused_encode settings old new s fields section answer no_table k step.0
 unused_call settings (SetCapacity n answer) old new no_table k live step =
     unused_capacity settings old new n answer no_table k step
+unused_call settings (Shrink n answer) old new no_table k live step =
+    unused_shrink settings old new n answer no_table k step
 unused_call settings (Receive bytes answer) old new no_table k live step =
     unused_received settings old new k.stream.0 k.stream.1 bytes answer no_table k live
     (step.0 k.failure k.stream.0 k.stream.1 k.stream.2)
@@ -148,12 +164,19 @@ ended_capacity old new n (Ok done) e ended (live, h) = absurd (let x = sym ended
 ended_capacity old new n (Err x) e ended (inl h) = h.1
 ended_capacity old new n (Err x) e ended (inr h) = absurd (let y = sym ended ∙ h.0 in cc)
 
+ended_shrink : (old new : EncodingEnd) (n : ℕ) (answer : Result ⊤ EncodingError) (e : EncodingError)
+    → old.failure ≡ Some e → Shrinks old new n answer → new ≡ old
+ended_shrink old new n (Ok done) e ended (live, h) = absurd (let x = sym ended ∙ live in cc)
+ended_shrink old new n (Err x) e ended (goes, stops) = ended_capacity old new n (Err x) e ended stops
+
 ended_call : (call : Call) (old new : EncodingEnd) (e : EncodingError) → old.failure ≡ Some e → Step call old new
     → new.failure ≡ Some e
 ended_call (Encode s fields wishes section answer) old new e ended step =
     ap (λ (d : EncodingEnd). d.failure) (ended_encode old new s fields section answer e ended step.0) ∙ ended
 ended_call (SetCapacity n answer) old new e ended step =
     ap (λ (d : EncodingEnd). d.failure) (ended_capacity old new n answer e ended step) ∙ ended
+ended_call (Shrink n answer) old new e ended step =
+    ap (λ (d : EncodingEnd). d.failure) (ended_shrink old new n answer e ended step) ∙ ended
 ended_call (Receive bytes answer) old new e ended step =
     let same = subst (λ (o : Option EncodingError). IfSome o (λ x. (answer ≡ Err x) × (new ≡ old))) ended step.1 in
     ap (λ (d : EncodingEnd). d.failure) same.1 ∙ ended

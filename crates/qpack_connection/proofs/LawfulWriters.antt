@@ -17,7 +17,8 @@ use Rattle.qpack_spec.specs.Reading.{greatest_of}
 use Rattle.qpack_spec.specs.Rule.{block_of, required_insert_count, committed_table}
 use Rattle.qpack_rules.specs.StrictInstructions.{HearingRefusal, required_by, hear_in_turn}
 use Rattle.qpack_spec.specs.Table.{Table, UnacknowledgedBlock, empty_table, has_number}
-use Rattle.qpack_spec.specs.Table.{with_unacknowledged}
+use Rattle.qpack_spec.specs.Table.{with_unacknowledged, with_capacity}
+use Rattle.qpack_spec.specs.Window.{TableRefusal}
 use Rattle.qpack_spec.specs.WrittenLaws.{IsByteField}
 use Rattle.qpack_spec.specs.Text.{WhereShorter}
 use Rattle.qpack_spec.proofs.Drafts.{IsLive}
@@ -28,12 +29,11 @@ use Rattle.qpack_ends.specs.declared.encoder.EncodingError.{EncodingError}
 use Rattle.qpack_ends.specs.declared.encoder.EncodingError.TheVariants.{DecoderStream, CapacityTooLarge}
 use Rattle.qpack_ends.specs.declared.encoder.EncodingError.TheVariants.{EntriesHeld, NoStream, Memory}
 use Rattle.qpack_ends.specs.declared.encoder.EncodingError.TheVariants.{MaximumChanged, LimitLowered, MaximumTooLarge}
-use Rattle.qpack_ends.specs.Encoders.{EncodingEnd, IsUnused, IsToBeTold, begun, begun_with, Encodes, WritesAlone}
-use Rattle.qpack_ends.specs.Encoders.{StopsForMemory, GivesUpSection, SetsCapacity, ReceivesBytes}
+use Rattle.qpack_ends.specs.Encoders.{EncodingEnd, IsUnused, begun, begun_with, told_if, waiting, Encodes, WritesAlone}
+use Rattle.qpack_ends.specs.Encoders.{StopsForMemory, GivesUpSection, SetsCapacity, Shrinks, ReceivesBytes}
 use Rattle.qpack_ends.specs.Encoders as encoders
 use Rattle.qpack_safety.specs.Refines.{Agrees}
 use Rattle.qpack_ends.specs.Risk.{requires_above, is_at_risk, AreDistinct}
-use Rattle.qpack_ends.proofs.Encoders.{takes_capacity}
 use Rattle.qpack_ends.proofs.LimitedChoices.{committed_open}
 use Rattle.qpack_ends.proofs.Risk.{at_risk_within}
 use Rattle.qpack_connection.specs.LawfulDecoders.{Call, Encode, Receive, Sent, Step, Run}
@@ -199,16 +199,23 @@ no_more settings call new sent sections k =
     subst (λ (b : List ℕ). IsBehind settings call new b (sections ++ [])) (sym (append-nil sent))
     (subst (λ (ws : List Section). IsBehind settings call new sent ws) (sym (append-nil sections)) k)
 
--- once the first capacity is written
-begun_writes : (maximum : ℕ) (e : EncodingEnd) (sent : List ℕ) (sections : List Section) (o : Option ℕ)
-    → IfSome o (λ n. IsToBeTold e n) → WritesLawfully maximum (sent ++ e.unsent) sections e.table
-    → WritesLawfully maximum (sent ++ (begun_with o e).unsent) sections (begun_with o e).table
-begun_writes maximum e sent sections None told k = k
-begun_writes maximum e sent sections (Some n) told k =
-    subst (λ (b : List ℕ). WritesLawfully maximum b sections (record e.table { capacity = n }))
+-- behind the capacity that waits, if it is written
+told_writes : (maximum : ℕ) (e : EncodingEnd) (sent : List ℕ) (sections : List Section) (n : ℕ)
+    (r : Result Table TableRefusal) → with_capacity e.table n ≡ r
+    → WritesLawfully maximum (sent ++ e.unsent) sections e.table
+    → WritesLawfully maximum (sent ++ (told_if n e r).unsent) sections (told_if n e r).table
+told_writes maximum e sent sections n (Ok t) takes k =
+    subst (λ (b : List ℕ). WritesLawfully maximum b sections t)
     (append_assoc sent e.unsent (written_encoder_instruction (SetCapacity n)))
-    (writes_capacity maximum (sent ++ e.unsent) sections e.table (record e.table { capacity = n }) n k
-    (takes_capacity e.table n e.settings.max_capacity told.within told.small told.agreed told.nothing_live))
+    (writes_capacity maximum (sent ++ e.unsent) sections e.table t n k takes)
+told_writes maximum e sent sections n (Err x) takes k = k
+
+begun_writes : (maximum : ℕ) (e : EncodingEnd) (sent : List ℕ) (sections : List Section) (o : Option ℕ)
+    → WritesLawfully maximum (sent ++ e.unsent) sections e.table
+    → WritesLawfully maximum (sent ++ (begun_with o e).unsent) sections (begun_with o e).table
+begun_writes maximum e sent sections None k = k
+begun_writes maximum e sent sections (Some n) k =
+    told_writes maximum e sent sections n (with_capacity e.table n) refl k
 
 -- the section of a stream is added
 abbrev Adds : ℕ → ℕ → List FieldLine → List Section → List ℕ → Table → ℕ → List ℕ → Type 0
@@ -300,7 +307,7 @@ encode_writes : (settings : EncoderSettings) (old new : EncodingEnd) (sent : Lis
     (sections ++ written_by (Encode s fields wishes section answer))
 encode_writes settings old new sent sections s fields wishes section (Ok required) stays k are fits small (live, call) =
     let most = settings.max_capacity in
-    let b = begun_writes most old sent sections old.wanted stays.sound.wanted k in
+    let b = begun_writes most old sent sections old.wanted k in
     subst (λ (x : List ℕ). Adds most s fields sections (x ++ new.unsent) new.table required section)
     (sym (append-nil sent))
     (elim call [
@@ -317,7 +324,7 @@ encode_writes settings old new sent sections s fields wishes section (Err e) sta
     most = settings.max_capacity
 
     b : WritesLawfully most (sent ++ (begun old).unsent) sections (begun old).table
-    b = begun_writes most old sent sections old.wanted stays.sound.wanted k
+    b = begun_writes most old sent sections old.wanted k
 
     by : StopsForMemory old new s fields → WritesLawfully most (sent ++ new.unsent) sections new.table
     by (inl same) = written_same most old new sent sections same.1 k
@@ -337,6 +344,16 @@ set_writes maximum old new sent sections n (Ok done) k (alive, inr tells) =
 set_writes maximum old new sent sections n (Err e) k (inl ended) = written_same maximum old new sent sections ended.1 k
 set_writes maximum old new sent sections n (Err e) k (inr stops) =
     written_same maximum old new sent sections stops.2.1 k
+
+shrink_writes : (maximum : ℕ) (old new : EncodingEnd) (sent : List ℕ) (sections : List Section) (n : ℕ)
+    (answer : Result ⊤ EncodingError) → WritesLawfully maximum (sent ++ old.unsent) sections old.table
+    → Shrinks old new n answer → WritesLawfully maximum (sent ++ new.unsent) sections new.table
+shrink_writes maximum old new sent sections n (Ok done) k (alive, inl sets) =
+    set_writes maximum old new sent sections n (Ok done) k (alive, sets)
+shrink_writes maximum old new sent sections n (Ok done) k (alive, inr waits) =
+    written_same maximum (waiting n old) new sent sections waits.1 k
+shrink_writes maximum old new sent sections n (Err e) k (goes, stops) =
+    set_writes maximum old new sent sections n (Err e) k stops
 
 -- a call that receives bytes leaves what is to be sent
 receive_unsent : (old new : EncodingEnd) (heard : List DecoderInstruction) (before bytes : List ℕ)
@@ -372,6 +389,10 @@ end_writes settings (calls.SetCapacity n answer) old new h w fits stays =
     hears_none settings (calls.SetCapacity n answer) new.end (old.sent ++ []) old.sections w.heard w.hears
     (no_more settings (calls.SetCapacity n answer) new.end old.sent old.sections
     (set_writes settings.max_capacity old.end new.end old.sent old.sections n answer h.writes w.step, tt))
+end_writes settings (calls.Shrink n answer) old new h w fits stays =
+    hears_none settings (calls.Shrink n answer) new.end (old.sent ++ []) old.sections w.heard w.hears
+    (no_more settings (calls.Shrink n answer) new.end old.sent old.sections
+    (shrink_writes settings.max_capacity old.end new.end old.sent old.sections n answer h.writes w.step, tt))
 end_writes settings (Receive bytes answer) old new h w fits stays =
     no_more settings (Receive bytes answer) new.end old.sent (released w.heard old.sections) (
       subst (λ (b : List ℕ). WritesLawfully settings.max_capacity (old.sent ++ b) (released w.heard old.sections)
@@ -454,6 +475,7 @@ section_behind settings (Encode s fields wishes section (Ok required)) old new k
     (adds, under_way k.sent k.made new (begun old.end) s fields section required step.0.1)
 section_behind settings (Encode s fields wishes section (Err e)) old new k step adds = tt
 section_behind settings (calls.SetCapacity n answer) old new k step adds = tt
+section_behind settings (calls.Shrink n answer) old new k step adds = tt
 section_behind settings (Receive bytes answer) old new k step adds = tt
 section_behind settings (Sent many) old new k step adds = tt
 
@@ -496,10 +518,11 @@ encoders_keep settings calls first last starts none nothing run fits =
 -- ---- all calls are of a writer
 
 -- the instructions that a call heard
-heard_by : (settings : EncoderSettings) (call : Call) (old new : EncodingEnd) → Stays settings.max_blocked old
+pub heard_by : (settings : EncoderSettings) (call : Call) (old new : EncodingEnd) → Stays settings.max_blocked old
     → Step call old new → (heard : List DecoderInstruction) × IsHeardBy call old new heard
 heard_by settings (Encode s fields wishes section answer) old new stays step = ([], refl)
 heard_by settings (calls.SetCapacity n answer) old new stays step = ([], refl)
+heard_by settings (calls.Shrink n answer) old new stays step = ([], refl)
 heard_by settings (Sent many) old new stays step = ([], refl)
 heard_by settings (Receive bytes answer) old new stays step = by old.failure refl step.1
   where

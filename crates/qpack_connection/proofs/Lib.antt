@@ -1,7 +1,12 @@
 pub mod LawfulPieces
+pub mod ThinnedStreams
+pub mod DecodedOldest
+pub mod ThinnedSessions
+pub mod ThinnedRows
 pub mod RefinedConnections
 pub mod RefinedCapacities
 pub mod RefinedCancellations
+pub mod RefinedReports
 pub mod RefinedHearings
 pub mod RefinedReceptions
 pub mod RefinedDecodes
@@ -10,6 +15,7 @@ pub mod RefinedRefusals
 pub mod KeptConnections
 pub mod FirstEnds
 pub mod CarefulTables
+pub mod UnnamedTables
 pub mod CarefulEnds
 pub mod KeptEncoderCalls
 pub mod KeptDecoderCalls
@@ -52,6 +58,8 @@ pub mod LawfulWriters
 pub mod WrittenReports
 pub mod HeardFronts
 pub mod LateSettings
+pub mod LowerCapacities
+pub mod LowerRows
 pub mod RecordedRows
 pub mod ReadLines
 pub mod ReadPrefixes

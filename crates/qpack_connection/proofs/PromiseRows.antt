@@ -1,6 +1,6 @@
 -- What the laws of each end with any peer promise, on calls that break it: each promise refuses such a call, whatever the
 -- end is before it and after it.
-use Rattle.std.proofs.Common.{Bool, true, length-append}
+use Rattle.std.proofs.Common.{Bool, true, length-append, refl}
 use Rattle.std.proofs.Common.{◌≡◌, ◌+◌, ◌<◌, ◌≤◌, ◌^◌, ℕ, false, List, [], ◌∷◌, length, Option, Some, None, Ok, Err, ap, sym, ◌∙◌, arith}
 use Rattle.std.proofs.lemmas.Option.{none-some}
 use Rattle.qpack_spec.specs.Field.{FieldLine}
@@ -175,6 +175,11 @@ capacity_has_no_stream : (settings : EncoderSettings) (capacity : ℕ) (old new 
     (run : decoders.Run (decoders.SetCapacity capacity (Err (encoding.NoStream 4)) ∷ []) old new)
     → decoders.AllAnswer settings (decoders.SetCapacity capacity (Err (encoding.NoStream 4)) ∷ []) old new run → ⊥
 capacity_has_no_stream settings capacity old new run r = grind (r, arith)
+
+shrink_holds_entries : (settings : EncoderSettings) (capacity : ℕ) (old new : EncodingEnd)
+    (run : decoders.Run (decoders.Shrink capacity (Err encoding.EntriesHeld) ∷ []) old new)
+    → decoders.AllAnswer settings (decoders.Shrink capacity (Err encoding.EntriesHeld) ∷ []) old new run → ⊥
+shrink_holds_entries settings capacity old new run r = r.0.0 refl
 
 -- insertions do not go on where nothing is under way
 stops_inserting : (settings : EncoderSettings) (s required : ℕ) (l : FieldLine) (section : List ℕ)

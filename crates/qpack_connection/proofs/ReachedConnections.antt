@@ -7,7 +7,7 @@ use Rattle.qpack_safety.specs.TwoEnds.{EndStep}
 use Rattle.qpack_codec.specs.RequestStreams.{KeepsStreams}
 use Rattle.qpack_ends.specs.declared.section.Reading.TheVariants as reading
 use Rattle.qpack_connection.specs.ConnectionEvents.{Shows, IsReached}
-use Rattle.qpack_connection.specs.Connections.{Wire, SentSection, Connection, Call, Encode, SetCapacity, Hear}
+use Rattle.qpack_connection.specs.Connections.{Wire, SentSection, Connection, Call, Encode, SetCapacity, Shrink, Hear}
 use Rattle.qpack_connection.specs.Connections.{Receive, Decode, Cancel, Step, Run, with_encoder, with_decoder}
 use Rattle.qpack_connection.specs.Connections.{with_section, with_reading, with_cancelled, behind_received, next_of}
 use Rattle.qpack_ends.specs.Decoders.{DecodingEnd}
@@ -62,6 +62,8 @@ refines_shown : (maximum : ℕ) (s : Connection) (ps : List (ℕ × RequestStrea
     → KeepsStreams s.streams ps → RefinesSession maximum (laid_out ps s) w → RefinesSession maximum s w
 refines_shown maximum s ps w keeps k =
     record {
+      under_way = k.under_way;
+      thins = k.thins;
       encoder_is = k.encoder_is;
       decoder_is = k.decoder_is;
       reported_is = k.reported_is;
@@ -197,25 +199,41 @@ module _ (old new : Connection) (ps : List (ℕ × RequestStream SentSection)) (
         shows = shows_landed new (with_encoder step.encoder old) ps step.new_is keeps;
       }
 
+  shrink_moved : (n : ℕ) (answer : _) (step : Step (Shrink n answer) old new) → Moved (Shrink n answer) old new step c
+  shrink_moved n answer step =
+      record {
+        next = with_encoder step.encoder c;
+        moved = record { encoder = step.encoder; call = step.call; new_is = refl };
+        fits = λ f. tt;
+        shows = shows_landed new (with_encoder step.encoder old) ps step.new_is keeps;
+      }
+
   hear_moved : (many : ℕ) (answer : _) (step : Step (Hear many answer) old new)
       → Moved (Hear many answer) old new step c
   hear_moved many answer step =
+      let hears = step.hears in
       let at : Connection → Connection =
-      λ x. let y : Connection = record (with_encoder step.encoder x) {
-        decoder_stream = behind_received (length (next_of many x.decoder_stream) - length step.left) x.decoder_stream;
+      λ x. let taken = with_decoder step.decoder x in
+      let y : Connection = record (with_encoder hears.encoder taken) {
+        decoder_stream = behind_received (length (next_of many taken.decoder_stream) - length hears.left)
+            taken.decoder_stream;
       } in y in
       record {
         next = at c;
         moved = record {
-          encoder = step.encoder;
-          left = step.left;
-          receives = step.receives;
-          nothing_left = step.nothing_left;
-          ended = step.ended;
-          new_is = refl;
+          decoder = step.decoder;
+          takes = step.takes;
+          hears = record {
+            encoder = hears.encoder;
+            left = hears.left;
+            receives = hears.receives;
+            nothing_left = hears.nothing_left;
+            ended = hears.ended;
+            new_is = refl;
+          };
         };
         fits = λ f. tt;
-        shows = shows_landed new (at old) ps step.new_is keeps;
+        shows = shows_landed new (at old) ps hears.new_is keeps;
       }
 
   receive_moved : (many : ℕ) (answer : _) (step : Step (Receive many answer) old new)
@@ -294,6 +312,7 @@ module _ (old new : Connection) (ps : List (ℕ × RequestStream SentSection)) (
   pub call_moved : (call : Call) (step : Step call old new) → Moved call old new step c
   call_moved (Encode s fields answer) step = encode_moved s fields answer step
   call_moved (SetCapacity n answer) step = capacity_moved n answer step
+  call_moved (Shrink n answer) step = shrink_moved n answer step
   call_moved (Hear many answer) step = hear_moved many answer step
   call_moved (Receive many answer) step = receive_moved many answer step
   call_moved (Decode s fields answer) step = decode_moved s fields answer step

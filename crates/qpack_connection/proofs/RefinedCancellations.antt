@@ -20,18 +20,21 @@ use Rattle.qpack_ends.specs.Hearing as hearing
 use Rattle.qpack_ends.specs.Receiving as receiving
 use Rattle.qpack_connection.specs.RefinedConnections.{received_of, RefinesStream, RefinesSession}
 use Rattle.qpack_connection.specs.RefinedConnections.{CancellationsAreRefined}
+use Rattle.qpack_safety.proofs.TwoEnds.{Holds, holds_started, holds_behind}
 use Rattle.qpack_connection.proofs.RefinedConnections.{after_more}
+use Rattle.qpack_connection.proofs.ThinnedSessions.{IsUnderWay, cancellation_under_way}
 
--- the decoder wrote instructions, and all is sent; its table and what waits are as before
+-- the decoder wrote instructions, and all is sent; its table and what waits are as before. What is under way is that of
+-- the session, without increments that an acknowledgment reports
 pub written_back : (maximum : ℕ) (c : Connection) (w : AbstractSession) (d : DecodingEnd)
     (rs flight : List DecoderInstruction) (n : ℕ) (ps : List (ℕ × RequestStream SentSection))
-    (qs : List (ℕ × AbstractStream)) → RefinesSession maximum c w → d.table ≡ c.decoder.table
+    (qs : List (ℕ × AbstractStream)) → (k : RefinesSession maximum c w) → d.table ≡ c.decoder.table
     → d.stream ≡ c.decoder.stream → d.reported + n ≡ insert_count d.table → d.unsent ≡ written_decoder_instructions rs
-    → AllByRecursion IsWritableDecoderInstruction rs → flight ≡ w.decoder_in_flight ++ rs
+    → AllByRecursion IsWritableDecoderInstruction rs → IsUnderWay w (k.under_way ++ rs) flight
     → ((s : ℕ) → RefinesStream (stream_at ps s) (stream_at qs s))
     → RefinesSession maximum (record (with_decoder d c) { streams = ps })
     (record w { decoder_in_flight = flight; unreported = n; streams = qs })
-written_back maximum c w d rs flight n ps qs k table stream told unsent are more streams =
+written_back maximum c w d rs flight n ps qs k table stream told unsent are thins streams =
     let same : received_of (record c.decoder_stream { written = c.decoder_stream.written ++ d.unsent })
     ≡ received_of c.decoder_stream =
     take-append-le c.decoder_stream.received c.decoder_stream.written d.unsent k.decoder_stream_order in
@@ -50,13 +53,15 @@ written_back maximum c w d rs flight n ps qs k table stream told unsent are more
       received = received.0;
       taken_are = received.1;
       heard = k.heard;
+      under_way = k.under_way ++ rs;
       decoder_stream =
-          subst (λ (b : List ℕ). SpellsAll SpellsDecoderInstruction (c.decoder_stream.written ++ b) (k.heard ++ flight))
-          (sym unsent)
+          subst (λ (b : List ℕ). SpellsAll SpellsDecoderInstruction (c.decoder_stream.written ++ b)
+          (k.heard ++ (k.under_way ++ rs))) (sym unsent)
           (subst (SpellsAll SpellsDecoderInstruction (c.decoder_stream.written ++ written_decoder_instructions rs))
-          (append_assoc k.heard w.decoder_in_flight rs ∙ ap (λ (x : List DecoderInstruction). k.heard ++ x) (sym more))
+          (append_assoc k.heard k.under_way rs)
           (joined_append SpellsDecoderInstruction c.decoder_stream.written (written_decoder_instructions rs)
-          (k.heard ++ w.decoder_in_flight) rs k.decoder_stream (decoder_instructions_joined rs are)));
+          (k.heard ++ k.under_way) rs k.decoder_stream (decoder_instructions_joined rs are)));
+      thins = thins;
       decoder_stream_order = omega (
         arith,
         k.decoder_stream_order,
@@ -65,6 +70,19 @@ written_back maximum c w d rs flight n ps qs k table stream told unsent are more
       hears = subst (λ (b : List ℕ). hearing.Receives k.heard b c.encoder.stream) (sym same) k.hears;
       streams = streams;
     }
+
+-- or none
+pub nothing_back : (maximum : ℕ) (c : Connection) (w : AbstractSession) (d : DecodingEnd)
+    (ps : List (ℕ × RequestStream SentSection)) (qs : List (ℕ × AbstractStream)) → RefinesSession maximum c w
+    → d.table ≡ c.decoder.table → d.stream ≡ c.decoder.stream → d.reported ≡ c.decoder.reported → d.unsent ≡ []
+    → ((s : ℕ) → RefinesStream (stream_at ps s) (stream_at qs s))
+    → RefinesSession maximum (record (with_decoder d c) { streams = ps }) (record w { streams = qs })
+unfolding written_decoder_instructions
+nothing_back maximum c w d ps qs k table stream reported unsent streams =
+    written_back maximum c w d [] w.decoder_in_flight w.unreported ps qs k table stream
+    (omega (arith, reported, ap insert_count table, k.reported_is)) unsent tt
+    (subst (λ (is : List DecoderInstruction). IsUnderWay w is w.decoder_in_flight) (sym (append-nil k.under_way)) k.thins)
+    streams
 
 -- a stream is cancelled at both
 both_cancelled : (s : ℕ) (ps : List (ℕ × RequestStream SentSection)) (qs : List (ℕ × AbstractStream))
@@ -96,6 +114,7 @@ sent_of false c s none =
     ∙ sym (append-nil (written_decoder_instruction (Cancellation s)))
 
 pub cancellations_refined : CancellationsAreRefined
+unfolding written_decoder_instructions
 cancellations_refined maximum limit c new steps s r call = both (nat_eq c.decoder.settings.max_capacity 0) refl
   where
     start : AbstractSession
@@ -103,6 +122,9 @@ cancellations_refined maximum limit c new steps s r call = both (nat_eq c.decode
 
     w : AbstractSession
     w = after_end_steps steps start
+
+    holds : Holds 0 maximum limit w
+    holds = holds_behind 0 maximum limit steps start (holds_started 0 maximum limit (omega arith))
 
     streams : (q : ℕ) → RefinesStream
         (stream_at (with_stream c.streams s (record (stream_at c.streams s) { cancelled = true })) q)
@@ -129,9 +151,9 @@ cancellations_refined maximum limit c new steps s r call = both (nat_eq c.decode
       Forget s ∷ [],
       subst (λ (x : AbstractSession). RefinesSession maximum new x) (sym (after_more steps (Forget s ∷ []) start))
           (subst (λ (x : Connection). RefinesSession maximum x (after_end_steps (Forget s ∷ []) w)) (sym call.new_is)
-          (written_back maximum c w call.decoder [] w.decoder_in_flight w.unreported _ _ r
-          (ap (λ (d : DecodingEnd). d.table) call.call.1) (ap (λ (d : DecodingEnd). d.stream) call.call.1) told
-          (unsent true is) tt (sym (append-nil w.decoder_in_flight)) streams)),
+          (nothing_back maximum c w call.decoder _ _ r (ap (λ (d : DecodingEnd). d.table) call.call.1)
+          (ap (λ (d : DecodingEnd). d.stream) call.call.1) (ap (λ (d : DecodingEnd). d.reported) call.call.1)
+          (unsent true is) streams)),
     )
     both false is = (
       Cancel s ∷ [],
@@ -145,7 +167,7 @@ cancellations_refined maximum limit c new steps s r call = both (nat_eq c.decode
           (written_back maximum c w call.decoder (Cancellation s ∷ []) (w.decoder_in_flight ++ Cancellation s ∷ [])
           w.unreported _ _ r (ap (λ (d : DecodingEnd). d.table) call.call.1)
           (ap (λ (d : DecodingEnd). d.stream) call.call.1) told (unsent false is)
-          (small call.call.0.1, tt) refl streams))),
+          (small call.call.0.1, tt) (cancellation_under_way maximum limit w r.under_way s holds r.thins) streams))),
     )
       where
         small : s < 2 ^ 62 → s < 2 ^ 63

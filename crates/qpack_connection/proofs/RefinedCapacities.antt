@@ -1,28 +1,23 @@
--- A new connection in bytes is the session of values at its beginning, and a capacity that is set is one that it sets.
+-- A new connection in bytes is the session of values at its beginning, and a capacity that is set is one that it sets;
+-- one that waits changes nothing.
 use Rattle.std.proofs.Common.{◌≡◌, ◌≤◌, ◌<◌, ◌^◌, ℕ, List, [], ◌∷◌, ◌++◌}
-use Rattle.std.proofs.Common.{Option, None, Some, Result, Ok, Err, refl, sym, ap, subst, ◌∙◌, arith, inl, inr}
-use Rattle.std.specs.Prelude.{nat_le}
-use Rattle.std.proofs.lemmas.Bool.{leb-true}
+use Rattle.std.proofs.Common.{Some, refl, sym, ap, subst, ◌∙◌, arith, inl, inr}
 use Rattle.std.proofs.lemmas.List.{append-nil}
 use Rattle.qpack_spec.specs.History.{initial_history, window_of}
-use Rattle.qpack_spec.specs.Instruction.{EncoderInstruction, SetCapacity, coded_encoder_instruction, written_encoder_instruction}
+use Rattle.qpack_spec.specs.Instruction.{EncoderInstruction}
 use Rattle.qpack_spec.specs.Instruction.{SpellsEncoderInstruction, encoder_instruction_form}
-use Rattle.qpack_spec.specs.Instruction.{coded_encoder_instructions}
 use Rattle.qpack_spec.specs.Stream.{SpellsAll}
-use Rattle.qpack_spec.specs.Table.{Table, with_capacity, empty_table, table_of, insert_count}
-use Rattle.qpack_spec.specs.Window.{TableRefusal, AboveMaximum, greatest_capacity}
-use Rattle.qpack_spec.specs.Text.{WhereShorter}
+use Rattle.qpack_spec.specs.Table.{Table, empty_table, table_of, insert_count}
 use Rattle.qpack_spec.proofs.Cuttings.{wire, nil_append}
-use Rattle.qpack_spec.proofs.Results.{chosen}
-use Rattle.qpack_safety.specs.AbstractSession.{AbstractSession, abstract_start, after_resize}
+use Rattle.qpack_safety.specs.AbstractSession.{AbstractSession, abstract_start}
 use Rattle.qpack_safety.specs.TwoEnds.{EndStep, Resize, after_end_steps}
-use Rattle.qpack_connection.specs.Connections.{Wire, Connection, with_encoder}
-use Rattle.qpack_ends.specs.Encoders.{EncodingEnd, TellsCapacity}
+use Rattle.qpack_connection.specs.Connections.{Wire, Connection}
+use Rattle.qpack_ends.specs.Encoders.{EncodingEnd}
 use Rattle.qpack_ends.specs.Hearing as hearing
 use Rattle.qpack_ends.specs.Receiving as receiving
 use Rattle.qpack_connection.specs.RefinedConnections.{received_of, RefinesSession, NewConnectionsAreRefined}
-use Rattle.qpack_connection.specs.RefinedConnections.{CapacitiesAreRefined}
-use Rattle.qpack_connection.proofs.RefinedConnections.{written_more, after_more}
+use Rattle.qpack_connection.specs.RefinedConnections.{CapacitiesAreRefined, ShrinksAreRefined}
+use Rattle.qpack_connection.proofs.RefinedConnections.{capacity_refined, same_refined, kept_refined, after_more}
 
 -- ---- the beginning
 
@@ -66,6 +61,8 @@ new_refined c k =
       received = received.0;
       taken_are = received.1;
       heard = [];
+      under_way = [];
+      thins = refl;
       decoder_stream = ap (λ (w : Wire). w.written) k.decoder_stream;
       decoder_stream_order = omega (arith, ap (λ (w : Wire). w.received) k.decoder_stream);
       hears = subst (λ (b : List ℕ). hearing.Receives [] b c.encoder.stream) (sym none') k.encoder.stream;
@@ -74,48 +71,6 @@ new_refined c k =
     }
 
 -- ---- a capacity
-
-abbrev table_ok : Table → Result Table TableRefusal
-table_ok t = Ok t
-
--- one that a table takes is small
-capacity_small : (t u : Table) (n : ℕ) → with_capacity t n ≡ Ok u → n < 2 ^ 30
-unfolding with_capacity
-capacity_small t u n h =
-    elim (chosen (nat_le n (greatest_capacity t.agreed_max)) _ (Err AboveMaximum) (table_ok u) h) [
-      | inl within ↦ bound t.agreed_max (leb-true n (greatest_capacity t.agreed_max) within.0)
-      | inr above ↦ absurd (let l = above.1 in cc)
-    ]
-  where
-    bound : (o : Option ℕ) → n ≤ greatest_capacity o → n < 2 ^ 30
-    bound None h = omega (arith, h)
-    bound (Some most) h = omega (arith, h)
-
--- the capacity is told
-told_refined : (maximum : ℕ) (c : Connection) (w : AbstractSession) (e : EncodingEnd) (n : ℕ)
-    → RefinesSession maximum c w → TellsCapacity c.encoder e n (Ok tt)
-    → RefinesSession maximum (with_encoder e c) (after_resize w n (with_capacity w.encoder n))
-unfolding coded_encoder_instructions coded_encoder_instruction
-told_refined maximum c w e n r tells =
-    let takes : with_capacity w.encoder n ≡ Ok e.table =
-    ap (λ (t : Table). with_capacity t n) (sym r.encoder_is) ∙ tells.0 in
-    subst (λ (x : Result Table TableRefusal). RefinesSession maximum (with_encoder e c) (after_resize w n x))
-    (sym takes)
-    (written_more maximum c w e e.table (SetCapacity n ∷ []) (w.in_flight ++ SetCapacity n ∷ []) c.streams w.streams r
-    refl (ap (λ (x : EncodingEnd). x.stream) tells.1)
-    (ap (λ (x : EncodingEnd). x.unsent) tells.1
-    ∙ ap (λ (x : List ℕ). x ++ written_encoder_instruction (SetCapacity n)) r.encoder_sent
-    ∙ sym (append-nil (written_encoder_instruction (SetCapacity n))))
-    (omega (arith, capacity_small w.encoder e.table n takes), tt) refl r.streams)
-
--- nothing is done
-pub same_refined : (maximum : ℕ) (c : Connection) (w : AbstractSession) (e : EncodingEnd) → RefinesSession maximum c w
-    → e ≡ c.encoder → RefinesSession maximum (with_encoder e c) w
-unfolding coded_encoder_instructions coded_encoder_instruction
-same_refined maximum c w e r same =
-    written_more maximum c w e w.encoder [] w.in_flight c.streams w.streams r
-    (ap (λ (x : EncodingEnd). x.table) same ∙ r.encoder_is) (ap (λ (x : EncodingEnd). x.stream) same)
-    (ap (λ (x : EncodingEnd). x.unsent) same ∙ r.encoder_sent) tt (sym (append-nil w.in_flight)) r.streams
 
 pub capacities_refined : CapacitiesAreRefined
 capacities_refined maximum limit c new steps n r call =
@@ -132,6 +87,23 @@ capacities_refined maximum limit c new steps n r call =
         Resize n ∷ [],
         subst (λ (x : AbstractSession). RefinesSession maximum new x) (sym (after_more steps (Resize n ∷ []) start))
             (subst (λ (x : Connection). RefinesSession maximum x (after_end_steps (Resize n ∷ []) w)) (sym call.new_is)
-            (told_refined maximum c w call.encoder n r tells.1)),
+            (capacity_refined maximum c w call.encoder n r tells.1)),
+      )
+    ]
+
+-- one that waits changes nothing of the session
+pub shrinks_refined : ShrinksAreRefined
+shrinks_refined maximum limit c new steps n r call =
+    let start = abstract_start 0 maximum limit in
+    let w = after_end_steps steps start in
+    elim call.call.1 [
+      | inl sets ↦ capacities_refined maximum limit c new steps n r
+          (record { encoder = call.encoder; call = (call.call.0, sets); new_is = call.new_is })
+      | inr waits ↦ (
+        [],
+        subst (λ (es : List EndStep). RefinesSession maximum new (after_end_steps es start)) (sym (append-nil steps))
+            (subst (λ (x : Connection). RefinesSession maximum x w) (sym call.new_is)
+            (kept_refined maximum c w call.encoder r (ap (λ (x : EncodingEnd). x.table) waits.1)
+            (ap (λ (x : EncodingEnd). x.stream) waits.1) (ap (λ (x : EncodingEnd). x.unsent) waits.1))),
       )
     ]

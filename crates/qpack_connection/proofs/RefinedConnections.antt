@@ -1,9 +1,10 @@
 -- A section that is encoded on a connection in bytes is one that the session of values writes.
 use Rattle.std.proofs.Common.{◌≡◌, ◌<◌, ◌^◌, ℕ, Bool, true, false, cond, List, [], ◌∷◌, ◌++◌, length}
-use Rattle.std.proofs.Common.{Option, None, Some, Result, Ok, refl, sym, ap, subst, ◌∙◌, arith, inl, inr}
-use Rattle.std.proofs.Common.{length-append, IfSome}
+use Rattle.std.proofs.Common.{Option, None, Some, Result, Ok, Err, refl, sym, ap, subst, ◌∙◌, arith, inl, inr}
+use Rattle.std.proofs.Common.{length-append, ◌≤◌}
 use Rattle.std.specs.List.{AllByRecursion}
-use Rattle.std.specs.Prelude.{nat_eq}
+use Rattle.std.specs.Prelude.{nat_eq, nat_le}
+use Rattle.std.proofs.lemmas.Bool.{leb-true}
 use Rattle.std.proofs.lemmas.List.{append_assoc, append-nil, take-append-le}
 use Rattle.qpack_spec.specs.Chosen.{chosen_rule}
 use Rattle.qpack_spec.specs.Field.{FieldLine, fields_of_lines}
@@ -11,31 +12,36 @@ use Rattle.qpack_spec.specs.Instruction.{EncoderInstruction, SetCapacity, Spells
 use Rattle.qpack_spec.specs.Instruction.{coded_encoder_instruction, written_encoder_instruction, coded_encoder_instructions}
 use Rattle.qpack_spec.specs.Marked.{coded_marked_block}
 use Rattle.qpack_spec.specs.Reading.{greatest_of}
-use Rattle.qpack_spec.specs.Rule.{block_of, committed_table}
+use Rattle.qpack_spec.specs.Rule.{block_of, committed_table, required_insert_count}
 use Rattle.qpack_rules.specs.Session.{RequestStream, stream_at, with_stream}
 use Rattle.qpack_spec.specs.Stream.{SpellsAll}
-use Rattle.qpack_spec.specs.Table.{Table, with_capacity, empty_table}
-use Rattle.qpack_spec.specs.Window.{TableRefusal}
+use Rattle.qpack_spec.specs.Table.{Table, UnacknowledgedBlock, with_capacity, with_unacknowledged, empty_table}
+use Rattle.qpack_spec.specs.Window.{TableRefusal, AboveMaximum, greatest_capacity}
 use Rattle.qpack_spec.specs.WrittenLaws.{IsByteField, IsWritableInstructionUnder}
 use Rattle.qpack_spec.specs.Text.{WhereShorter}
 use Rattle.qpack_rules.proofs.ChosenWritten.{chosen_written}
 use Rattle.qpack_spec.proofs.Cuttings.{joined_append}
+use Rattle.qpack_spec.proofs.Results.{chosen, ok_is}
 use Rattle.qpack_spec.proofs.WrittenDrafts.{instructions_fit}
 use Rattle.qpack_safety.specs.AbstractSession.{AbstractBlock, AbstractStream, AbstractSession, abstract_start}
 use Rattle.qpack_safety.specs.AbstractSession.{after_resize}
 use Rattle.qpack_safety.specs.TwoEnds.{EndStep, Encode, EncodeAlone, Resize, after_end_step, after_end_steps}
 use Rattle.qpack_safety.proofs.HandedSections.{chosen_block, alone_block}
-use Rattle.qpack_safety.proofs.Invariant.{Invariant}
+use Rattle.qpack_rules.proofs.ChosenDrafts.{chosen_drafts}
+use Rattle.qpack_safety.proofs.Encoding.{same_committed}
+use Rattle.qpack_safety.proofs.Invariant.{Invariant, sound_made}
+use Rattle.qpack_safety.proofs.Resizing.{resized_table, resized_cases, same_resized}
 use Rattle.qpack_safety.proofs.Shown.{agrees_push, instructions_joined}
 use Rattle.qpack_safety.proofs.TwoEnds.{holds_started, holds_behind}
 use Rattle.qpack_safety.proofs.WritingEvents.{few_insertions}
 use Rattle.qpack_connection.specs.Connections.{SentSection, Connection, with_encoder, with_section}
-use Rattle.qpack_ends.specs.Encoders.{EncodingEnd, IsToBeTold, begun, begun_with, WritesSection, WritesAlone}
+use Rattle.qpack_ends.specs.Encoders.{EncodingEnd, TellsCapacity, told, told_if, begun, begun_with, WritesSection}
+use Rattle.qpack_ends.specs.Encoders.{WritesAlone}
 use Rattle.qpack_ends.specs.Hearing as hearing
 use Rattle.qpack_ends.specs.Receiving as receiving
 use Rattle.qpack_connection.specs.RefinedConnections.{received_of, RefinesSection, RefinesStream, RefinesSession}
 use Rattle.qpack_connection.specs.RefinedConnections.{EncodesAreRefined}
-use Rattle.qpack_ends.proofs.Encoders.{takes_capacity}
+use Rattle.qpack_connection.proofs.ThinnedStreams.{KeepsSections, keeps_same, keeps_more, thins_kept}
 
 -- ---- the encoder writes
 
@@ -45,9 +51,10 @@ pub written_more : (maximum : ℕ) (c : Connection) (w : AbstractSession) (e : E
     → RefinesSession maximum c w → e.table ≡ t → e.stream ≡ c.encoder.stream
     → e.unsent ≡ coded_encoder_instructions WhereShorter is → AllByRecursion (IsWritableInstructionUnder WhereShorter) is
     → flight ≡ w.in_flight ++ is → ((s : ℕ) → RefinesStream (stream_at ps s) (stream_at qs s))
+    → KeepsSections w.encoder t
     → RefinesSession maximum (record (with_encoder e c) { streams = ps })
     (record w { encoder = t; in_flight = flight; streams = qs })
-written_more maximum c w e t is flight ps qs k table stream unsent are more streams =
+written_more maximum c w e t is flight ps qs k table stream unsent are more streams keeps =
     let same : received_of (record c.encoder_stream { written = c.encoder_stream.written ++ e.unsent })
     ≡ received_of c.encoder_stream =
     take-append-le c.encoder_stream.received c.encoder_stream.written e.unsent k.encoder_stream_order in
@@ -74,7 +81,9 @@ written_more maximum c w e t is flight ps qs k table stream unsent are more stre
       received = received.0;
       taken_are = received.1;
       heard = k.heard;
+      under_way = k.under_way;
       decoder_stream = k.decoder_stream;
+      thins = thins_kept w.encoder t k.under_way w.decoder_in_flight keeps k.thins;
       decoder_stream_order = k.decoder_stream_order;
       hears = subst (λ (s : hearing.StreamView). hearing.Receives k.heard (received_of c.decoder_stream) s)
           (sym stream) k.hears;
@@ -103,7 +112,7 @@ section_more s k b ps qs is all q = both (nat_eq s q)
         }
     both false = all q
 
--- ---- a section, where no capacity is to be told
+-- ---- a section
 
 -- the session's block of a section under some choices
 section_refined : (maximum limit : ℕ) (c : Connection) (w : AbstractSession) (e : EncodingEnd) (s : ℕ)
@@ -127,6 +136,8 @@ section_refined maximum limit c w e s fields section required k r are short smal
     let fits : length (coded_encoder_instructions WhereShorter d.instructions) < 2 ^ 63 =
     omega (arith, short, length-append c.encoder_stream.written e.unsent, ap length unsent) in
     let wd = chosen_written w.encoder fields cs (few_insertions 0 maximum limit w k) are in
+    let p = chosen_drafts w.encoder k.made fields cs (sound_made 0 maximum limit w k) k.encoder in
+    let same = same_committed d.table s (required_insert_count d) in
     written_more maximum c w e (committed_table d s) d.instructions (w.in_flight ++ d.instructions) _ _ r table
     (ap (λ (y : EncodingEnd). y.stream) writes.new_is) unsent
     (instructions_fit WhereShorter d.instructions wd.instructions fits) refl
@@ -140,6 +151,9 @@ section_refined maximum limit c w e s fields section required k r are short smal
       are_bytes = are;
       short = small;
     }) r.streams)
+    (keeps_more w.encoder (committed_table d s) s d.table.referenced (same.c_known ∙ p.references.known_received_count)
+    (same.c_opened
+    ∙ ap (λ (bs : List UnacknowledgedBlock). with_unacknowledged bs s d.table.referenced) p.references.unacknowledged))
 
 -- a section without references
 alone_refined : (maximum : ℕ) (c : Connection) (w : AbstractSession) (e : EncodingEnd) (s : ℕ)
@@ -161,36 +175,82 @@ alone_refined maximum c w e s fields section required r are small writes =
       block_is = alone_block fields _ refl refl;
       are_bytes = are;
       short = small;
-    }) r.streams)
+    }) r.streams) (keeps_same w.encoder w.encoder refl refl)
 
--- ---- a capacity that is to be told first
+-- ---- a capacity
 
--- the session behind the capacity that is told before the first section, if one is
-pub told_refined : (maximum : ℕ) (c : Connection) (w : AbstractSession) (o : Option ℕ)
-    → IfSome o (λ n. IsToBeTold c.encoder n) → RefinesSession maximum c w
+abbrev table_ok : Table → Result Table TableRefusal
+table_ok t = Ok t
+
+-- one that a table takes is small
+capacity_small : (t u : Table) (n : ℕ) → with_capacity t n ≡ Ok u → n < 2 ^ 30
+unfolding with_capacity
+capacity_small t u n h =
+    elim (chosen (nat_le n (greatest_capacity t.agreed_max)) _ (Err AboveMaximum) (table_ok u) h) [
+      | inl within ↦ bound t.agreed_max (leb-true n (greatest_capacity t.agreed_max) within.0)
+      | inr above ↦ absurd (let l = above.1 in cc)
+    ]
+  where
+    bound : (o : Option ℕ) → n ≤ greatest_capacity o → n < 2 ^ 30
+    bound None h = omega (arith, h)
+    bound (Some most) h = omega (arith, h)
+
+-- and keeps the sections that are not acknowledged
+keeps_capacity : (t u : Table) (n : ℕ) → with_capacity t n ≡ Ok u → KeepsSections t u
+keeps_capacity t u n h = elim (resized_cases t n) [
+  | inl takes ↦
+      let z = same_resized t n in
+      subst (λ (x : Table). KeepsSections t x) (ok_is (resized_table t n) u (sym takes.1 ∙ h))
+      (keeps_same t (resized_table t n) z.z_known z.z_opened)
+  | inr refuses ↦ absurd (let x = sym refuses.1 ∙ h in cc)
+]
+
+-- the capacity is told
+pub capacity_refined : (maximum : ℕ) (c : Connection) (w : AbstractSession) (e : EncodingEnd) (n : ℕ)
+    → RefinesSession maximum c w → TellsCapacity c.encoder e n (Ok tt)
+    → RefinesSession maximum (with_encoder e c) (after_resize w n (with_capacity w.encoder n))
+unfolding coded_encoder_instructions coded_encoder_instruction
+capacity_refined maximum c w e n r tells =
+    let takes : with_capacity w.encoder n ≡ Ok e.table =
+    ap (λ (t : Table). with_capacity t n) (sym r.encoder_is) ∙ tells.0 in
+    subst (λ (x : Result Table TableRefusal). RefinesSession maximum (with_encoder e c) (after_resize w n x))
+    (sym takes)
+    (written_more maximum c w e e.table (SetCapacity n ∷ []) (w.in_flight ++ SetCapacity n ∷ []) c.streams w.streams r
+    refl (ap (λ (x : EncodingEnd). x.stream) tells.1)
+    (ap (λ (x : EncodingEnd). x.unsent) tells.1
+    ∙ ap (λ (x : List ℕ). x ++ written_encoder_instruction (SetCapacity n)) r.encoder_sent
+    ∙ sym (append-nil (written_encoder_instruction (SetCapacity n))))
+    (omega (arith, capacity_small w.encoder e.table n takes), tt) refl r.streams
+    (keeps_capacity w.encoder e.table n takes))
+
+-- nothing is done, whatever waits
+pub kept_refined : (maximum : ℕ) (c : Connection) (w : AbstractSession) (e : EncodingEnd) → RefinesSession maximum c w
+    → e.table ≡ c.encoder.table → e.stream ≡ c.encoder.stream → e.unsent ≡ c.encoder.unsent
+    → RefinesSession maximum (with_encoder e c) w
+unfolding coded_encoder_instructions coded_encoder_instruction
+kept_refined maximum c w e r table stream unsent =
+    written_more maximum c w e w.encoder [] w.in_flight c.streams w.streams r (table ∙ r.encoder_is) stream
+    (unsent ∙ r.encoder_sent) tt (sym (append-nil w.in_flight)) r.streams (keeps_same w.encoder w.encoder refl refl)
+
+pub same_refined : (maximum : ℕ) (c : Connection) (w : AbstractSession) (e : EncodingEnd) → RefinesSession maximum c w
+    → e ≡ c.encoder → RefinesSession maximum (with_encoder e c) w
+same_refined maximum c w e r same =
+    kept_refined maximum c w e r (ap (λ (x : EncodingEnd). x.table) same) (ap (λ (x : EncodingEnd). x.stream) same)
+    (ap (λ (x : EncodingEnd). x.unsent) same)
+
+told_refined_if : (maximum : ℕ) (c : Connection) (w : AbstractSession) (n : ℕ) (x : Result Table TableRefusal)
+    → with_capacity c.encoder.table n ≡ x → RefinesSession maximum c w
+    → (steps : List EndStep) × RefinesSession maximum (with_encoder (told_if n c.encoder x) c) (after_end_steps steps w)
+told_refined_if maximum c w n (Ok t) takes r =
+    (Resize n ∷ [], capacity_refined maximum c w (told n t c.encoder) n r (takes, refl))
+told_refined_if maximum c w n (Err e) takes r = ([], same_refined maximum c w c.encoder r refl)
+
+-- the session behind the capacity that waits, if one does, and is told if the table takes it
+pub told_refined : (maximum : ℕ) (c : Connection) (w : AbstractSession) (o : Option ℕ) → RefinesSession maximum c w
     → (steps : List EndStep) × RefinesSession maximum (with_encoder (begun_with o c.encoder) c)
     (after_end_steps steps w)
-unfolding coded_encoder_instructions coded_encoder_instruction
-told_refined maximum c w None k r = (
-  [],
-  written_more maximum c w c.encoder w.encoder [] w.in_flight c.streams w.streams r r.encoder_is refl r.encoder_sent tt
-      (sym (append-nil w.in_flight)) r.streams,
-)
-told_refined maximum c w (Some n) k r =
-    let t : Table = record w.encoder { capacity = n } in
-    let takes : with_capacity w.encoder n ≡ Ok t =
-    subst (λ (x : Table). with_capacity x n ≡ Ok (record x { capacity = n })) r.encoder_is
-    (takes_capacity c.encoder.table n c.encoder.settings.max_capacity k.within k.small k.agreed k.nothing_live) in (
-      Resize n ∷ [],
-      subst (λ (x : Result Table TableRefusal). RefinesSession maximum (with_encoder (begun_with (Some n) c.encoder) c)
-          (after_resize w n x)) (sym takes)
-          (written_more maximum c w (begun_with (Some n) c.encoder) t (SetCapacity n ∷ [])
-          (w.in_flight ++ SetCapacity n ∷ []) c.streams w.streams r
-          (ap (λ (x : Table). let y : Table = record x { capacity = n } in y) r.encoder_is) refl
-          (ap (λ (x : List ℕ). x ++ written_encoder_instruction (SetCapacity n)) r.encoder_sent
-          ∙ sym (append-nil (written_encoder_instruction (SetCapacity n))))
-          (omega (arith, k.within, k.small), tt) refl r.streams),
-    )
+told_refined maximum c w None r = ([], same_refined maximum c w c.encoder r refl)
+told_refined maximum c w (Some n) r = told_refined_if maximum c w n (with_capacity c.encoder.table n) refl r
 
 -- ---- a call
 
@@ -251,7 +311,7 @@ alone_behind : (c : Connection) (e : EncodingEnd) (fields : List FieldLine) (sec
 alone_behind c e fields section required writes = (
   ap (λ (x : EncodingEnd). x.unsent) writes.new_is ∙ sym (append-nil (begun c.encoder).unsent),
   record {
-    full = writes.full;
+    alone = writes.alone;
     required_is = writes.required_is;
     section = writes.section;
     new_is = ap (λ (x : EncodingEnd). let y : EncodingEnd = record x { unsent = [] } in y) writes.new_is;
@@ -262,7 +322,7 @@ pub encodes_refined : EncodesAreRefined
 encodes_refined maximum limit c new steps s fields required r sound are short call small =
     let start = abstract_start 0 maximum limit in
     let w = after_end_steps steps start in
-    let first = told_refined maximum c w c.encoder.wanted sound.wanted r in
+    let first = told_refined maximum c w c.encoder.wanted r in
     let w1 = after_end_steps first.0 w in
     let c1 = with_encoder (begun c.encoder) c in
     let e = call.encoder in

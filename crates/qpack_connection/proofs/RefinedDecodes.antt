@@ -2,9 +2,10 @@
 use Rattle.std.proofs.Common.{◌≡◌, ◌≤◌, ◌<◌, ◌^◌, ◌+◌, ℕ, zero, suc, Bool, true, false, cond, List, [], ◌∷◌, ◌++◌}
 use Rattle.std.proofs.Common.{length, Option, None, Some, Result, Ok, Err, refl, sym, ap, subst, ◌∙◌, arith}
 use Rattle.std.proofs.Common.{inl, inr, ◌⊎◌}
+use Rattle.std.specs.List.{AllByRecursion}
 use Rattle.std.specs.Option.{is_some}
 use Rattle.std.specs.Prelude.{nat_eq, nat_lt, not, slice_get}
-use Rattle.std.proofs.lemmas.Bool.{cases_lt, ne_eqb, eq-eqb, lt-ltb}
+use Rattle.std.proofs.lemmas.Bool.{cases_lt, ne_eqb, eq-eqb, lt-ltb, ltb-false}
 use Rattle.std.proofs.lemmas.List.{append_assoc, append-nil}
 use Rattle.qpack_spec.specs.Field.{FieldLine, fields_of_lines, total_size}
 use Rattle.qpack_spec.specs.Instruction.{DecoderInstruction, Acknowledgment, written_decoder_instruction}
@@ -37,15 +38,17 @@ use Rattle.qpack_ends.specs.declared.section.SectionError.{SectionError}
 use Rattle.qpack_ends.specs.declared.section.SectionError.TheVariants as section
 use Rattle.qpack_connection.specs.Connections.{SentSection, Connection, with_decoder, with_reading}
 use Rattle.qpack_ends.specs.Blocked.{without}
-use Rattle.qpack_ends.specs.Decoders.{DecodingEnd, acknowledged, with_report, unreported, section_refused, Checks}
-use Rattle.qpack_ends.specs.Decoders.{IsNotAnswered, StopsForMemory, StopsDecoding, Decodes}
+use Rattle.qpack_ends.specs.Decoders.{DecodingEnd, acknowledged, report_before, with_report, unreported, section_refused}
+use Rattle.qpack_ends.specs.Decoders.{Checks, IsNotAnswered, StopsForMemory, StopsDecoding, Decodes}
 use Rattle.qpack_connection.specs.RefinedConnections.{RefinesSection, RefinesStream, RefinesSession}
 use Rattle.qpack_connection.specs.RefinedDecodes.{AnswersSection, DecodesAreRefined}
 use Rattle.qpack_connection.specs.RefinedStreams.{IsOpen}
 use Rattle.qpack_ends.specs.Sections.{TellsReading, code_of}
-use Rattle.qpack_connection.proofs.RefinedCancellations.{written_back}
+use Rattle.qpack_connection.proofs.RefinedCancellations.{written_back, nothing_back}
 use Rattle.qpack_connection.proofs.RefinedConnections.{after_more}
-use Rattle.qpack_connection.proofs.RefinedReceptions.{all_reported}
+use Rattle.qpack_connection.proofs.RefinedReports.{all_reported}
+use Rattle.qpack_connection.proofs.ThinnedSessions.{IsUnderWay, report_and_acknowledgment, acknowledgment_under_way}
+use Rattle.qpack_connection.proofs.ThinnedSessions.{alone_under_way}
 
 -- ---- the next section
 
@@ -188,11 +191,8 @@ quiet : (maximum : ℕ) (c : Connection) (w : AbstractSession) (d : DecodingEnd)
     → d.table ≡ c.decoder.table → d.stream ≡ c.decoder.stream → d.reported ≡ c.decoder.reported
     → d.unsent ≡ c.decoder.unsent → ((q : ℕ) → RefinesStream (stream_at ps q) (stream_at qs q))
     → RefinesSession maximum (record (with_decoder d c) { streams = ps }) (record w { streams = qs })
-unfolding written_decoder_instructions
 quiet maximum c w d ps qs r table stream reported unsent streams =
-    written_back maximum c w d [] w.decoder_in_flight w.unreported ps qs r table stream
-    (omega (arith, reported, ap insert_count table, r.reported_is)) (unsent ∙ r.decoder_sent) tt
-    (sym (append-nil w.decoder_in_flight)) streams
+    nothing_back maximum c w d ps qs r table stream reported (unsent ∙ r.decoder_sent) streams
 
 written_last : (rs : List DecoderInstruction) (r : DecoderInstruction)
     → written_decoder_instructions (rs ++ r ∷ []) ≡ written_decoder_instructions rs ++ written_decoder_instruction r
@@ -202,6 +202,10 @@ written_last (x ∷ rs) r =
     ap (λ (b : List ℕ). written_decoder_instruction x ++ b) (written_last rs r)
     ∙ sym (append_assoc (written_decoder_instruction x) (written_decoder_instructions rs)
     (written_decoder_instruction r))
+
+written_one : (r : DecoderInstruction) → written_decoder_instruction r ≡ written_decoder_instructions (r ∷ [])
+unfolding written_decoder_instructions
+written_one r = sym (append-nil (written_decoder_instruction r))
 
 -- one that requires no entry
 plain_refined : (maximum limit : ℕ) (c : Connection) (w : AbstractSession) (s : ℕ) (k : SentSection) (d : DecodingEnd)
@@ -222,7 +226,74 @@ plain_refined maximum limit c w s k d fields r h live n none is =
     (both_decoded s 0 st.acknowledged c.streams w.streams
     (with_stream w.streams s (record st { decoded = st.decoded + 1 })) (λ q. refl) (omega arith) r.streams))
 
--- one that does
+-- what is written for one that does
+record Acknowledged (maximum : ℕ) (c : Connection) (w : AbstractSession) (r : RefinesSession maximum c w) (s many : ℕ) :
+    Type 0 where
+  pub instructions : List DecoderInstruction
+  pub unsent : (acknowledged s (suc many) c.decoder).unsent ≡ written_decoder_instructions instructions
+  pub are : AllByRecursion IsWritableDecoderInstruction instructions
+  pub under_way : IsUnderWay w (r.under_way ++ instructions) (w.decoder_in_flight ++ report_and_acknowledgment w s)
+
+acknowledged_is : (maximum limit : ℕ) (c : Connection) (w : AbstractSession) (s many : ℕ) (k : SentSection)
+    → (r : RefinesSession maximum c w) → Holds 0 maximum limit w
+    → (stream_at c.streams s).cancelled ≡ false → (n : NextBlock c w s k) → required_count n.block ≡ suc many
+    → s < 2 ^ 62 → Acknowledged maximum c w r s many
+acknowledged_is maximum limit c w s many k r h live n some small =
+    by (nat_lt (suc many) (insert_count c.decoder.table)) refl
+  where
+    pieces : List DecoderInstruction
+    pieces = increments (pieces_of w.unreported)
+
+    ack : List ℕ
+    ack = written_decoder_instruction (Acknowledgment s)
+
+    alive : (stream_at w.streams s).cancelled ≡ false
+    alive = sym (r.streams s).cancelled_is ∙ live
+
+    dynamic : is_dynamic n.block ≡ true
+    dynamic = ap not (ne_eqb (required_count n.block) 0 (λ none. absurd (omega (arith, none, some))))
+
+    fits : s < 2 ^ 63
+    fits = omega (arith, small)
+
+    told : unreported c.decoder ≡ w.unreported
+    told = omega (arith, r.reported_is)
+
+    unsent : (b : Bool) → nat_lt (suc many) (insert_count c.decoder.table) ≡ b
+        → (acknowledged s (suc many) c.decoder).unsent
+        ≡ cond b (written_decoder_instructions (increments (pieces_of (unreported c.decoder)))) [] ++ ack
+    unsent b is =
+        ap (λ (x : List ℕ). (x ++ report_before (suc many) c.decoder) ++ ack) r.decoder_sent
+        ∙ ap (λ (x : Bool). cond x (written_decoder_instructions (increments (pieces_of (unreported c.decoder)))) [] ++ ack)
+        is
+
+    by : (b : Bool) → nat_lt (suc many) (insert_count c.decoder.table) ≡ b → Acknowledged maximum c w r s many
+    by true is =
+        record {
+          instructions = pieces ++ Acknowledgment s ∷ [];
+          unsent = unsent true is
+              ∙ ap (λ (m : ℕ). written_decoder_instructions (increments (pieces_of m)) ++ ack) told
+              ∙ sym (written_last pieces (Acknowledgment s));
+          are = every_append IsWritableDecoderInstruction pieces (Acknowledgment s ∷ [])
+              (increments_writable (pieces_of w.unreported) (pieces_small w.unreported)) (fits, tt);
+          under_way = acknowledgment_under_way maximum limit w r.under_way s n.block h r.thins alive n.next dynamic;
+        }
+    by false is =
+        let all : window_insert_count w.decoder ≤ required_count n.block =
+        omega (
+          arith,
+          ltb-false (suc many) (insert_count c.decoder.table) is,
+          some,
+          ap insert_count r.decoder_is,
+          count_put w.decoder,
+        ) in
+        record {
+          instructions = Acknowledgment s ∷ [];
+          unsent = unsent false is ∙ written_one (Acknowledgment s);
+          are = (fits, tt);
+          under_way = alone_under_way maximum limit w r.under_way s n.block h r.thins alive n.next dynamic all;
+        }
+
 dynamic_refined : (maximum limit : ℕ) (c : Connection) (w : AbstractSession) (s many : ℕ) (k : SentSection)
     (d : DecodingEnd) → RefinesSession maximum c w → Holds 0 maximum limit w
     → (stream_at c.streams s).cancelled ≡ false → (n : NextBlock c w s k) → required_count n.block ≡ suc many
@@ -236,31 +307,22 @@ dynamic_refined maximum limit c w s many k d r h live n some within small is =
     let dynamic : is_dynamic n.block ≡ true =
     ap not (ne_eqb (required_count n.block) 0 (λ none. absurd (omega (arith, none, some)))) in
     let table : d.table ≡ c.decoder.table = ap (λ (x : DecodingEnd). x.table) is in
-    let told : unreported c.decoder ≡ w.unreported = omega (arith, r.reported_is) in
     let v1 : AbstractStream = record st { decoded = st.decoded + 1 } in
     let v2 : AbstractStream = record st { decoded = st.decoded + 1; acknowledged = st.acknowledged + 1 } in
-    let pieces = increments (pieces_of w.unreported) in
+    let a = acknowledged_is maximum limit c w s many k r h live n some small in
     subst (λ (x : AbstractSession). RefinesSession maximum
     (with_reading s (Ok (reading.Fields (suc many))) (with_decoder d c)) x)
     (sym (decoded_dynamic 0 maximum limit w s n.block h.strict n.next can dynamic))
-    (written_back maximum c w d (pieces ++ Acknowledgment s ∷ [])
-    ((w.decoder_in_flight ++ pieces) ++ Acknowledgment s ∷ []) 0 _ _ r table (ap (λ (x : DecodingEnd). x.stream) is)
+    (written_back maximum c w d a.instructions
+    ((w.decoder_in_flight ++ increments (pieces_of w.unreported)) ++ Acknowledgment s ∷ []) 0 _ _ r table
+    (ap (λ (x : DecodingEnd). x.stream) is)
     (omega (arith, ap (λ (x : DecodingEnd). x.reported) is, ap insert_count table))
-    (ap (λ (x : DecodingEnd). x.unsent) is
-    ∙ ap (λ (b : List ℕ). (b ++ written_decoder_instructions (increments (pieces_of (unreported c.decoder))))
-    ++ written_decoder_instruction (Acknowledgment s)) r.decoder_sent
-    ∙ ap (λ (m : ℕ). written_decoder_instructions (increments (pieces_of m))
-    ++ written_decoder_instruction (Acknowledgment s)) told
-    ∙ sym (written_last pieces (Acknowledgment s)))
-    (every_append IsWritableDecoderInstruction pieces (Acknowledgment s ∷ [])
-    (increments_writable (pieces_of w.unreported) (pieces_small w.unreported)) (fits small, tt))
-    (append_assoc w.decoder_in_flight pieces (Acknowledgment s ∷ []))
+    (ap (λ (x : DecodingEnd). x.unsent) is ∙ a.unsent) a.are
+    (subst (λ (flight : List DecoderInstruction). IsUnderWay w (r.under_way ++ a.instructions) flight)
+    (sym (append_assoc w.decoder_in_flight (increments (pieces_of w.unreported)) (Acknowledgment s ∷ []))) a.under_way)
     (both_decoded s (cond (nat_lt 0 (suc many)) 1 0) (st.acknowledged + 1) c.streams w.streams
     (with_stream (with_stream w.streams s v1) s v2) (λ q. twice (nat_eq s q) v2 v1 (stream_at w.streams q))
     (ap (λ (b : Bool). st.acknowledged + cond b 1 0) (sym (lt-ltb 0 (suc many) (omega arith)))) r.streams))
-  where
-    fits : s < 2 ^ 62 → s < 2 ^ 63
-    fits small = omega (arith, small)
 
 -- ---- a call
 
@@ -268,7 +330,8 @@ dynamic_refined maximum limit c w s many k d r h live n some within small is =
 pub stops_for_memory : (old new : DecodingEnd) (read : StrictReading) → StopsForMemory old new read
     → (new ≡ old) ⊎ (new ≡ with_report old)
 stops_for_memory old new (Read fields zero) same = inl same
-stops_for_memory old new (Read fields (suc required)) same = same
+stops_for_memory old new (Read fields (suc required)) (inl same) = inl same
+stops_for_memory old new (Read fields (suc required)) (inr written) = inr written.1
 stops_for_memory old new (Blocked required) same = inl same
 stops_for_memory old new (Refused fault) same = inl same
 
@@ -438,7 +501,7 @@ decodes_refined maximum limit c new steps s fields answer r alive call may =
       | inl same ↦ unchanged (Err Memory) refl is none (ap (λ (y : DecodingEnd). y.failure) same) [] (same_end same)
       | inr reported ↦
           unchanged (Err Memory) refl is none (ap (λ (y : DecodingEnd). y.failure) reported) (Report ∷ [])
-          (all_reported maximum c w d r reported)
+          (all_reported maximum limit c w d r holds reported)
     ]
     by_error (EncoderStream p x) none (inr (checks, tells)) is = absurd tells
     by_error (NoStream q) none (inr (checks, tells)) is = absurd tells

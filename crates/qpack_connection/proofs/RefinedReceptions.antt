@@ -1,4 +1,4 @@
--- What the decoder of a connection in bytes receives is what the decoder of the session takes, and reports.
+-- What the decoder of a connection in bytes receives is what the decoder of the session takes.
 use Rattle.std.proofs.Common.{◌≡◌, ◌≤◌, ◌+◌, ◌-◌, ℕ, List, [], ◌∷◌, ◌++◌, length, take, drop, None, Some, Result}
 use Rattle.std.proofs.Common.{Ok, Err, refl, sym, ap, subst, ◌∙◌, arith, length-append}
 use Rattle.std.specs.Prelude.{⊤}
@@ -38,9 +38,9 @@ use Rattle.qpack_ends.specs.Receiving.{StreamView, ReceivesMore}
 use Rattle.qpack_connection.specs.RefinedConnections.{received_of, RefinesSession}
 use Rattle.qpack_connection.specs.RefinedStreams.{IsOpen, AnswersTotal, ReceptionsAreRefined}
 use Rattle.qpack_connection.proofs.LawfulPieces.{encoder_streams_taken}
-use Rattle.qpack_connection.proofs.RefinedCancellations.{written_back}
 use Rattle.qpack_connection.proofs.RefinedConnections.{after_more}
 use Rattle.qpack_connection.proofs.RefinedHearings.{whole_wire, came_all, within_wire}
+use Rattle.qpack_connection.proofs.RefinedReports.{none_written}
 
 -- ---- the instructions that came
 
@@ -128,7 +128,9 @@ took_more maximum limit c w t s count many d more still r table flight old new k
       received = k;
       taken_are = lines;
       heard = r.heard;
+      under_way = r.under_way;
       decoder_stream = r.decoder_stream;
+      thins = r.thins;
       decoder_stream_order = r.decoder_stream_order;
       hears = r.hears;
       streams = r.streams;
@@ -216,43 +218,6 @@ least_whole taken lines front rest longer others joined more same cut =
     (same ∙ ap (λ (b : List ℕ). longer ++ b) (sym (append-nil others)))
     (omega (arith, ap length same, length-append front rest, length-append longer others))
 
--- ---- the end of a call
-
--- the decoder wrote the increments for all that it did not report
-pub all_reported : (maximum : ℕ) (c : Connection) (w : AbstractSession) (d : DecodingEnd) → RefinesSession maximum c w
-    → d ≡ with_report c.decoder → RefinesSession maximum (with_decoder d c) (after_end_step w Report)
-all_reported maximum c w d r is =
-    let table : d.table ≡ c.decoder.table = ap (λ (x : DecodingEnd). x.table) is in
-    let many : unreported c.decoder ≡ w.unreported = omega (arith, r.reported_is) in
-    subst (λ (x : AbstractSession). RefinesSession maximum (with_decoder d c) x) (sym (reporting_is w))
-    (written_back maximum c w d (increments (pieces_of w.unreported))
-    (w.decoder_in_flight ++ increments (pieces_of w.unreported)) 0 c.streams w.streams r table
-    (ap (λ (x : DecodingEnd). x.stream) is)
-    (omega (arith, ap (λ (x : DecodingEnd). x.reported) is, ap insert_count table))
-    (ap (λ (x : DecodingEnd). x.unsent) is
-    ∙ ap (λ (b : List ℕ). b ++ written_decoder_instructions (increments (pieces_of (unreported c.decoder))))
-    r.decoder_sent
-    ∙ ap (λ (n : ℕ). written_decoder_instructions (increments (pieces_of n))) many)
-    (increments_writable (pieces_of w.unreported) (pieces_small w.unreported)) refl r.streams)
-
--- or nothing
-pub none_written : (maximum : ℕ) (c : Connection) (w : AbstractSession) (d : DecodingEnd) → RefinesSession maximum c w
-    → d ≡ c.decoder → RefinesSession maximum (with_decoder d c) w
-unfolding written_decoder_instructions
-none_written maximum c w d r is =
-    written_back maximum c w d [] w.decoder_in_flight w.unreported c.streams w.streams r
-    (ap (λ (x : DecodingEnd). x.table) is) (ap (λ (x : DecodingEnd). x.stream) is)
-    (subst (λ (x : DecodingEnd). x.reported + w.unreported ≡ insert_count x.table) (sym is) r.reported_is)
-    (ap (λ (x : DecodingEnd). x.unsent) is ∙ r.decoder_sent) tt (sym (append-nil w.decoder_in_flight)) r.streams
-
--- a session behind a step more
-one_step_more : (maximum : ℕ) (c : Connection) (steps more : List EndStep) (e : EndStep) (w : AbstractSession)
-    → RefinesSession maximum c (after_end_step (after_end_steps more (after_end_steps steps w)) e)
-    → RefinesSession maximum c (after_end_steps (steps ++ (more ++ e ∷ [])) w)
-one_step_more maximum c steps more e w =
-    subst (λ (x : AbstractSession). RefinesSession maximum c x)
-    (sym (after_more steps (more ++ e ∷ []) w ∙ after_more more (e ∷ []) (after_end_steps steps w)))
-
 -- ---- a call
 
 -- what a call answers, by the table behind it
@@ -315,22 +280,6 @@ receptions_refined maximum limit c new steps many answer r alive call =
         → AnswersTotal new a
     told_at (Ok total) count is told = told ∙ ap (λ (y : Connection). insert_count y.decoder.table) (sym is)
     told_at (Err e) count is told = told
-
-    reported : (a : Result ℕ DecodingError) (count : ℕ) → d ≡ with_report (received d.table d.stream c.decoder)
-        → TellsTotal d.table a → length next - length call.left ≡ count → Came maximum c w d.table d.stream count
-        → AnswersTotal new a × IsOpen new × (more : List EndStep)
-        × RefinesSession maximum new (after_end_steps (steps ++ more) start)
-    reported a count is told left came =
-        let took = took_all maximum limit c w d.table d.stream count r holds lawful came in
-        let same = shape count left in (
-          told_at a count same told,
-          opened count same (ap (λ (y : DecodingEnd). y.failure) is ∙ alive.decoder),
-          took.steps ++ Report ∷ [],
-          subst (λ (y : Connection). RefinesSession maximum y
-              (after_end_steps (steps ++ (took.steps ++ Report ∷ [])) start)) (sym same)
-              (one_step_more maximum (with_decoder d (moved count)) steps took.steps Report start
-              (all_reported maximum (moved count) (after_end_steps took.steps w) d took.refines is)),
-        )
 
     kept : (a : Result ℕ DecodingError) (count : ℕ) → d ≡ received d.table d.stream c.decoder
         → TellsTotal d.table a → length next - length call.left ≡ count → Came maximum c w d.table d.stream count
@@ -401,9 +350,8 @@ receptions_refined maximum limit c new steps many answer r alive call =
         → AnswersTotal new a × IsOpen new × (more : List EndStep)
         × RefinesSession maximum new (after_end_steps (steps ++ more) start)
     by_taken (Ok total) (Ok it) stream ends =
-        reported (Ok total) (length next) ends.1 ends.0 (omega (arith, ap length stream.0)) (all_came stream)
-    by_taken (Err e) (Ok it) stream ends =
-        kept (Err e) (length next) ends.2 ends.0 (omega (arith, ap length stream.0)) (all_came stream)
+        kept (Ok total) (length next) ends.1 ends.0 (omega (arith, ap length stream.0)) (all_came stream)
+    by_taken (Err e) (Ok it) stream ends = absurd ends
     by_taken a (Err Memory) stream ends = by_memory a stream ends
     by_taken a (Err (Refused place e)) stream ends =
         absurd (encoder_streams_taken first c.decoder.table d.table lawful.last before next

@@ -1,5 +1,5 @@
 -- A call of a connection in bytes that is refused leaves a session of values.
-use Rattle.std.proofs.Common.{◌≡◌, ◌<◌, ◌≤◌, ◌^◌, ℕ, zero, suc, List, [], ◌∷◌, ◌++◌, length, take, Option, None, Some}
+use Rattle.std.proofs.Common.{◌≡◌, ◌<◌, ◌≤◌, ◌^◌, ℕ, zero, suc, List, [], ◌∷◌, ◌++◌, length, take}
 use Rattle.std.proofs.Common.{Ok, Err, refl, sym, ap, subst, ◌∙◌, arith, inl, inr, ◌⊎◌, length-append}
 use Rattle.std.specs.List.{AllByRecursion}
 use Rattle.std.proofs.lemmas.List.{append_assoc}
@@ -13,7 +13,9 @@ use Rattle.qpack_rules.proofs.ChosenWritten.{chosen_written}
 use Rattle.qpack_spec.proofs.WrittenDrafts.{instructions_fit}
 use Rattle.qpack_safety.specs.AbstractSession.{AbstractSession, abstract_start}
 use Rattle.qpack_safety.specs.TwoEnds.{EndStep, Abandon, after_end_step, after_end_steps}
-use Rattle.qpack_safety.proofs.Invariant.{Invariant}
+use Rattle.qpack_rules.proofs.ChosenDrafts.{chosen_drafts}
+use Rattle.qpack_safety.proofs.Encoding.{same_unnamed}
+use Rattle.qpack_safety.proofs.Invariant.{Invariant, sound_made}
 use Rattle.qpack_safety.proofs.TwoEnds.{holds_started, holds_behind}
 use Rattle.qpack_safety.proofs.WritingEvents.{few_insertions}
 use Rattle.qpack_ends.specs.declared.decoder.DecodingError.TheVariants as decoding
@@ -21,14 +23,16 @@ use Rattle.qpack_ends.specs.declared.encoder.EncodingError.TheVariants as encodi
 use Rattle.qpack_ends.specs.Decoders as decoders
 use Rattle.qpack_connection.specs.Connections.{Connection, with_encoder, with_decoder}
 use Rattle.qpack_ends.specs.Decoders.{DecodingEnd}
-use Rattle.qpack_ends.specs.Encoders.{EncodingEnd, begun, begun_with, Checks, GivesUpSection, StopsForMemory}
+use Rattle.qpack_ends.specs.Encoders.{EncodingEnd, begun, Checks, GivesUpSection, StopsForMemory}
 use Rattle.qpack_connection.specs.RefinedConnections.{RefinesSession}
 use Rattle.qpack_connection.specs.RefinedRefusals.{StopsEncoding, RefusedEncodesAreRefined}
-use Rattle.qpack_connection.specs.RefinedRefusals.{RefusedCapacitiesAreRefined, RefusedCancellationsAreRefined}
+use Rattle.qpack_connection.specs.RefinedRefusals.{RefusedCapacitiesAreRefined, RefusedShrinksAreRefined}
+use Rattle.qpack_connection.specs.RefinedRefusals.{RefusedCancellationsAreRefined}
 use Rattle.qpack_connection.specs.RefinedStreams.{IsOpen}
-use Rattle.qpack_connection.proofs.RefinedCapacities.{same_refined}
-use Rattle.qpack_connection.proofs.RefinedConnections.{written_more, told_refined, after_more, after_last}
-use Rattle.qpack_connection.proofs.RefinedReceptions.{none_written}
+use Rattle.qpack_connection.proofs.KeptConnections.{begun_failure}
+use Rattle.qpack_connection.proofs.RefinedConnections.{written_more, same_refined, told_refined, after_more, after_last}
+use Rattle.qpack_connection.proofs.RefinedReports.{none_written}
+use Rattle.qpack_connection.proofs.ThinnedStreams.{keeps_same}
 
 -- ---- the ends stay open
 
@@ -74,15 +78,15 @@ given_up maximum limit c w e fields k r are short g =
     omega (arith, short, length-append c.encoder_stream.written e.unsent, ap length unsent) in
     let wd =
     chosen_written w.encoder some cs (few_insertions 0 maximum limit w k) (first_bytes g.lines.many fields are) in
+    let p = chosen_drafts w.encoder k.made some cs (sound_made 0 maximum limit w k) k.encoder in
+    let same = same_unnamed d.table in
     written_more maximum c w e (without_references d.table) d.instructions (w.in_flight ++ d.instructions) c.streams
     w.streams r
     (g.lines.table ∙ ap (λ (t : Table). without_references (chosen_rule t some cs).table) r.encoder_is)
     (ap (λ (y : EncodingEnd). y.stream) g.new_is) unsent
     (instructions_fit WhereShorter d.instructions wd.instructions fits) refl r.streams
-
-begun_failure : (o : Option ℕ) (d : EncodingEnd) → (begun_with o d).failure ≡ d.failure
-begun_failure None d = refl
-begun_failure (Some n) d = refl
+    (keeps_same w.encoder (without_references d.table) (same.u_known ∙ p.references.known_received_count)
+    (same.u_opened ∙ p.references.unacknowledged))
 
 pub refused_encodes : RefusedEncodesAreRefined
 refused_encodes maximum limit c new steps s fields x r alive sound are short call =
@@ -101,7 +105,7 @@ refused_encodes maximum limit c new steps s fields x r alive sound are short cal
     now = call.new_is
 
     first : (more : List EndStep) × RefinesSession maximum (with_encoder (begun c.encoder) c) (after_end_steps more w)
-    first = told_refined maximum c w c.encoder.wanted sound.wanted r
+    first = told_refined maximum c w c.encoder.wanted r
 
     behind : (more : List EndStep) → RefinesSession maximum (with_encoder e c) (after_end_steps more w)
         → e.failure ≡ c.encoder.failure → StopsEncoding s x
@@ -180,6 +184,12 @@ refused_capacities maximum limit c new steps n x r alive call = elim call.call [
         (same_refined maximum c (after_end_steps steps (abstract_start 0 maximum limit)) call.encoder r stops.2.1),
   )
 ]
+
+pub refused_shrinks : RefusedShrinksAreRefined
+refused_shrinks maximum limit c new steps n x r alive call =
+    let refused = refused_capacities maximum limit c new steps n x r alive
+    (record { encoder = call.encoder; call = call.call.1; new_is = call.new_is }) in
+    ((call.call.0, refused.0), refused.1, refused.2)
 
 pub refused_cancellations : RefusedCancellationsAreRefined
 refused_cancellations maximum limit c new steps s x r alive call = by_call call.call

@@ -13,7 +13,7 @@ use Rattle.qpack_safety.specs.AbstractSession.{abstract_start}
 use Rattle.qpack_safety.specs.TwoEnds.{EndStep, after_end_steps}
 use Rattle.qpack_safety.proofs.TwoEnds.{strict_ends_safe}
 use Rattle.qpack_ends.specs.declared.blocked.BlockedStream.{BlockedStream}
-use Rattle.qpack_connection.specs.Connections.{Connection, IsNew, Call, Encode, SetCapacity, Hear, Receive}
+use Rattle.qpack_connection.specs.Connections.{Connection, IsNew, Call, Encode, SetCapacity, Shrink, Hear, Receive}
 use Rattle.qpack_connection.specs.Connections.{Decode, Cancel, Step, Run}
 use Rattle.qpack_ends.specs.Encoders.{IsSound}
 use Rattle.qpack_connection.specs.TwoEndsHeadline.{Fits, IsWithin, AllFit, AllAnswer}
@@ -26,7 +26,7 @@ use Rattle.qpack_connection.proofs.WaitingStreams.{apart_from_none, none_waits_t
 use Rattle.qpack_ends.specs.Risk.{streams_at_risk}
 use Rattle.qpack_ends.proofs.Risk.{at_risk_within}
 use Rattle.qpack_connection.proofs.KeptEncoderCalls.{IsKept, Behind, section_kept, refused_section_kept, capacity_kept}
-use Rattle.qpack_connection.proofs.KeptEncoderCalls.{refused_capacity_kept, hearing_kept}
+use Rattle.qpack_connection.proofs.KeptEncoderCalls.{refused_capacity_kept, shrink_kept, refused_shrink_kept, hearing_kept}
 use Rattle.qpack_connection.proofs.KeptDecoderCalls.{reception_kept, cancellation_kept, refused_cancellation_kept}
 use Rattle.qpack_connection.proofs.KeptDecoderCalls.{decode_kept}
 
@@ -43,6 +43,10 @@ step_kept maximum limit most (SetCapacity n (Ok it)) old new steps k step fits =
     capacity_kept maximum limit most old new n steps k step
 step_kept maximum limit most (SetCapacity n (Err e)) old new steps k step fits =
     refused_capacity_kept maximum limit most old new n e steps k step
+step_kept maximum limit most (Shrink n (Ok it)) old new steps k step fits =
+    shrink_kept maximum limit most old new n steps k step
+step_kept maximum limit most (Shrink n (Err e)) old new steps k step fits =
+    refused_shrink_kept maximum limit most old new n e steps k step
 step_kept maximum limit most (Hear many answer) old new steps k step fits =
     hearing_kept maximum limit most old new many answer steps k step
 step_kept maximum limit most (Receive many answer) old new steps k step fits =

@@ -14,13 +14,13 @@ use Rattle.qpack_safety.specs.HandedSections.{IsOverLimit}
 use Rattle.std.proofs.lemmas.Bool.{cases_lt}
 use Rattle.qpack_connection.specs.Connections.{SentSection}
 use Rattle.qpack_connection.specs.LawfulEncoders.{Encoder, IsLawful, Decoder, Coming, begins, Comes, Call, Receive, Decode}
-use Rattle.qpack_connection.specs.LawfulEncoders.{Begin, Read as ReadPiece, Cancel, Sent, Step, Run, IsLawfulPiece}
+use Rattle.qpack_connection.specs.LawfulEncoders.{Begin, Read as ReadPiece, Cancel, Take, Sent, Step, Run, IsLawfulPiece}
 use Rattle.qpack_connection.specs.LawfulEncoders.{IsLawfulCall, AreLawful, Answers, AllAnswer, after_piece}
 use Rattle.qpack_connection.specs.LawfulEncoders.{LawfulEncodersAreUnderstood}
 use Rattle.qpack_connection.proofs.ComingSections.{ReadsWhole, Goes, goes_begins}
 use Rattle.qpack_connection.proofs.LawfulEncoders.{Taken, taken, IsReadAs, is_read_as, decode_answers}
 use Rattle.qpack_connection.proofs.UnderstoodEncoders.{Stays, stays_first, stays_as, stays_still, stays_decoded}
-use Rattle.qpack_connection.proofs.UnderstoodEncoders.{receive_answers, cancel_answers, may_wait}
+use Rattle.qpack_connection.proofs.UnderstoodEncoders.{receive_answers, cancel_answers, stays_taken, may_wait}
 use Rattle.qpack_connection.proofs.UnderstoodPieces.{PieceDone, piece_done}
 
 -- ---- between calls
@@ -139,6 +139,8 @@ step_answers settings (ReadPiece s bytes left last fields answer) x y k step ask
     )
 step_answers settings (Cancel s answer) x y k step asked =
     let r = cancel_answers settings x y s answer k.stays step.0 step.1 in (r.0, holds_same settings x y k r.1 step.2)
+step_answers settings Take x y k step asked =
+    (tt, holds_same settings x y k (stays_taken settings x y k.stays step.1 step.0) step.2)
 step_answers settings (Sent bytes) x y k step asked = (
   tt,
   holds_same settings x y k

@@ -1,8 +1,8 @@
 -- The encoding end of a connection is careful with any decoder, and understands one that keeps to the standard.
-use Rattle.std.proofs.Common.{◌≡◌, ◌<◌, ◌^◌, ◌⊎◌, ℕ, true, List, [], ◌∷◌, drop, length, Option, None}
+use Rattle.std.proofs.Common.{◌≡◌, ◌<◌, ◌≤◌, ◌^◌, ◌⊎◌, ℕ, true, false, List, [], ◌∷◌, drop, length, Option, None}
 use Rattle.std.proofs.Common.{Some, Result, Ok, Err, refl, sym, ap, subst, ◌∙◌, arith, inl, inr}
-use Rattle.std.specs.Option.{IfSome}
-use Rattle.std.specs.Prelude.{⊤, ◌&&◌}
+use Rattle.std.specs.Option.{IfSome, is_some}
+use Rattle.std.specs.Prelude.{⊤, ◌&&◌, ◌||◌}
 use Rattle.std.proofs.lemmas.Bool.{lt-ltb}
 use Rattle.qpack_spec.specs.Chosen.{Choice, Inserts, Chosen, chosen_rule}
 use Rattle.qpack_spec.specs.Field.{FieldLine}
@@ -11,7 +11,8 @@ use Rattle.qpack_rules.specs.LawfulDecoders.{IsQuiet, IsToBeInserted}
 use Rattle.qpack_spec.specs.Rule.{block_of, empty_draft, required_insert_count}
 use Rattle.qpack_spec.specs.Table.{Table, UnacknowledgedBlock, insert_count, window, with_numbers, without_references}
 use Rattle.qpack_spec.specs.Table.{below_limit, has_room, newest_index}
-use Rattle.qpack_spec.specs.Table.{with_unacknowledged}
+use Rattle.qpack_spec.specs.Table.{with_unacknowledged, with_capacity}
+use Rattle.qpack_spec.specs.Window.{TableRefusal, greatest_capacity}
 use Rattle.qpack_rules.proofs.AloneSections.{none_referenced}
 use Rattle.qpack_rules.proofs.ChosenDrafts.{chosen_drafts}
 use Rattle.qpack_safety.proofs.Encoding.{same_committed}
@@ -23,21 +24,23 @@ use Rattle.qpack_ends.specs.declared.encoder.EncodingError.{EncodingError}
 use Rattle.qpack_ends.specs.declared.encoder.EncodingError.TheVariants.{DecoderStream, CapacityTooLarge}
 use Rattle.qpack_ends.specs.declared.encoder.EncodingError.TheVariants.{EntriesHeld, NoStream, Memory}
 use Rattle.qpack_ends.specs.declared.encoder.EncodingError.TheVariants.{MaximumChanged, LimitLowered, MaximumTooLarge}
-use Rattle.qpack_ends.specs.Encoders.{EncodingEnd, begun}
-use Rattle.qpack_ends.specs.Encoders.{told, StopsForMemory, SetsCapacity}
+use Rattle.qpack_ends.specs.Encoders.{EncodingEnd, IsToBeTold, begun, begun_with, told_if, is_alone, is_full}
+use Rattle.qpack_ends.specs.Encoders.{StopsForMemory, SetsCapacity, Shrinks}
 use Rattle.qpack_ends.specs.Encoders.{WritesSection, WritesAlone, Encodes, ReceivesBytes}
 use Rattle.qpack_ends.specs.Wishes.{SuitsUnless, SuitAlong, EncodesAsWished}
 use Rattle.qpack_codec.specs.declared.encoder.choices.Wish.{Wish}
 use Rattle.qpack_codec.specs.declared.encoder.choices.Wish.TheVariants.{Unmarked, Reuse, Insert, Never}
-use Rattle.qpack_connection.specs.LawfulDecoders.{Call, Encode, SetCapacity, Receive, Sent, Step, Run, IsCareful}
-use Rattle.qpack_connection.specs.LawfulDecoders.{AllCareful, EncodersAreCareful, IsLawful, IsLawfulCall, AreLawful}
+use Rattle.qpack_connection.specs.LawfulDecoders.{Call, Encode, SetCapacity, Shrink, Receive, Sent, Step, Run}
+use Rattle.qpack_connection.specs.LawfulDecoders.{IsCareful, AllCareful, EncodersAreCareful, IsLawful, IsLawfulCall, AreLawful}
 use Rattle.qpack_connection.specs.LawfulDecoders.{GoesOn, Answers, AllAnswer, LawfulDecodersAreUnderstood}
 use Rattle.qpack_connection.proofs.CarefulTables.{careful_needed, careful_count}
 use Rattle.qpack_connection.proofs.CarefulTables.{quiet_unblocked}
 use Rattle.qpack_connection.proofs.KeptConnections.{begun_failure}
 use Rattle.qpack_connection.proofs.LawfulPieces.{decoder_streams_heard}
 use Rattle.qpack_connection.proofs.CarefulEnds.{Stays, stays_first, stays_same, table_begun, stays_encoded, stays_set}
-use Rattle.qpack_connection.proofs.CarefulEnds.{stays_heard, stays_sent, begun_settings}
+use Rattle.qpack_connection.proofs.CarefulEnds.{stays_shrunk, stays_heard, stays_sent, begun_settings}
+use Rattle.qpack_connection.proofs.UnnamedTables.{settled_takes}
+use Rattle.qpack_spec.proofs.Positions.{eviction_count_live}
 use Rattle.std.proofs.Common.{Bool}
 use Rattle.qpack_ends.specs.Encoders.{may_block}
 use Rattle.qpack_ends.specs.Wishes.{limited, KeepsWishes}
@@ -48,6 +51,7 @@ pub step_stays : (settings : EncoderSettings) (call : Call) (old new : EncodingE
 step_stays settings (Encode s fields wishes section answer) old new k step =
     stays_encoded settings.max_blocked old new s fields section answer k step.0
 step_stays settings (SetCapacity n answer) old new k step = stays_set settings.max_blocked old new n answer k step
+step_stays settings (Shrink n answer) old new k step = stays_shrunk settings.max_blocked old new n answer k step
 step_stays settings (Receive bytes answer) old new k step = by old.failure refl step.1
   where
     by : (o : Option EncodingError) → old.failure ≡ o → IfSome o (λ e. (answer ≡ Err e) × (new ≡ old))
@@ -57,6 +61,12 @@ step_stays settings (Receive bytes answer) old new k step = by old.failure refl 
 step_stays settings (Sent many) old new k step =
     stays_same settings.max_blocked (record old { unsent = drop many old.unsent }) new
     (stays_sent settings.max_blocked old (drop many old.unsent) k) step
+
+pub run_stays : (settings : EncoderSettings) (calls : List Call) (old new : EncodingEnd) → Run calls old new
+    → Stays settings.max_blocked old → Stays settings.max_blocked new
+run_stays settings [] old new run k = stays_same settings.max_blocked old new k run
+run_stays settings (call ∷ calls) old new run k =
+    run_stays settings calls run.0 new run.2 (step_stays settings call old run.0 k run.1)
 
 careful : (settings : EncoderSettings) (e : EncodingEnd) → Stays settings.max_blocked e → IsCareful settings e
 careful settings e k =
@@ -102,6 +112,7 @@ call_counts settings (Encode s fields wishes section (Ok required)) old new k st
     counts_section settings old new s fields section required k step.0.1
 call_counts settings (Encode s fields wishes section (Err e)) old new k step = tt
 call_counts settings (SetCapacity n answer) old new k step = tt
+call_counts settings (Shrink n answer) old new k step = tt
 call_counts settings (Receive bytes answer) old new k step = tt
 call_counts settings (Sent many) old new k step = tt
 
@@ -155,6 +166,28 @@ most_begun settings old k = ap (λ (s : EncoderSettings). s.max_blocked) (begun_
 limit_as : (t : Table) → t.limit ≡ 4096 → record t { limit = 4096 } ≡ t
 limit_as t is = sym (ap (λ (n : ℕ). let u : Table = record t { limit = n } in u) is)
 
+-- and no capacity waits
+quiet_wants : (most : ℕ) (d : EncodingEnd) (n : ℕ) (r : Result Table TableRefusal) → Stays most d
+    → n ≤ greatest_capacity d.table.agreed_max → with_capacity d.table n ≡ r → IsQuiet (told_if n d r).table
+    → (told_if n d r).wanted ≡ None
+quiet_wants most d n (Ok t) k within is quiet = refl
+quiet_wants most d n (Err e) k within is quiet =
+    let takes = settled_takes d.table n k.unnamed quiet.acknowledged
+    (omega (arith, quiet.known, eviction_count_live d.table n)) within in
+    absurd (let x = sym is ∙ takes in cc)
+
+quiet_waits : (most : ℕ) (d : EncodingEnd) (o : Option ℕ) → Stays most d → d.wanted ≡ o
+    → IfSome o (λ n. IsToBeTold d n) → IsQuiet (begun_with o d).table → (begun_with o d).wanted ≡ None
+quiet_waits most d None k is within quiet = is
+quiet_waits most d (Some n) k is within quiet =
+    quiet_wants most d n (with_capacity d.table n) k within refl quiet
+
+quiet_alone : (most : ℕ) (old : EncodingEnd) → Stays most old → IsQuiet (begun old).table
+    → is_full (begun old) ≡ false → is_alone (begun old) ≡ false
+quiet_alone most old k quiet room =
+    ap (λ (o : Option ℕ). is_some o || is_full (begun old)) (quiet_waits most old old.wanted k refl k.sound.wanted quiet)
+    ∙ room
+
 goes_on : (settings : EncoderSettings) (old new : EncodingEnd) (s : ℕ) (fields : List FieldLine) (wishes : List Wish)
     (section : List ℕ) (required : ℕ) → Stays settings.max_blocked old
     → EncodesAsWished old new s fields wishes [] section (Ok required)
@@ -165,7 +198,7 @@ goes_on settings old new s (l ∷ more) (Insert ∷ words) section required k wi
     let may = quiet_may settings d s quiet (most_begun settings old k) some in
     let limit : (limited true d).table ≡ d.table = limit_as d.table careful.limit_is in
     let w = subst (λ (b : Bool). KeepsWishes (limited b d) (limited b new) s (l ∷ more) (Insert ∷ words) [] section
-    required) may (wished room) in
+    required) may (wished (quiet_alone settings.max_blocked old k quiet room)) in
     let below = quiet_unblocked 4096 d.table careful quiet.known (omega arith) in
     let still : IsQuiet (limited true d).table = record { acknowledged = quiet.acknowledged; known = quiet.known } in
     let reached = first_goes_on (limited true d).table l more words w.section.choices still
@@ -221,6 +254,15 @@ set_answers settings old new n (Err e) alive (inl ended) = absurd (let x = sym a
 set_answers settings old new n (Err e) alive (inr (live, some, stops)) =
     (stops.0, ap (λ (y : EncodingEnd). y.failure) stops.1 ∙ alive)
 
+shrink_answers : (settings : EncoderSettings) (old new : EncodingEnd) (n : ℕ) (answer : Result ⊤ EncodingError)
+    → old.failure ≡ None → Shrinks old new n answer → AnswersSo settings (Shrink n answer) old new
+shrink_answers settings old new n (Ok done) alive (live, inl sets) =
+    set_answers settings old new n (Ok done) alive (live, sets)
+shrink_answers settings old new n (Ok done) alive (live, inr waits) =
+    (tt, ap (λ (y : EncodingEnd). y.failure) waits.1 ∙ alive)
+shrink_answers settings old new n (Err e) alive (goes, stops) =
+    let refused = set_answers settings old new n (Err e) alive stops in ((goes, refused.0), refused.1)
+
 hear_answers : (settings : EncoderSettings) (old new : EncodingEnd) (bytes : List ℕ) (answer : Result ⊤ EncodingError)
     → Stays settings.max_blocked old → old.failure ≡ None → (l : IsLawful old bytes)
     → ReceivesBytes l.heard l.before old new bytes answer → AnswersSo settings (Receive bytes answer) old new
@@ -245,6 +287,8 @@ step_answers settings (Encode s fields wishes section answer) old new k alive st
     encode_answers settings old new s fields wishes section answer k alive step.0 step.1
 step_answers settings (SetCapacity n answer) old new k alive step asked =
     set_answers settings old new n answer alive step
+step_answers settings (Shrink n answer) old new k alive step asked =
+    shrink_answers settings old new n answer alive step
 step_answers settings (Receive bytes answer) old new k alive step asked =
     hear_answers settings old new bytes answer k alive asked (step.0 alive asked.heard asked.before asked.receives)
 step_answers settings (Sent many) old new k alive step asked =

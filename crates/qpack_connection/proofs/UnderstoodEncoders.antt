@@ -25,7 +25,7 @@ use Rattle.qpack_ends.specs.Decoders.{DecodingEnd, Begins, acknowledged, with_re
 use Rattle.qpack_ends.specs.Decoders.{IsNotAnswered, StopsDecoding, Decodes, cancelled, Cancels}
 use Rattle.qpack_ends.specs.declared.encoder_stream.EncoderStreamError.{EncoderStreamError}
 use Rattle.qpack_ends.specs.declared.encoder_stream.EncoderStreamError.TheVariants as stream
-use Rattle.qpack_ends.specs.Decoders.{received, EndsReceiving, ReceivesBytes}
+use Rattle.qpack_ends.specs.Decoders.{received, IsTaken, EndsReceiving, ReceivesBytes}
 use Rattle.qpack_ends.specs.Receiving.{ReceivesMore}
 use Rattle.qpack_connection.proofs.LawfulPieces.{encoder_streams_taken}
 use Rattle.qpack_ends.specs.declared.blocked.BlockedStream.{BlockedStream}
@@ -122,6 +122,13 @@ stays_told settings x y k come is =
 pub stays_still : (settings : DecoderSettings) (x y : Decoder) → Stays settings x → y.come ≡ x.come → y.end ≡ x.end
     → Stays settings y
 stays_still settings x y k come is = stays_as settings x y x.end k is come refl refl refl refl k.told k.once
+
+-- where its stream is taken
+pub stays_taken : (settings : DecoderSettings) (x y : Decoder) → Stays settings x → y.come ≡ x.come
+    → IsTaken x.end y.end → Stays settings y
+stays_taken settings x y k come (inl reports) =
+    stays_told settings x y k come reports
+stays_taken settings x y k come (inr same) = stays_still settings x y k come same
 
 -- a call that answers what a section means leaves the end so
 pub stays_decoded : (settings : DecoderSettings) (x y : Decoder) (s : ℕ) (k : SentSection) (fields : List FieldLine)
@@ -333,16 +340,10 @@ receive_answers settings x y bytes left answer p k l step = by_taken answer call
       (ends.0, s.0, λ all. ends.0 ∙ all_came all s),
       came bytes (all_cut s.0) s.2 (ap (λ (e : DecodingEnd). e.failure) ends.1) (ap (λ (e : DecodingEnd). e.settings) ends.1)
           (ap (λ (e : DecodingEnd). e.blocked) ends.1)
-          (omega (arith, ap (λ (e : DecodingEnd). e.reported) ends.1)),
+          (omega (arith, ap (λ (e : DecodingEnd). e.reported) ends.1, k.told, counts_whole s)),
       counts_whole s,
     )
-    by_taken (Err e) (Ok it) s ends = (
-      ends.0,
-      came bytes (all_cut s.0) s.2 (ap (λ (d : DecodingEnd). d.failure) ends.2) (ap (λ (d : DecodingEnd). d.settings) ends.2)
-          (ap (λ (d : DecodingEnd). d.blocked) ends.2)
-          (omega (arith, ap (λ (d : DecodingEnd). d.reported) ends.2, k.told, counts_whole s)),
-      counts_whole s,
-    )
+    by_taken (Err e) (Ok it) s ends = absurd ends
     by_taken a (Err stream.Memory) s ends = by_memory a s ends
     by_taken a (Err (stream.Refused place e)) s ends =
         absurd (encoder_streams_taken start x.end.table y.end.table sent.0 x.come bytes l.behind left p.sent x.end.stream

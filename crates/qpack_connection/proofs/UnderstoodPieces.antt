@@ -16,7 +16,7 @@ use Rattle.qpack_ends.specs.declared.section.SectionError.TheVariants as section
 use Rattle.qpack_ends.specs.declared.section.reader.Progress.{Progress}
 use Rattle.qpack_ends.specs.declared.section.reader.Progress.TheVariants as progress
 use Rattle.qpack_ends.specs.Decoders.{DecodingEnd, blocked_behind, Checks, IsNotAnswered, IsOneTooMany, StopsBlocking}
-use Rattle.qpack_ends.specs.Decoders.{with_report}
+use Rattle.qpack_ends.specs.Decoders.{StopsBehindReport}
 use Rattle.qpack_ends.specs.PieceDecoders.{ReadsPiece, ReadsAs, Follows, StopsPiece, Unfollowed, begun_after}
 use Rattle.qpack_ends.specs.PieceLaws.{LeavesReading}
 use Rattle.qpack_ends.specs.Pieces.{ReaderView, Next, ReadsOn, next_of}
@@ -231,12 +231,12 @@ piece_done settings x y s c reader bytes left more last fields answer k g come s
 
     by_acknowledged : (required : ℕ)
         → pieces.Answers next c.reader reader (c.reader.pending ++ bytes) bytes left fields (Ok (progress.Ends required))
-        → (y.end ≡ x.end) ⊎ (y.end ≡ with_report x.end)
+        → StopsBehindReport x.end y.end required
         → PieceDone settings x y s c reader bytes left more last fields (Err Memory)
     by_acknowledged required h (inl same) =
         let n = ended_read c reader bytes left fields required next h in
         nothing Memory n.none (stays_still settings x y k come same) n
-    by_acknowledged required h (inr told) =
+    by_acknowledged required h (inr (fewer, told)) =
         let n = ended_read c reader bytes left fields required next h in
         nothing Memory n.none (stays_told settings x y k come told) n
 

@@ -3,7 +3,8 @@ use Rattle.std.proofs.Common.{◌≡◌, ◌<◌, ◌≤◌, ◌+◌, ◌-◌, �
 use Rattle.std.proofs.Common.{◌∷◌, ◌++◌, drop, Some, Result, Ok, Err, refl, sym, ap, subst}
 use Rattle.std.proofs.Common.{◌∙◌, arith, inl, inr}
 use Rattle.std.specs.List.{AllByRecursion}
-use Rattle.std.specs.Prelude.{⊤, nat_eq}
+use Rattle.std.specs.Prelude.{⊤, nat_eq, nat_lt}
+use Rattle.std.proofs.lemmas.Bool.{ltb-false}
 use Rattle.std.proofs.lemmas.List.{append_assoc, append-nil, take-append-drop}
 use Rattle.qpack_spec.specs.Field.{FieldLine}
 use Rattle.qpack_spec.specs.Instruction.{DecoderInstruction, Acknowledgment, Cancellation, SpellsDecoderInstruction}
@@ -29,12 +30,12 @@ use Rattle.qpack_ends.specs.declared.section.Reading.TheVariants as reading
 use Rattle.qpack_ends.specs.declared.section.reader.Progress.{Progress}
 use Rattle.qpack_ends.specs.declared.section.reader.Progress.TheVariants as progress
 use Rattle.qpack_ends.specs.Decoders.{DecodingEnd, acknowledged, blocked_behind, with_report, received, cancelled, Checks}
-use Rattle.qpack_ends.specs.Decoders.{Decodes, Cancels, EndsReceiving, IsNotAnswered, StopsDecoding}
+use Rattle.qpack_ends.specs.Decoders.{report_before, IsTaken, Decodes, Cancels, EndsReceiving, IsNotAnswered, StopsDecoding}
 use Rattle.qpack_ends.specs.PieceDecoders.{ReadsPiece, StopsPiece, Follows, unblocked}
 use Rattle.qpack_ends.specs.Pieces.{ReaderView}
 use Rattle.qpack_connection.specs.Connections.{SentSection}
 use Rattle.qpack_connection.specs.LawfulEncoders.{Decoder, Coming, Call, Receive, Decode, Begin, Read as ReadPiece}
-use Rattle.qpack_connection.specs.LawfulEncoders.{Cancel, Sent, Step, Run, AnswersPiece}
+use Rattle.qpack_connection.specs.LawfulEncoders.{Cancel, Take, Sent, Step, Run, AnswersPiece}
 use Rattle.qpack_connection.specs.LawfulEncoders.{IsLawfulCall, AreLawful}
 use Rattle.qpack_connection.specs.LawfulEnds.{sends, all_sent, Releases, AreInOrder}
 use Rattle.qpack_connection.specs.LawfulEnds.{DecodersWriteWhatTheyMay}
@@ -120,43 +121,82 @@ writes_report call x d y sections others unsent reported told is same =
           (subst (λ (bs : List UnacknowledgedBlock). MayWrite most y.reported bs more) same may)));
     }
 
--- it reports all that was received, and then acknowledges a section
+-- it acknowledges a section, after reporting all that was received, unless the acknowledgment does
 writes_acknowledgment : (call : Call) (x y : DecodingEnd) (s n required : ℕ)
     (sections others : List UnacknowledgedBlock) → left_of call x.unsent ≡ x.unsent → s < 2 ^ 62
     → x.reported ≤ insert_count x.table → y ≡ acknowledged s (suc n) x → oldest_required s sections ≡ Some required
-    → without_oldest s sections ≡ Some others → required ≤ insert_count x.table → WritesMore call x y sections others
-writes_acknowledgment call x y s n required sections others left small told is oldest released decoded =
-    let many = insert_count x.table - x.reported in
-    let all = increments (pieces_of many) in
-    let ack = written_decoder_instruction (Acknowledgment s) in
-    record {
-      instructions = all ++ Acknowledgment s ∷ [];
-      bytes = written_report many ++ ack;
-      unsent = ap (λ (e : DecodingEnd). e.unsent) is ∙ append_assoc x.unsent (written_report many) ack
-          ∙ ap (λ (b : List ℕ). b ++ (written_report many ++ ack)) (sym left);
-      spelled = joined_append SpellsDecoderInstruction (written_report many) ack all (Acknowledgment s ∷ [])
-          (report_spelled many)
-          (one_joined SpellsDecoderInstruction ack (Acknowledgment s)
-          (decoder_instructions_spelled (Acknowledgment s) (omega (arith, small))));
-      may = λ most more within may.
-          (let table : insert_count y.table ≡ insert_count x.table =
-          ap (λ (e : DecodingEnd). insert_count e.table) is in
-          let reported : y.reported ≡ insert_count x.table = ap (λ (e : DecodingEnd). e.reported) is in
-          let same : y.reported ≡ max (insert_count x.table) required = omega (arith, reported, decoded) in
-          subst (λ (is : List DecoderInstruction). MayWrite most x.reported sections is)
-          (sym (append_assoc all (Acknowledgment s ∷ []) more))
-          (may_report most x.reported (insert_count x.table) sections (Acknowledgment s ∷ more) told
-          (omega (arith, within, table)) (
-            record {
-              required = required;
-              others = others;
-              oldest = oldest;
-              others_are = released;
-              decoded = omega (arith, decoded, within, table);
-            },
-            subst (λ (k : ℕ). MayWrite most k others more) same may,
-          )));
-    }
+    → without_oldest s sections ≡ Some others → required ≤ insert_count x.table → required ≡ suc n
+    → WritesMore call x y sections others
+writes_acknowledgment call x y s n required sections others left small told is oldest released decoded asks =
+    by (nat_lt (suc n) (insert_count x.table)) refl
+  where
+    many : ℕ
+    many = insert_count x.table - x.reported
+
+    all : List DecoderInstruction
+    all = increments (pieces_of many)
+
+    ack : List ℕ
+    ack = written_decoder_instruction (Acknowledgment s)
+
+    spelled_ack : SpellsAll SpellsDecoderInstruction ack (Acknowledgment s ∷ [])
+    spelled_ack =
+        one_joined SpellsDecoderInstruction ack (Acknowledgment s)
+        (decoder_instructions_spelled (Acknowledgment s) (omega (arith, small)))
+
+    table : insert_count y.table ≡ insert_count x.table
+    table = ap (λ (e : DecodingEnd). insert_count e.table) is
+
+    reported : y.reported ≡ insert_count x.table
+    reported = ap (λ (e : DecodingEnd). e.reported) is
+
+    unsent : (b : Bool) → nat_lt (suc n) (insert_count x.table) ≡ b
+        → y.unsent ≡ left_of call x.unsent ++ (cond b (written_report many) [] ++ ack)
+    unsent b e =
+        ap (λ (z : DecodingEnd). z.unsent) is
+        ∙ append_assoc x.unsent (report_before (suc n) x) ack
+        ∙ ap (λ (t : Bool). x.unsent ++ (cond t (written_report many) [] ++ ack)) e
+        ∙ ap (λ (front : List ℕ). front ++ (cond b (written_report many) [] ++ ack)) (sym left)
+
+    acknowledges : (most told : ℕ) (more : List DecoderInstruction) → insert_count y.table ≤ most
+        → max told required ≡ insert_count x.table → MayWrite most y.reported others more
+        → MayWrite most told sections (Acknowledgment s ∷ more)
+    acknowledges most told more within count may = (
+      record {
+        required = required;
+        others = others;
+        oldest = oldest;
+        others_are = released;
+        decoded = omega (arith, decoded, within, table);
+      },
+      subst (λ (k : ℕ). MayWrite most k others more) (reported ∙ sym count) may,
+    )
+
+    by : (b : Bool) → nat_lt (suc n) (insert_count x.table) ≡ b → WritesMore call x y sections others
+    by true e =
+        record {
+          instructions = all ++ Acknowledgment s ∷ [];
+          bytes = written_report many ++ ack;
+          unsent = unsent true e;
+          spelled = joined_append SpellsDecoderInstruction (written_report many) ack all (Acknowledgment s ∷ [])
+              (report_spelled many) spelled_ack;
+          may = λ most more within may.
+              subst (λ (is : List DecoderInstruction). MayWrite most x.reported sections is)
+              (sym (append_assoc all (Acknowledgment s ∷ []) more))
+              (may_report most x.reported (insert_count x.table) sections (Acknowledgment s ∷ more) told
+              (omega (arith, within, table))
+              (acknowledges most (insert_count x.table) more within (omega (arith, decoded)) may));
+        }
+    by false e =
+        record {
+          instructions = Acknowledgment s ∷ [];
+          bytes = ack;
+          unsent = unsent false e;
+          spelled = spelled_ack;
+          may = λ most more within may.
+              acknowledges most x.reported more within
+              (omega (arith, told, decoded, asks, ltb-false (suc n) (insert_count x.table) e)) may;
+        }
 
 -- it cancels a stream
 writes_cancellation : (x y : DecodingEnd) (s : ℕ) (sections others : List UnacknowledgedBlock) → s < 2 ^ 62
@@ -192,16 +232,27 @@ writes_cancellation x y s sections others small is released = by (nat_eq x.setti
 
 receive_writes : (call : Call) (x y : DecodingEnd) (sections others : List UnacknowledgedBlock)
     (taken : Result ⊤ EncoderStreamError) (answer : Result ℕ DecodingError) → left_of call x.unsent ≡ x.unsent
-    → x.reported ≤ insert_count y.table → EndsReceiving (received y.table y.stream x) y taken answer
-    → others ≡ sections → WritesMore call x y sections others
-receive_writes call x y sections others (Ok done) (Ok total) left told ends same =
-    writes_report call x (received y.table y.stream x) y sections others (sym left) refl told ends.1 same
-receive_writes call x y sections others (Ok done) (Err e) left told ends same =
-    writes_none call x y sections others (ap (λ (d : DecodingEnd). d.unsent) ends.2 ∙ sym left)
-    (ap (λ (d : DecodingEnd). d.reported) ends.2) same
-receive_writes call x y sections others (Err e) answer left told ends same =
+    → EndsReceiving (received y.table y.stream x) y taken answer → others ≡ sections
+    → WritesMore call x y sections others
+receive_writes call x y sections others (Ok done) (Ok total) left ends same =
     writes_none call x y sections others (ap (λ (d : DecodingEnd). d.unsent) ends.1 ∙ sym left)
     (ap (λ (d : DecodingEnd). d.reported) ends.1) same
+receive_writes call x y sections others (Ok done) (Err e) left ends same = absurd ends
+receive_writes call x y sections others (Err e) answer left ends same =
+    writes_none call x y sections others (ap (λ (d : DecodingEnd). d.unsent) ends.1 ∙ sym left)
+    (ap (λ (d : DecodingEnd). d.reported) ends.1) same
+
+take_writes : (x y : DecodingEnd) (sections others : List UnacknowledgedBlock)
+    → x.reported ≤ insert_count x.table → IsTaken x y → others ≡ sections → WritesMore Take x y sections others
+take_writes x y sections others told (inl reports) same =
+    writes_report Take x x y sections others refl refl told reports same
+take_writes x y sections others told (inr is) same =
+    writes_none Take x y sections others (ap (λ (d : DecodingEnd). d.unsent) is) (ap (λ (d : DecodingEnd). d.reported) is)
+    same
+
+take_counts : (x y : DecodingEnd) → IsTaken x y → insert_count x.table ≤ insert_count y.table
+take_counts x y (inl reports) = omega (arith, ap (λ (d : DecodingEnd). insert_count d.table) reports)
+take_counts x y (inr is) = omega (arith, ap (λ (d : DecodingEnd). insert_count d.table) is)
 
 decode_writes : (x y : DecodingEnd) (s : ℕ) (k : SentSection) (fields : List FieldLine)
     (answer : Result Reading DecodingError) (read : StrictReading) (sections others : List UnacknowledgedBlock)
@@ -213,7 +264,7 @@ decode_writes x y s k fields (Ok (reading.Fields zero)) read sections others max
     (ap (λ (d : DecodingEnd). d.unsent) call.1.1) (ap (λ (d : DecodingEnd). d.reported) call.1.1) same
 decode_writes x y s k fields (Ok (reading.Fields (suc n))) read sections others maximum told answers call released =
     writes_acknowledgment (Decode s k fields (Ok (reading.Fields (suc n)))) x y s n k.required sections others refl
-    call.0.1 told call.1.1 released.0 released.1 answers.2
+    call.0.1 told call.1.1 released.0 released.1 answers.2 (sym answers.1)
 decode_writes x y s k fields (Ok (reading.Blocked required)) read sections others maximum told answers call same =
     writes_none (Decode s k fields (Ok (reading.Blocked required))) x y sections others
     (ap (λ (d : DecodingEnd). d.unsent) call.1.3) (ap (λ (d : DecodingEnd). d.reported) call.1.3) same
@@ -331,7 +382,7 @@ piece_writes x y s c reader bytes left more last fields answer sections others m
     stopped (progress.Blocked required) f same = none (Err Memory) x f.0 refl refl refl same
     stopped (progress.Ends required) f same = elim f.2 [
       | inl is ↦ none (Err Memory) x is refl refl refl same
-      | inr is ↦ report is same
+      | inr is ↦ report is.1 same
     ]
 
     by_error : (e : DecodingError) → AnswersPiece x s c more left last fields (Err e)
@@ -370,7 +421,7 @@ piece_writes x y s c reader bytes left more last fields answer sections others m
     by_answer (Ok (progress.Ends (suc n))) h r released = (
       writes_acknowledgment (ReadPiece s bytes left last fields (Ok (progress.Ends (suc n)))) x y s n (suc n) sections others
           refl (omega (arith, r.0.1, of)) told (r.1.2 ∙ ap (λ (q : ℕ). acknowledged q (suc n) x) of) released.0 released.1
-          (omega (arith, h.3, h.4)),
+          (omega (arith, h.3, h.4)) refl,
       omega (arith, ap (λ (e : DecodingEnd). insert_count e.table) r.1.2),
     )
     by_answer (Err e) h (inl not) same = none (Err e) x not.0.1 refl refl refl same
@@ -390,8 +441,8 @@ step_writes settings (Receive bytes left answer) x y sections others k step aske
     let r = receive_answers settings x y bytes left answer asked.0 k.stays asked.1 step in
     let call = step.0 k.stays.alive _ x.come k.stays.stream in
     record {
-      writes = receive_writes (Receive bytes left answer) x.end y.end sections others call.taken answer refl
-          (omega (arith, k.stays.told, r.2)) call.ends released;
+      writes = receive_writes (Receive bytes left answer) x.end y.end sections others call.taken answer refl call.ends
+          released;
       counts = r.2;
       holds = (step_answers settings (Receive bytes left answer) x y k step asked).1;
     }
@@ -426,6 +477,12 @@ step_writes settings (Cancel s answer) x y sections others k step asked released
       counts = cancel_counts x.end y.end s answer step.0;
       holds = r.1;
     }
+step_writes settings Take x y sections others k step asked released =
+    record {
+      writes = take_writes x.end y.end sections others k.stays.told step.0 released;
+      counts = take_counts x.end y.end step.0;
+      holds = (step_answers settings Take x y k step asked).1;
+    }
 step_writes settings (Sent many) x y sections others k step asked released =
     record {
       writes = writes_none (Sent many) x.end y.end sections others (ap (λ (d : DecodingEnd). d.unsent) step.0)
@@ -452,6 +509,7 @@ sent_and_left (Decode s section fields answer) d = refl
 sent_and_left (Begin s section) d = refl
 sent_and_left (ReadPiece s bytes left last fields answer) d = refl
 sent_and_left (Cancel s answer) d = refl
+sent_and_left Take d = refl
 sent_and_left (Sent many) d = take-append-drop many d.unsent
 
 all_write : (settings : DecoderSettings) (calls : List Call) (x last : Decoder) (sections : List UnacknowledgedBlock)

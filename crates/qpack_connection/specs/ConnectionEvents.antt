@@ -17,8 +17,8 @@ use Rattle.qpack_connection.specs.declared.connection.Skip.{Skip}
 use Rattle.qpack_connection.specs.declared.connection.Skip.TheVariants.{NothingToDecode, StreamCancelled}
 use Rattle.qpack_ends.specs.declared.encoder.EncoderSettings.{EncoderSettings}
 use Rattle.qpack_ends.specs.declared.encoder.EncodingError.{EncodingError}
-use Rattle.qpack_connection.specs.Connections.{SentSection, Connection, IsNew, Call, Encode, SetCapacity, Hear}
-use Rattle.qpack_connection.specs.Connections.{Receive, Decode, Cancel, Step, Run}
+use Rattle.qpack_connection.specs.Connections.{SentSection, Connection, IsNew, Call, Encode, SetCapacity, Shrink}
+use Rattle.qpack_connection.specs.Connections.{Hear, Receive, Decode, Cancel, Step, Run}
 use Rattle.qpack_ends.specs.Decoders.{DecodingEnd}
 use Rattle.qpack_ends.specs.Encoders.{EncodingEnd, Encodes}
 use Rattle.qpack_connection.specs.OwnedLines.{lines_of}
@@ -139,6 +139,7 @@ abbrev pub call_of : Outcome → Event → Option Call
 call_of (outcome.Encoded answer) (event.Encode s fields) = Some (Encode s (lines_of fields.items) answer)
 call_of (outcome.Encoded answer) e = None
 call_of (outcome.CapacitySet answer) (event.SetCapacity capacity) = Some (SetCapacity capacity answer)
+call_of (outcome.CapacitySet answer) (event.Shrink capacity) = Some (Shrink capacity answer)
 call_of (outcome.CapacitySet answer) e = None
 call_of (outcome.Delivered answer) (event.ToDecoder many) = Some (Receive many answer)
 call_of (outcome.Delivered answer) e = None

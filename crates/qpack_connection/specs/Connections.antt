@@ -16,9 +16,9 @@ use Rattle.qpack_ends.specs.declared.encoder.EncoderSettings.{EncoderSettings}
 use Rattle.qpack_ends.specs.declared.encoder.EncodingError.{EncodingError}
 use Rattle.qpack_ends.specs.declared.section.Reading.{Reading}
 use Rattle.qpack_ends.specs.declared.section.Reading.TheVariants as reading
-use Rattle.qpack_ends.specs.Decoders.{DecodingEnd, Begins, Decodes, AsksToDecode, Cancels}
+use Rattle.qpack_ends.specs.Decoders.{DecodingEnd, Begins, IsTaken, Decodes, AsksToDecode, Cancels}
 use Rattle.qpack_ends.specs.Decoders as decoders
-use Rattle.qpack_ends.specs.Encoders.{EncodingEnd, Starts, SetsCapacity, Encodes}
+use Rattle.qpack_ends.specs.Encoders.{EncodingEnd, Starts, SetsCapacity, Shrinks, Encodes}
 use Rattle.qpack_ends.specs.Encoders as encoders
 use Rattle.qpack_ends.specs.Hearing as hearing
 use Rattle.qpack_ends.specs.Receiving as receiving
@@ -112,6 +112,12 @@ pub record SetsCapacityOn (old new : Connection) (capacity : ℕ) (answer : Resu
   pub call : SetsCapacity old.encoder encoder capacity answer
   pub new_is : new ≡ with_encoder encoder old
 
+-- a capacity is set, or waits
+pub record ShrinksOn (old new : Connection) (capacity : ℕ) (answer : Result ⊤ EncodingError) : Type 0 where
+  pub encoder : EncodingEnd
+  pub call : Shrinks old.encoder encoder capacity answer
+  pub new_is : new ≡ with_encoder encoder old
+
 -- the next bytes of the decoder stream are received, all but those that are left
 pub record HearsOn (old new : Connection) (many : ℕ) (answer : Result ⊤ EncodingError) : Type 0 where
   pub encoder : EncodingEnd
@@ -125,6 +131,12 @@ pub record HearsOn (old new : Connection) (many : ℕ) (answer : Result ⊤ Enco
   pub new_is : new ≡ record (with_encoder encoder old) {
     decoder_stream = behind_received (length (next_of many old.decoder_stream) - length left) old.decoder_stream;
   }
+
+-- the decoder stream is taken from the decoding end, and sent; and the next bytes of it are received
+pub record TakesAndHears (old new : Connection) (many : ℕ) (answer : Result ⊤ EncodingError) : Type 0 where
+  pub decoder : DecodingEnd
+  pub takes : IsTaken old.decoder decoder
+  pub hears : HearsOn (with_decoder decoder old) new many answer
 
 -- ---- calls of the decoding end
 
@@ -186,6 +198,7 @@ pub record CancelsOn (old new : Connection) (s : ℕ) (answer : Result ⊤ Decod
 pub data Call : Type 0 where
   Encode : (stream : ℕ) (fields : List FieldLine) (answer : Result ℕ EncodingError) → Call
   SetCapacity : (capacity : ℕ) (answer : Result ⊤ EncodingError) → Call
+  Shrink : (capacity : ℕ) (answer : Result ⊤ EncodingError) → Call
   Hear : (bytes : ℕ) (answer : Result ⊤ EncodingError) → Call
   Receive : (bytes : ℕ) (answer : Result ℕ DecodingError) → Call
   Decode : (stream : ℕ) (fields : List FieldLine) (answer : Result Reading DecodingError) → Call
@@ -195,7 +208,8 @@ pub data Call : Type 0 where
 abbrev pub Step : Call → Connection → Connection → Type 0
 Step (Encode s fields answer) old new = EncodesOn old new s fields answer
 Step (SetCapacity capacity answer) old new = SetsCapacityOn old new capacity answer
-Step (Hear many answer) old new = HearsOn old new many answer
+Step (Shrink capacity answer) old new = ShrinksOn old new capacity answer
+Step (Hear many answer) old new = TakesAndHears old new many answer
 Step (Receive many answer) old new = ReceivesOn old new many answer
 Step (Decode s fields answer) old new = DecodesOn old new s fields answer
 Step (Cancel s answer) old new = CancelsOn old new s answer

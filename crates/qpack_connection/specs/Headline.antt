@@ -195,13 +195,15 @@ AnswersCancel maximum s false (outcome.Cancelled r) = AnswersCancellation maximu
 AnswersCancel maximum s false outcome.NoRoom = Unit {0}
 AnswersCancel maximum s false o = ⊥
 
--- each event has an outcome of its own kind. The encoding end refuses nothing of what was delivered to it. There may be
--- no memory to keep a section
+-- each event has an outcome of its own kind. A capacity that may wait is refused for no entry. The encoding end refuses
+-- nothing of what was delivered to it. There may be no memory to keep a section
 abbrev pub Answers : ConnectionSettings → SoFar → Event → Outcome → Type 0
 Answers settings h (event.Encode s fields) (outcome.Encoded r) = AnswersEncode s r
 Answers settings h (event.Encode s fields) outcome.NoRoom = Unit {0}
 Answers settings h (event.SetCapacity capacity) (outcome.CapacitySet r) =
     AnswersCapacity h.has_encoded settings.decoder.max_capacity capacity r
+Answers settings h (event.Shrink capacity) (outcome.CapacitySet r) =
+    AnswersCapacity false settings.decoder.max_capacity capacity r
 Answers settings h (event.ToDecoder many) (outcome.Delivered r) = AnswersDelivery h many r
 Answers settings h (event.ToEncoder many) (outcome.Heard r) = r ≡ Ok tt
 Answers settings h (event.Decode s) o =

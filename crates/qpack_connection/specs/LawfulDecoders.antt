@@ -14,7 +14,7 @@ use Rattle.qpack_spec.specs.Text.{WhereShorter}
 use Rattle.qpack_ends.specs.declared.encoder.EncoderSettings.{EncoderSettings}
 use Rattle.qpack_ends.specs.declared.encoder.EncodingError.{EncodingError}
 use Rattle.qpack_ends.specs.Encoders.{EncodingEnd, IsUnused, begun, is_full, Encodes, SetsCapacity, StopsTelling}
-use Rattle.qpack_ends.specs.Encoders.{ReceivesBytes}
+use Rattle.qpack_ends.specs.Encoders.{Shrinks, StopsShrinking, ReceivesBytes}
 use Rattle.qpack_ends.specs.Hearing.{Receives}
 use Rattle.qpack_ends.specs.Risk.{streams_at_risk}
 use Rattle.qpack_ends.specs.Wishes.{EncodesAsWished}
@@ -29,6 +29,7 @@ pub data Call : Type 0 where
   Encode : (stream : ℕ) (fields : List FieldLine) (wishes : List Wish) (section : List ℕ)
       (answer : Result ℕ EncodingError) → Call
   SetCapacity : (capacity : ℕ) (answer : Result ⊤ EncodingError) → Call
+  Shrink : (capacity : ℕ) (answer : Result ⊤ EncodingError) → Call
   Receive : (bytes : List ℕ) (answer : Result ⊤ EncodingError) → Call
   Sent : (bytes : ℕ) → Call
 
@@ -37,6 +38,7 @@ abbrev pub Step : Call → EncodingEnd → EncodingEnd → Type 0
 Step (Encode s fields wishes section answer) old new =
     Encodes old new s fields [] section answer × EncodesAsWished old new s fields wishes [] section answer
 Step (SetCapacity capacity answer) old new = SetsCapacity old new capacity answer
+Step (Shrink capacity answer) old new = Shrinks old new capacity answer
 Step (Receive bytes answer) old new =
     (old.failure ≡ None → (heard : List DecoderInstruction) (before : List ℕ) → Receives heard before old.stream
     → ReceivesBytes heard before old new bytes answer)
@@ -119,13 +121,16 @@ GoesOn settings e fields wishes required = Unit {0}
 
 -- what a call returns: a section is encoded, and insertions go on, or memory is refused or the stream number is
 -- invalid; a capacity is set, or it is above the maximum, or it would evict an entry that may be needed, or memory is
--- refused; and nothing of the decoder stream is refused
+-- refused; one that may wait is set or waits, or it is above the maximum, or memory is refused; and nothing of the decoder
+-- stream is refused
 abbrev pub Answers : EncoderSettings → Call → EncodingEnd → Type 0
 Answers settings (Encode s fields wishes section (Ok required)) old =
     GoesOn settings (begun old) fields wishes required
 Answers settings (Encode s fields wishes section (Err e)) old = StopsEncoding s e
 Answers settings (SetCapacity capacity (Ok done)) old = Unit {0}
 Answers settings (SetCapacity capacity (Err e)) old = StopsTelling old.table capacity e
+Answers settings (Shrink capacity (Ok done)) old = Unit {0}
+Answers settings (Shrink capacity (Err e)) old = StopsShrinking old.table capacity e
 Answers settings (Receive bytes answer) old = answer ≡ Ok tt
 Answers settings (Sent bytes) old = Unit {0}
 

@@ -18,7 +18,7 @@ use Rattle.qpack_ends.specs.declared.section.Reading.{Reading}
 use Rattle.qpack_ends.specs.declared.section.reader.Progress.{Progress}
 use Rattle.qpack_ends.specs.declared.section.reader.Progress.TheVariants as progress
 use Rattle.qpack_connection.specs.Connections.{SentSection}
-use Rattle.qpack_ends.specs.Decoders.{DecodingEnd, Begins, Decodes, Cancels, ReceivesBytes}
+use Rattle.qpack_ends.specs.Decoders.{DecodingEnd, Begins, IsTaken, Decodes, Cancels, ReceivesBytes}
 use Rattle.qpack_ends.specs.PieceDecoders.{ReadsPiece}
 use Rattle.qpack_ends.specs.Pieces.{ReaderView, fresh}
 use Rattle.qpack_ends.specs.Receiving.{Receives}
@@ -95,7 +95,7 @@ pub record Decoder : Type 0 where
   pub coming : ℕ → Option Coming
 
 -- a call of it, and its result; of the bytes that are received some may be left, which come again. A section that is to
--- come in pieces begins, and is read on
+-- come in pieces begins, and is read on. The decoder stream is taken, and bytes of it are sent
 pub data Call : Type 0 where
   Receive : (bytes left : List ℕ) (answer : Result ℕ DecodingError) → Call
   Decode : (stream : ℕ) (section : SentSection) (fields : List FieldLine) (answer : Result Reading DecodingError) → Call
@@ -103,6 +103,7 @@ pub data Call : Type 0 where
   Read : (stream : ℕ) (bytes left : List ℕ) (last : Bool) (fields : List FieldLine)
       (answer : Result Progress DecodingError) → Call
   Cancel : (stream : ℕ) (answer : Result ⊤ DecodingError) → Call
+  Take : Call
   Sent : (bytes : ℕ) → Call
 
 -- this comes on a stream, and on each other what came before
@@ -145,6 +146,7 @@ Step (Begin s section) old new =
 Step (Read s bytes left last fields answer) old new =
     ReadsOnStream old new s bytes left last fields answer × (new.come ≡ old.come)
 Step (Cancel s answer) old new = Cancels old.end new.end s answer × (new.come ≡ old.come) × (new.coming ≡ old.coming)
+Step Take old new = IsTaken old.end new.end × (new.come ≡ old.come) × (new.coming ≡ old.coming)
 Step (Sent bytes) old new =
     (new.end ≡ record old.end { unsent = drop bytes old.end.unsent }) × (new.come ≡ old.come)
     × (new.coming ≡ old.coming)
@@ -221,6 +223,7 @@ Answers (Read s bytes left last fields answer) old new asked =
     AnswersPiece old.end s asked.coming asked.more left last fields answer
 Answers (Cancel s (Ok done)) old new asked = Unit {0}
 Answers (Cancel s (Err e)) old new asked = StopsCancelling s e
+Answers Take old new asked = Unit {0}
 Answers (Sent bytes) old new asked = Unit {0}
 
 -- each call in turn returns this, and no error ends the connection

@@ -9,6 +9,7 @@ pub use Rattle.qpack_ends.specs.Hearing
 pub use Rattle.qpack_ends.specs.Encoders
 pub mod LawfulPieces
 pub mod Connections
+pub mod Thinned
 pub mod RefinedConnections
 pub mod RefinedStreams
 pub mod RefinedDecodes
@@ -27,6 +28,7 @@ pub mod LawfulRows
 pub mod PieceRows
 pub mod LawfulEnds
 pub mod LateSettings
+pub mod LowerCapacities
 pub mod RecordedRows
 pub mod LawfulVerdicts
 pub mod RecordedDecoders

@@ -14,7 +14,8 @@ use Rattle.qpack_safety.specs.HandedSections.{IsBlockOf, section_of}
 use Rattle.qpack_safety.specs.Refines.{Agrees}
 use Rattle.qpack_safety.specs.TwoEnds.{EndStep, after_end_steps}
 use Rattle.qpack_connection.specs.Connections.{Wire, SentSection, Connection, IsNew, EncodesOn, SetsCapacityOn}
-use Rattle.qpack_connection.specs.Connections.{CancelsOn}
+use Rattle.qpack_connection.specs.Connections.{ShrinksOn, CancelsOn}
+use Rattle.qpack_connection.specs.Thinned.{Thins}
 use Rattle.qpack_ends.specs.Encoders.{IsSound}
 use Rattle.qpack_ends.specs.Hearing as hearing
 use Rattle.qpack_ends.specs.Receiving as receiving
@@ -41,7 +42,7 @@ pub record RefinesStream (k : RequestStream SentSection) (st : AbstractStream) :
   pub cancelled_is : k.cancelled ≡ st.cancelled
 
 -- both tables are those of the session, all bytes are sent, and of both streams they are the instructions that were
--- taken and those under way; the decoder received so much of its stream as the session's decoder took, and what it did
+-- taken and those under way, on the decoder stream without increments that an acknowledgment reports; the decoder received so much of its stream as the session's decoder took, and what it did
 -- not report of it is what that one did not
 pub record RefinesSession (maximum : ℕ) (c : Connection) (w : AbstractSession) : Type 0 where
   pub encoder_is : c.encoder.table ≡ w.encoder
@@ -55,12 +56,14 @@ pub record RefinesSession (maximum : ℕ) (c : Connection) (w : AbstractSession)
       c.decoder.stream
   pub taken_are : received.0.lines ≡ w.taken
   pub heard : List DecoderInstruction
-  pub decoder_stream : SpellsAll SpellsDecoderInstruction c.decoder_stream.written (heard ++ w.decoder_in_flight)
+  pub under_way : List DecoderInstruction
+  pub decoder_stream : SpellsAll SpellsDecoderInstruction c.decoder_stream.written (heard ++ under_way)
+  pub thins : Thins w.encoder.known_received_count w.encoder.unacknowledged under_way w.decoder_in_flight
   pub decoder_stream_order : c.decoder_stream.received ≤ length c.decoder_stream.written
   pub hears : hearing.Receives heard (received_of c.decoder_stream) c.encoder.stream
   pub streams : (s : ℕ) → RefinesStream (stream_at c.streams s) (stream_at w.streams s)
 
--- a section that is encoded is one that the session writes, after the capacity that is to be announced; its fields are
+-- a section that is encoded is one that the session writes, after the capacity that is announced with it; its fields are
 -- bytes, and what was written of it and of the stream takes fewer than 2^63
 abbrev pub EncodesAreRefined : Type 0
 EncodesAreRefined =
@@ -85,6 +88,15 @@ CapacitiesAreRefined =
     (maximum limit : ℕ) (c new : Connection) (steps : List EndStep) (capacity : ℕ)
     → RefinesSession maximum c (after_end_steps steps (abstract_start 0 maximum limit))
     → SetsCapacityOn c new capacity (Ok tt)
+    → (more : List EndStep)
+    × RefinesSession maximum new (after_end_steps (steps ++ more) (abstract_start 0 maximum limit))
+
+-- so is one that may wait, and while it waits nothing is done
+abbrev pub ShrinksAreRefined : Type 0
+ShrinksAreRefined =
+    (maximum limit : ℕ) (c new : Connection) (steps : List EndStep) (capacity : ℕ)
+    → RefinesSession maximum c (after_end_steps steps (abstract_start 0 maximum limit))
+    → ShrinksOn c new capacity (Ok tt)
     → (more : List EndStep)
     × RefinesSession maximum new (after_end_steps (steps ++ more) (abstract_start 0 maximum limit))
 

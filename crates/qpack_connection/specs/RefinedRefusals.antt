@@ -10,8 +10,8 @@ use Rattle.qpack_ends.specs.declared.decoder.DecodingError.{DecodingError}
 use Rattle.qpack_ends.specs.declared.decoder.DecodingError.TheVariants as decoding
 use Rattle.qpack_ends.specs.declared.encoder.EncodingError.{EncodingError}
 use Rattle.qpack_ends.specs.declared.encoder.EncodingError.TheVariants as encoding
-use Rattle.qpack_connection.specs.Connections.{Connection, EncodesOn, SetsCapacityOn, CancelsOn}
-use Rattle.qpack_ends.specs.Encoders.{IsSound, StopsTelling}
+use Rattle.qpack_connection.specs.Connections.{Connection, EncodesOn, SetsCapacityOn, ShrinksOn, CancelsOn}
+use Rattle.qpack_ends.specs.Encoders.{IsSound, StopsTelling, StopsShrinking}
 use Rattle.qpack_connection.specs.RefinedConnections.{RefinesSession}
 use Rattle.qpack_connection.specs.RefinedStreams.{IsOpen}
 
@@ -36,6 +36,15 @@ RefusedCapacitiesAreRefined =
     → RefinesSession maximum c (after_end_steps steps (abstract_start 0 maximum limit)) → IsOpen c
     → SetsCapacityOn c new capacity (Err e)
     → StopsTelling c.encoder.table capacity e × IsOpen new
+    × RefinesSession maximum new (after_end_steps steps (abstract_start 0 maximum limit))
+
+-- nor does one that neither is set nor waits
+abbrev pub RefusedShrinksAreRefined : Type 0
+RefusedShrinksAreRefined =
+    (maximum limit : ℕ) (c new : Connection) (steps : List EndStep) (capacity : ℕ) (e : EncodingError)
+    → RefinesSession maximum c (after_end_steps steps (abstract_start 0 maximum limit)) → IsOpen c
+    → ShrinksOn c new capacity (Err e)
+    → StopsShrinking c.encoder.table capacity e × IsOpen new
     × RefinesSession maximum new (after_end_steps steps (abstract_start 0 maximum limit))
 
 -- why a stream is not cancelled

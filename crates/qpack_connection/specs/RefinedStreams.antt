@@ -7,7 +7,7 @@ use Rattle.qpack_safety.specs.TwoEnds.{EndStep, after_end_steps}
 use Rattle.qpack_ends.specs.declared.decoder.DecodingError.{DecodingError}
 use Rattle.qpack_ends.specs.declared.decoder.DecodingError.TheVariants.{Memory}
 use Rattle.qpack_ends.specs.declared.encoder.EncodingError.{EncodingError}
-use Rattle.qpack_connection.specs.Connections.{Connection, HearsOn, ReceivesOn}
+use Rattle.qpack_connection.specs.Connections.{Connection, TakesAndHears, ReceivesOn}
 use Rattle.qpack_connection.specs.RefinedConnections.{RefinesSession}
 
 -- no error ended either end
@@ -15,13 +15,13 @@ pub record IsOpen (c : Connection) : Type 0 where
   pub encoder : c.encoder.failure ≡ None
   pub decoder : c.decoder.failure ≡ None
 
--- bytes of the decoder stream that come are never refused, and their instructions are those that the session's encoder
--- hears
+-- bytes of the decoder stream that come, once it was taken, are never refused; what its end reported is what the
+-- session's decoder reports, and the encoder hears of it what that of the session does
 abbrev pub HearingsAreRefined : Type 0
 HearingsAreRefined =
     (maximum limit : ℕ) (c new : Connection) (steps : List EndStep) (many : ℕ) (answer : Result ⊤ EncodingError)
     → RefinesSession maximum c (after_end_steps steps (abstract_start 0 maximum limit)) → IsOpen c
-    → HearsOn c new many answer
+    → TakesAndHears c new many answer
     → (answer ≡ Ok tt) × IsOpen new × (more : List EndStep)
     × RefinesSession maximum new (after_end_steps (steps ++ more) (abstract_start 0 maximum limit))
 
@@ -32,7 +32,7 @@ AnswersTotal new (Ok total) = total ≡ insert_count new.decoder.table
 AnswersTotal new (Err e) = e ≡ Memory
 
 -- bytes of the encoder stream that come are never refused, and their instructions are those that the session's decoder
--- takes, and reports
+-- takes
 abbrev pub ReceptionsAreRefined : Type 0
 ReceptionsAreRefined =
     (maximum limit : ℕ) (c new : Connection) (steps : List EndStep) (many : ℕ) (answer : Result ℕ DecodingError)

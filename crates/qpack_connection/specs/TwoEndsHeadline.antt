@@ -9,10 +9,10 @@ use Rattle.qpack_spec.specs.WrittenLaws.{IsByteField}
 use Rattle.qpack_ends.specs.declared.decoder.DecodingError.{DecodingError}
 use Rattle.qpack_ends.specs.declared.section.Reading.{Reading}
 use Rattle.qpack_ends.specs.declared.section.Reading.TheVariants as reading
-use Rattle.qpack_connection.specs.Connections.{Connection, IsNew, Call, Encode, SetCapacity, Hear, Receive, Decode}
-use Rattle.qpack_connection.specs.Connections.{Cancel, Step, Run}
+use Rattle.qpack_connection.specs.Connections.{Connection, IsNew, Call, Encode, SetCapacity, Shrink, Hear, Receive}
+use Rattle.qpack_connection.specs.Connections.{Decode, Cancel, Step, Run}
 use Rattle.qpack_ends.specs.Decoders.{blocked_streams}
-use Rattle.qpack_ends.specs.Encoders.{StopsTelling}
+use Rattle.qpack_ends.specs.Encoders.{StopsTelling, StopsShrinking}
 use Rattle.qpack_ends.specs.Risk.{streams_at_risk}
 use Rattle.qpack_connection.specs.RefinedDecodes.{AnswersSection}
 use Rattle.qpack_connection.specs.RefinedRefusals.{StopsEncoding, StopsCancelling}
@@ -32,7 +32,8 @@ DoesNotWait (Ok (reading.Blocked required)) = ⊥
 DoesNotWait answer = Unit {0}
 
 -- what a call returns. A section is encoded, unless memory is refused or the stream number is invalid; a capacity is
--- set, unless it is above the maximum, or it would evict an entry that is still needed, or memory is refused; the
+-- set, unless it is above the maximum, or it would evict an entry that is still needed, or memory is refused; one that
+-- may wait is set or waits, unless it is above the maximum or memory is refused; the
 -- encoder refuses nothing of the decoder stream; the decoder returns how many insertions it received, or that memory is
 -- refused; a section is decoded to what was passed for it, or waits, but not once all insertions were received; a
 -- stream is cancelled, unless memory is refused or the stream number is invalid
@@ -41,6 +42,8 @@ Answers (Encode s fields (Ok required)) old new step = Unit {0}
 Answers (Encode s fields (Err e)) old new step = StopsEncoding s e
 Answers (SetCapacity capacity (Ok done)) old new step = Unit {0}
 Answers (SetCapacity capacity (Err e)) old new step = StopsTelling old.encoder.table capacity e
+Answers (Shrink capacity (Ok done)) old new step = Unit {0}
+Answers (Shrink capacity (Err e)) old new step = StopsShrinking old.encoder.table capacity e
 Answers (Hear bytes answer) old new step = answer ≡ Ok tt
 Answers (Receive bytes answer) old new step = AnswersTotal new answer × HasAll new answer
 Answers (Decode s fields answer) old new step =

@@ -77,6 +77,8 @@ pub enum Event {
     Encode(u64, Vec<OwnedFieldLine>),
     /// Sets the capacity of the encoding end's table, in bytes (RFC 9204, section 4.3.1).
     SetCapacity(usize),
+    /// Sets the capacity of the encoding end's table, in bytes, now or as soon as no section needs what it evicts.
+    Shrink(usize),
     /// Delivers this many more bytes of the encoder stream to the decoding end, or all that are left.
     ToDecoder(usize),
     /// Delivers this many more bytes of the decoder stream to the encoding end, or all that are left.
@@ -101,7 +103,7 @@ pub enum Skip {
 pub enum Outcome {
     /// The required insert count of the section, 0 if it references no entry; or why it was not encoded.
     Encoded(Result<usize, EncodingError>),
-    /// The capacity was set, and is announced; or why not.
+    /// The capacity was set, and is announced, or it waits after `Event::Shrink`; or why not.
     CapacitySet(Result<(), EncodingError>),
     /// How many insertions the decoding end received in all; or why it stopped.
     Delivered(Result<usize, DecodingError>),

@@ -9,6 +9,7 @@ ghost use Rattle.qpack_connection.specs.RecordedRows.{OtherEncodersAreLawful};
 ghost use Rattle.qpack_connection.specs.RecordedDecoders.{OtherDecodersAreLawful};
 ghost use Rattle.qpack_connection.specs.LateSettings.{NewEndsAreUnused, EndsWithoutATableStayUnused};
 ghost use Rattle.qpack_connection.specs.LateSettings.{LateSettingsAreAsEarly};
+ghost use Rattle.qpack_connection.specs.LowerCapacities.{LowerCapacitiesCome};
 ghost use Rattle.qpack_connection.specs.LawfulEnds.{EncodersKeepToTheStandard, DecodersWriteWhatTheyMay};
 ghost use Rattle.qpack_connection.specs.LawfulEnds.{EncodersAreWriters, HeardFrontsLeaveTheRest};
 ghost use Rattle.qpack_connection.specs.LawfulRows.{AppendixEncoderIsLawful, AppendixSectionsAreLawful};
@@ -17,10 +18,11 @@ ghost use Rattle.qpack_connection.specs.LawfulRows.{AppendixDecoderIsPeer};
 ghost use Rattle.qpack_connection.specs.PieceRows.{AppendixPiecesAreLawful};
 ghost use Rattle.qpack_connection.specs.LawfulPieces.{EncoderStreamsAreNeverRefused, DecoderStreamsAreNeverRefused};
 ghost use Rattle.qpack_connection.specs.RefinedConnections.{NewConnectionsAreRefined, EncodesAreRefined};
-ghost use Rattle.qpack_connection.specs.RefinedConnections.{CapacitiesAreRefined, CancellationsAreRefined};
+ghost use Rattle.qpack_connection.specs.RefinedConnections.{CapacitiesAreRefined, ShrinksAreRefined};
+ghost use Rattle.qpack_connection.specs.RefinedConnections.{CancellationsAreRefined};
 ghost use Rattle.qpack_connection.specs.RefinedDecodes.{DecodesAreRefined};
 ghost use Rattle.qpack_connection.specs.RefinedRefusals.{RefusedEncodesAreRefined, RefusedCapacitiesAreRefined};
-ghost use Rattle.qpack_connection.specs.RefinedRefusals.{RefusedCancellationsAreRefined};
+ghost use Rattle.qpack_connection.specs.RefinedRefusals.{RefusedShrinksAreRefined, RefusedCancellationsAreRefined};
 ghost use Rattle.qpack_connection.specs.RefinedStreams.{HearingsAreRefined, ReceptionsAreRefined};
 ghost use Rattle.qpack_connection.specs.SettledSections.{SectionsSettle};
 ghost use Rattle.qpack_connection.specs.TwoEndsHeadline.{TwoEndsAnswerWhatWasHanded};
@@ -34,18 +36,20 @@ pub fn lawful_streams_are_never_refused()
 {}
 
 /// A connection of two ends in bytes is a session of two strict ends in values (RFC 9204, section 2). This holds of a
-/// new one, and after each section that is encoded, each capacity that is set, each stream that is cancelled, each call
-/// that receives all bytes of a stream, each section that is decoded, and each call that is refused.
+/// new one, and after each section that is encoded, each capacity that is set or waits, each stream that is cancelled, each
+/// call that receives all bytes of a stream, each section that is decoded, and each call that is refused.
 pub fn connections_are_sessions()
     ensures new { NewConnectionsAreRefined }
     ensures encodes { EncodesAreRefined }
     ensures capacities { CapacitiesAreRefined }
+    ensures shrinks { ShrinksAreRefined }
     ensures cancellations { CancellationsAreRefined }
     ensures hearings { HearingsAreRefined }
     ensures receptions { ReceptionsAreRefined }
     ensures decodes { DecodesAreRefined }
     ensures refused_encodes { RefusedEncodesAreRefined }
     ensures refused_capacities { RefusedCapacitiesAreRefined }
+    ensures refused_shrinks { RefusedShrinksAreRefined }
     ensures refused_cancellations { RefusedCancellationsAreRefined }
 {}
 
@@ -82,6 +86,14 @@ pub fn encoders_are_careful()
 /// inserted is inserted.
 pub fn lawful_decoders_are_understood()
     ensures { LawfulDecodersAreUnderstood }
+{}
+
+/// What [`ConnectionEncoder::shrink`](crate::ConnectionEncoder::shrink) promises with any decoder, whatever it writes.
+/// While a capacity waits, a section references no entry, nothing is inserted, and the table changes only by what the
+/// peer acknowledges, cancels and reports. The first section announces it that is encoded once no section is
+/// unacknowledged and the peer is known to have received what is evicted (RFC 9204, sections 2.1.1 and 3.2.3).
+pub fn lower_capacities_come()
+    ensures { LowerCapacitiesCome }
 {}
 
 /// An encoder may be made before the peer's SETTINGS arrive (RFC 9204, section 3.2.3). A new encoder of maximum 0 is

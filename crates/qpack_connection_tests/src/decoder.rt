@@ -42,10 +42,13 @@ impl Subject for Decoder {
             "drops" => {
                 let bytes = call.count();
                 self.end.sent(bytes);
-                call.show_bytes(self.end.decoder_stream());
+                self.show_stream(call);
             }
-            "holds" => call.show_bytes(self.end.decoder_stream()),
-            "tells" => show_told(call, self.end.decoder_stream()),
+            "holds" => self.show_stream(call),
+            "tells" => {
+                self.take_stream(call);
+                show_told(call, self.end.decoder_stream());
+            }
             _ => self.show_state(word, call),
         }
     }
@@ -83,9 +86,25 @@ impl Decoder {
         show_count(call, &received);
     }
 
+    /// Has the decoder stream taken. If memory was refused for increments, the next call of `decoder_stream` writes them.
+    fn take_stream(&mut self, call: &mut Call<'_>) {
+        let len = self.end.decoder_stream_len();
+        if self.end.decoder_stream().len() < len {
+            call.lack_memory();
+        }
+        let is_whole = self.end.decoder_stream().len() == len;
+        call.holds(is_whole, "the decoder stream has another length");
+    }
+
+    /// Appends the decoder stream.
+    fn show_stream(&mut self, call: &mut Call<'_>) {
+        self.take_stream(call);
+        call.show_bytes(self.end.decoder_stream());
+    }
+
     /// Appends the decoder stream, and takes it away.
     fn send(&mut self, call: &mut Call<'_>) {
-        call.show_bytes(self.end.decoder_stream());
+        self.show_stream(call);
         self.end.sent(usize::MAX);
     }
 
@@ -185,7 +204,7 @@ impl Decoder {
 
     /// Appends the counts of its state.
     fn show_counts(&self, call: &mut Call<'_>) {
-        call.show(&self.end.decoder_stream().len());
+        call.show(&self.end.decoder_stream_len());
         call.say_number(" to send, ", self.end.blocked());
         call.say_number(" blocked, ", self.end.waiting());
         call.say_number(" waiting, ", self.end.table().total_inserted());
@@ -193,8 +212,8 @@ impl Decoder {
     }
 }
 
-/// Appends what a decoder stream reports: how many insertions were received, and the streams that are acknowledged and
-/// cancelled, in turn.
+/// Appends what a decoder stream reports: the streams that are acknowledged and cancelled, in turn, and how many insertions
+/// increments report.
 fn show_told(call: &mut Call<'_>, stream: &[u8]) {
     let mut received = 0usize;
     let mut cursor = Cursor::new(stream);
@@ -204,7 +223,7 @@ fn show_told(call: &mut Call<'_>, stream: &[u8]) {
     }
     call.holds(cursor.remaining() == 0, "an instruction is cut");
     call.show(&received);
-    call.say(" received");
+    call.say(" by increments");
 }
 
 /// Appends the stream of an instruction, and returns how many insertions it reports.

@@ -53,6 +53,10 @@ impl Subject for Encoder {
                 let set = self.end.set_capacity(call.count());
                 show_done(call, &set);
             }
+            "shrinks" => {
+                let set = self.end.shrink(call.count());
+                show_done(call, &set);
+            }
             "drops" => {
                 self.end.sent(call.count());
                 call.show_bytes(self.end.encoder_stream());
@@ -68,6 +72,7 @@ impl Subject for Encoder {
             "encodes 0 | a = \"\"",
             "encodes 4611686018427387904 | n = \"\"",
             "sets 4097",
+            "shrinks 0",
             "takes-settings 4096 16",
             "receives 01",
             "receives nothing",
@@ -86,6 +91,14 @@ pub(crate) fn read_settings(call: &mut Call<'_>) -> EncoderSettings {
         capacity: call.count(),
         most_unacknowledged: call.count(),
         seed: SEED,
+    }
+}
+
+/// Appends the capacity that waits, if one does.
+fn show_pending(call: &mut Call<'_>, pending: Option<usize>) {
+    match pending {
+        Some(capacity) => call.show(&capacity),
+        None => call.say("none"),
     }
 }
 
@@ -246,6 +259,10 @@ impl Encoder {
         self.end.sent(usize::MAX);
         let decoded = self.peer.decode(stream, &self.section, &mut self.fields);
         show_decoded(call, &decoded, &self.fields);
+        let len = self.peer.decoder_stream_len();
+        if self.peer.decoder_stream().len() < len {
+            call.lack_memory();
+        }
         let answers = &mut Cursor::new(self.peer.decoder_stream());
         let received = self.end.receive(answers);
         must_be_done(call, &received, "the decoder stream is refused");
@@ -275,6 +292,7 @@ impl Encoder {
             }
             "waits" => call.show(&end.waiting()),
             "capacity" => call.show_capacity(table.max_mem_size(), table.agreed_max()),
+            "pending" => show_pending(call, end.pending_capacity()),
             "settings" => call.show_parts(&end.settings()),
             "failure" => show_failure(call, &end.failure()),
             _ => call.fail("an encoder has no such call"),

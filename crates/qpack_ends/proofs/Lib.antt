@@ -22,6 +22,7 @@ pub mod HeardBytes
 pub mod HeardStreams
 pub mod Wishes
 pub mod SentBytes
+pub mod ReportLengths
 pub mod SpansInTurn
 pub mod NoFields
 pub mod AskingToReceive

@@ -7,6 +7,7 @@ use Rattle.qpack_spec.specs.Marked.{coded_marked_block}
 use Rattle.qpack_spec.specs.Rule.{Draft, required_insert_count, block_of, committed_table}
 use Rattle.qpack_spec.specs.Table.{Table, commit, without_references}
 use Rattle.std.specs.List.{list_any}
+use Rattle.std.specs.Option.{is_some}
 use Rattle.std.specs.Prelude.{nat_eq, nat_lt, ◌||◌}
 use Rattle.std.proofs.Common.{Result, Ok, Err, Option, None, Some, IfSome}
 use Rattle.std.specs.Prelude.{OnOk, is_err}
@@ -19,7 +20,7 @@ use Rattle.qpack_ends.specs.declared.blocked.BlockedStream.{BlockedStream}
 use Rattle.qpack_ends.specs.Encoders.{EncodingEnd, may_block}
 use Rattle.qpack_ends.specs.Risk.{with_stream, AreAtRisk, TracksRisk, streams_at_risk, still_at_risk}
 use Rattle.qpack_ends.specs.Risk.{with_limit, limit_for}
-use Rattle.qpack_ends.specs.Encoders.{IsSound, IsToBeTold, begun, begun_with}
+use Rattle.qpack_ends.specs.Encoders.{IsSound, IsToBeTold, is_alone, is_full}
 use Rattle.qpack_ends.proofs.LimitedChoices.{lowered, matches_chosen, known_chosen, committed_known}
 use Rattle.qpack_ends.proofs.LimitedChoices.{committed_open, committed_limit, given_up_keeps}
 use Rattle.qpack_ends.proofs.LimitedChoices.{capacity_keeps, hearing_limit}
@@ -207,13 +208,13 @@ tracks_hearing rs kept t u is e same tracks =
 
 -- ---- an end behind a section
 
-none_wanted : (o : Option ℕ) (d : EncodingEnd) → d.wanted ≡ o → (begun_with o d).wanted ≡ None
-none_wanted None d is = is
-none_wanted (Some n) d is = refl
+none_wanted : (o : Option ℕ) (b : Bool) → (is_some o || b) ≡ false → o ≡ None
+none_wanted None b is = refl
+none_wanted (Some n) b is = absurd cc
 
--- no capacity is to be told once the first is told
-pub begun_wants : (d : EncodingEnd) → (begun d).wanted ≡ None
-begun_wants d = none_wanted d.wanted d refl
+-- where a section may reference entries no capacity waits
+pub none_waits : (d : EncodingEnd) → is_alone d ≡ false → d.wanted ≡ None
+none_waits d is = none_wanted d.wanted (is_full d) is
 
 pub sound_with : (d : EncodingEnd) (t : Table) (b : List ℕ) → d.wanted ≡ None → IsSound d
     → IsSound (record d { table = t; unsent = b })

@@ -22,7 +22,7 @@ use Rattle.qpack_codec.proofs.ChosenBlocks.{gives_up_chosen_alone}
 use Rattle.qpack_ends.specs.declared.encoder.EncodingError.{EncodingError}
 use Rattle.qpack_ends.specs.declared.encoder.EncodingError.TheVariants.{Memory}
 use Rattle.qpack_codec.proofs.Rooms.{no_err}
-use Rattle.qpack_ends.specs.Encoders.{EncodingEnd, begun, is_full, may_block, written_alone, with_section, Checks, Encodes}
+use Rattle.qpack_ends.specs.Encoders.{EncodingEnd, begun, is_alone, may_block, written_alone, with_section, Checks, Encodes}
 use Rattle.qpack_ends.specs.Encoders.{AsksForSection, HasNoRoomAlone}
 use Rattle.qpack_ends.specs.Risk.{with_limit, limit_for}
 use Rattle.qpack_ends.specs.Wishes.{KeepsWishes, SuitAlong, limited, EncodesAsWished}
@@ -80,7 +80,7 @@ without_named d = with_section (without_references d.table) d.unsent d
 
 -- so it is encoded, or memory is refused for its two bytes
 pub nothing_encoded : (old new : EncodingEnd) (stream : ℕ) (before after : List ℕ) (r : Result ℕ EncodingError)
-    → Checks old stream (Ok tt) → is_full (begun old) ≡ false → new ≡ without_named (begun old)
+    → Checks old stream (Ok tt) → is_alone (begun old) ≡ false → new ≡ without_named (begun old)
     → IfOk r (λ required. (required ≡ 0) × (after ≡ before ++ written_alone []))
     → IfErr r (λ e. (e ≡ Memory) × (after ≡ before)) → Encodes old new stream [] before after r
 nothing_encoded old new stream before after r checks room is ok err =

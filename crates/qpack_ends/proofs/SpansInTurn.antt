@@ -1,13 +1,15 @@
 -- Spans that are in turn, and so tile a text.
-use Rattle.std.proofs.Common.{◌≡◌, ℕ, zero, suc, ◌≤◌, List, [], ◌∷◌, ◌++◌, ◌∙◌, length, drop, slice_range, sym, ap, subst, arith}
-use Rattle.std.proofs.Common.{Result, get_or, refl, append_assoc, drop_of_length-le}
+use Rattle.std.proofs.Common.{◌≡◌, ℕ, zero, suc, ◌+◌, ◌-◌, ◌≤◌, List, [], ◌∷◌, ◌++◌, ◌∙◌, length, take, drop, slice_range}
+use Rattle.std.proofs.Common.{Result, get_or, refl, sym, ap, subst, arith, append_assoc, length-append, drop_of_length-le}
+use Rattle.std.proofs.lemmas.List.{length-take-le, length-drop}
 use Rattle.std.proofs.lemmas.List.Folds.{drop_split}
 use Rattle.std.specs.Prelude.{◌<◌, None, Some, slice_get, slice_index_or}
 use Rattle.qpack_spec.specs.Field.{FieldLine}
 use Rattle.qpack_spec.specs.StrictReading.{LineFault}
 use Rattle.qpack_base.specs.Cursor.{CursorView}
 use Rattle.qpack_ends.specs.declared.field_section.Span.{Span}
-use Rattle.qpack_ends.specs.FieldSections.{IsWithin, AreInTurn, field_at, fields_in, start_of, text_of}
+use Rattle.qpack_ends.specs.FieldSections.{IsWithin, AreInTurn, field_at, fields_in, start_of, text_of, text_of_field}
+use Rattle.qpack_ends.specs.FieldSections.{begins_at}
 use Rattle.qpack_ends.specs.Lines.{Adds}
 
 reaches : (start len : ℕ) (spans : List Span) → AreInTurn start spans len → start ≤ len
@@ -50,6 +52,40 @@ count_in text start (s ∷ spans) = ap suc (count_in text s.end spans)
 pub none_in : (text : List ℕ) (start : ℕ) (spans : List Span) → fields_in text start spans ≡ [] → spans ≡ []
 none_in text start [] none = refl
 none_in text start (s ∷ spans) none = absurd cc
+
+length_between : (text : List ℕ) (from to : ℕ) → to ≤ length text → length (slice_range text from to) ≡ to - from
+length_between text from to within =
+    length-take-le (to - from) (drop from text) (omega (arith, within, length-drop from text))
+
+-- the span's field has as many bytes as the span
+length_there : (text : List ℕ) (start : ℕ) (s : Span) → IsWithin (length text) start s
+    → start + length (text_of_field (field_at text start s)) ≡ s.end
+length_there text start s w =
+    let name = length_between text start s.middle (omega (arith, w.value, w.within)) in
+    let value = length_between text s.middle s.end w.within in
+    omega (
+      arith,
+      w.name,
+      w.value,
+      name,
+      value,
+      length-append (slice_range text start s.middle) (slice_range text s.middle s.end),
+    )
+
+starts_later_by : (text : List ℕ) (start : ℕ) (spans : List Span) (i : ℕ) → AreInTurn start spans (length text)
+    → i < length spans → start_of start spans i ≡ start + begins_at (fields_in text start spans) i
+starts_later_by text start [] i k within = absurd (omega (arith, within))
+starts_later_by text start (s ∷ spans) zero k within = omega arith
+starts_later_by text start (s ∷ spans) (suc i) k within =
+    let f = field_at text start s in
+    let later = starts_later_by text s.end spans i k.2 (omega (arith, within)) in
+    let first = length_there text start s (first_within start (length text) s spans k) in
+    omega (arith, later, first, length-append (text_of_field f) (text_of (take i (fields_in text s.end spans))))
+
+-- the field at an index begins behind those before it
+pub starts_behind : (text : List ℕ) (spans : List Span) (i : ℕ) → AreInTurn 0 spans (length text) → i < length spans
+    → start_of 0 spans i ≡ begins_at (fields_in text 0 spans) i
+starts_behind text spans i k within = omega (arith, starts_later_by text 0 spans i k within)
 
 -- the field at an index is that of the span there
 pub field_there : (text : List ℕ) (start : ℕ) (spans : List Span) (i : ℕ) (s : Span) → i < length spans

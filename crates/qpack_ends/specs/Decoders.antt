@@ -1,5 +1,5 @@
 -- The decoding end of a connection (RFC 9204, sections 2.1.2, 2.2, 4.4 and 5).
-use Rattle.std.specs.Prelude.{◌≡◌, ◌<◌, ◌≤◌, ◌^◌, ℕ, zero, suc, ◌-◌, ⊤, ◌⊎◌, Bool, false, if◌then◌else◌, nat_eq}
+use Rattle.std.specs.Prelude.{◌≡◌, ◌<◌, ◌≤◌, ◌^◌, ℕ, zero, suc, ◌-◌, ⊤, ◌⊎◌, Bool, false, if◌then◌else◌, nat_eq, nat_lt}
 use Rattle.std.specs.Prelude.{List, [], ◌++◌, length, Option, None, Some, Result, Ok, Err}
 use Rattle.std.specs.Option.{is_some, IfSome, IsSome}
 use Rattle.qpack_spec.specs.Field.{FieldLine}
@@ -22,13 +22,13 @@ use Rattle.qpack_ends.specs.declared.section.Reading.TheVariants as reading
 use Rattle.qpack_ends.specs.declared.section.SectionError.{SectionError}
 use Rattle.qpack_ends.specs.Blocked.{IsCountedAnew, MayBlockAmong, is_blocked, blocked_among, with_blocked, without}
 use Rattle.qpack_ends.specs.FieldSections.{SectionView, LacksRoomWithin}
-use Rattle.qpack_ends.specs.Receiving.{StreamView, Receives, ReceivesMore, AsksToReceive, encoder_stream_error}
+use Rattle.qpack_ends.specs.Receiving.{StreamView, Receives, ReceivesMore, encoder_stream_error}
 use Rattle.qpack_ends.specs.Sections.{decompression_failed, TellsReading}
 use Rattle.qpack_ends.specs.Sections as sections
-use Rattle.qpack_ends.specs.Unsent.{UnsentView, LacksRoom}
+use Rattle.qpack_ends.specs.Unsent.{UnsentView, LacksRoom, KeepsRoom}
 
 -- a decoding end: its settings; the table; the bytes that wait from the encoder stream; how many insertions it has
--- reported; the streams that became blocked and were not decoded since; the bytes of the decoder stream that are not
+-- reported, by increments and acknowledgments; the streams that became blocked and were not decoded since; the bytes of the decoder stream that are not
 -- sent; and the error that ended the connection
 pub record DecodingEnd : Type 0 where
   pub settings : DecoderSettings
@@ -135,27 +135,46 @@ abbrev pub Reports : DecodingEnd → DecodingEnd → Result ⊤ DecodingError �
 Reports old new (Ok done) = new ≡ with_report old
 Reports old new (Err e) = (e ≡ Memory) × (0 < unreported old) × (new ≡ old)
 
--- the end after it acknowledged a section that requires insertions, after increments for those not yet reported
--- (section 4.4.1)
+-- the stream is taken: what is not reported is reported, or memory is refused for that, and nothing changes
+abbrev pub IsTaken : DecodingEnd → DecodingEnd → Type 0
+IsTaken old new = (new ≡ with_report old) ⊎ (new ≡ old)
+
+-- and it is refused only if there is no room for these increments
+pub record TakesStream (old new : DecoderView) : Type 0 where
+  pub is : (end_of new ≡ with_report (end_of old))
+      ⊎ ((end_of new ≡ end_of old) × LacksRoom (length (written_report (unreported (end_of old)))) old.unsent)
+  pub room : KeepsRoom (length (written_report (unreported (end_of old)))) old.unsent new.unsent
+
+-- the increments before the acknowledgment of a section that requires this many insertions: for those not yet reported,
+-- unless the acknowledgment reports all that were received (section 2.1.4)
+abbrev pub report_before : ℕ → DecodingEnd → List ℕ
+report_before required d = if nat_lt required (insert_count d.table) then written_report (unreported d) else []
+
+-- the end after it acknowledged a section that requires insertions (section 4.4.1): all that were received are reported
 abbrev pub acknowledged : ℕ → ℕ → DecodingEnd → DecodingEnd
 acknowledged stream zero d = record d { blocked = without stream d.blocked }
 acknowledged stream (suc required) d =
-    record (with_report d) {
+    record d {
+      reported = insert_count d.table;
       blocked = without stream d.blocked;
-      unsent = (with_report d).unsent ++ written_decoder_instruction (Acknowledgment stream);
+      unsent = (d.unsent ++ report_before (suc required) d) ++ written_decoder_instruction (Acknowledgment stream);
     }
 
--- what is written for a section that requires this many insertions: nothing for none; otherwise increments for the
--- insertions not yet reported, then the acknowledgment
+-- what is written for a section that requires this many insertions: nothing for none; otherwise the acknowledgment,
+-- after the increments before it
 abbrev pub acknowledgment_of : ℕ → ℕ → DecodingEnd → List ℕ
 acknowledgment_of stream zero d = []
 acknowledgment_of stream (suc required) d =
-    written_report (unreported d) ++ written_decoder_instruction (Acknowledgment stream)
+    report_before (suc required) d ++ written_decoder_instruction (Acknowledgment stream)
 
--- memory was refused for the increments, and nothing changes, or for the acknowledgment after them
+-- memory was refused for the acknowledgment or the increments before it, and nothing changes, or these were written
+abbrev pub StopsBehindReport : DecodingEnd → DecodingEnd → ℕ → Type 0
+StopsBehindReport old new required =
+    (new ≡ old) ⊎ ((required < insert_count old.table) × (new ≡ with_report old))
+
+-- memory was refused for an acknowledgment
 abbrev pub StopsAcknowledging : DecodingEnd → DecodingEnd → ℕ → DecodingError → Type 0
-StopsAcknowledging old new required e =
-    (e ≡ Memory) × (0 < required) × ((new ≡ old) ⊎ (new ≡ with_report old))
+StopsAcknowledging old new required e = (e ≡ Memory) × (0 < required) × StopsBehindReport old new required
 
 -- the acknowledgment was written, if one is to be; or memory was refused
 abbrev pub Acknowledges : DecodingEnd → DecodingEnd → ℕ → ℕ → Result ⊤ DecodingError → Type 0
@@ -207,7 +226,7 @@ GivesReading old new stream read fields (reading.Blocked required) =
 -- memory was refused: for the section or a stream that becomes blocked, and nothing changes; or for an acknowledgment,
 -- before which the increments may have been written
 abbrev pub StopsForMemory : DecodingEnd → DecodingEnd → StrictReading → Type 0
-StopsForMemory old new (Read fields (suc required)) = (new ≡ old) ⊎ (new ≡ with_report old)
+StopsForMemory old new (Read fields (suc required)) = StopsBehindReport old new (suc required)
 StopsForMemory old new read = new ≡ old
 
 -- why a section was not decoded: its bytes are refused; its stream would be one blocked stream too many; or memory was
@@ -303,19 +322,12 @@ Cancels old new stream (Err e) =
 abbrev pub received : Table → StreamView → DecodingEnd → DecodingEnd
 received t s d = record d { table = t; stream = s }
 
--- how a call ends after the bytes that it received: all insertions are reported, and it returns their number; or memory
--- is refused for the increments; or the stream is rejected, or memory is refused for it
+-- how a call ends after the bytes that it received: it returns how many insertions were ever made; or the stream is
+-- rejected, or memory is refused for it
 abbrev pub EndsReceiving : DecodingEnd → DecodingEnd → Result ⊤ EncoderStreamError → Result ℕ DecodingError → Type 0
-EndsReceiving d new (Ok done) (Ok total) = (total ≡ insert_count d.table) × (new ≡ with_report d)
-EndsReceiving d new (Ok done) (Err e) = Reports d new (Err e)
+EndsReceiving d new (Ok done) (Ok total) = (total ≡ insert_count d.table) × (new ≡ d)
+EndsReceiving d new (Ok done) (Err e) = ⊥
 EndsReceiving d new (Err e) r = (r ≡ Err (stream_failure e)) × (new ≡ refused (stream_failure e) d)
-
--- memory may be asked for to receive bytes, of which these are left: for increments that do not fit after these unsent
--- bytes, or by the stream
-abbrev pub AsksForBytes : UnsentView → DecodingEnd → List ℕ → Type 0
-AsksForBytes unsent d left =
-    ((0 < unreported d) × LacksRoom (length (written_report (unreported d))) unsent)
-    ⊎ AsksToReceive d.table left d.stream
 
 -- the next bytes of the encoder stream were received, of which these are left
 pub record ReceivesBytes (start : Table) (before : List ℕ) (old new : DecodingEnd) (bytes left : List ℕ)

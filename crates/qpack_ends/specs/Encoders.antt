@@ -3,12 +3,12 @@ use Rattle.std.specs.Prelude.{◌≡◌, ◌<◌, ◌≤◌, ◌^◌, ℕ, min, 
 use Rattle.std.specs.Prelude.{List, [], ◌+◌, ◌++◌, length, Option, None, Some, Result, Ok, Err, IsOk}
 use Rattle.std.specs.Prelude.{vec_len, vec_capacity}
 use Rattle.std.specs.declared.vec.Vec.{Vec}
-use Rattle.std.specs.Option.{IfSome, IsSome}
+use Rattle.std.specs.Option.{IfSome, IsSome, is_some}
 use Rattle.qpack_spec.specs.Field.{FieldLine}
 use Rattle.qpack_spec.specs.Instruction.{DecoderInstruction, SetCapacity, written_encoder_instruction}
 use Rattle.qpack_spec.specs.Marked.{stateless_block_marked, coded_marked_block}
 use Rattle.qpack_spec.specs.Table.{Table, empty_table, with_capacity, has_number}
-use Rattle.qpack_spec.specs.Window.{DoesNotFit, AboveMaximum}
+use Rattle.qpack_spec.specs.Window.{TableRefusal, DoesNotFit, AboveMaximum, greatest_capacity}
 use Rattle.qpack_spec.specs.Text.{WhereShorter}
 use Rattle.qpack_table.specs.declared.dynamic.Error.TheVariants.{MaxTableSizeReached}
 use Rattle.qpack_codec.specs.ChosenSections.{EncodesChosen, GivesUpChosen}
@@ -22,8 +22,8 @@ use Rattle.qpack_ends.specs.declared.encoder.EncodingError.TheVariants.{MaximumC
 use Rattle.qpack_ends.specs.Risk.{streams_at_risk}
 use Rattle.qpack_ends.specs.Hearing.{StreamView, Receives, ReceivesMore, decoder_stream_error}
 
--- an encoding end: its settings; the table; the capacity to announce before the first section, if any; the bytes that
--- wait from the decoder stream; the bytes of the encoder stream that are not sent; and the error that ended the
+-- an encoding end: its settings; the table; the capacity that waits to be announced with a section, if any; the bytes
+-- that wait from the decoder stream; the bytes of the encoder stream that are not sent; and the error that ended the
 -- connection
 pub record EncodingEnd : Type 0 where
   pub settings : EncoderSettings
@@ -86,15 +86,12 @@ capacity_failure e = CapacityTooLarge
 
 -- ---- what always holds
 
--- a capacity to announce that the table takes: it is within the maximum, and the table is empty
-pub record IsToBeTold (d : EncodingEnd) (capacity : ℕ) : Type 0 where
-  pub within : capacity ≤ d.settings.max_capacity
-  pub small : d.settings.max_capacity < 2 ^ 30
-  pub agreed : d.table.agreed_max ≡ Some d.settings.max_capacity
-  pub nothing_live : d.table.live ≡ []
+-- a capacity that waits is within the maximum, so only entries that are held refuse it
+abbrev pub IsToBeTold : EncodingEnd → ℕ → Type 0
+IsToBeTold d capacity = capacity ≤ greatest_capacity d.table.agreed_max
 
--- the capacity to announce is one that the table takes, the stream was received unless it was rejected, and the
--- connection is ended only by an error that has a code
+-- a capacity that waits is within the maximum, the stream was received unless it was rejected, and the connection is
+-- ended only by an error that has a code
 pub record IsSound (d : EncodingEnd) : Type 0 where
   pub wanted : IfSome d.wanted (λ capacity. IsToBeTold d capacity)
   pub stream : d.failure ≡ None → HasReceived d.stream
@@ -193,19 +190,54 @@ SetsCapacity old new capacity (Err e) =
     ((old.failure ≡ Some e) × (new ≡ old))
     ⊎ ((old.failure ≡ None) × (IsNoCapacity old capacity → ⊥) × TellsCapacity old new capacity (Err e))
 
--- the end after the capacity that was to be announced, if any: the table, which is empty, has it
+-- the end after a capacity that waits, by what the table makes of it: it is announced, or it waits on
+abbrev pub told_if : ℕ → EncodingEnd → Result Table TableRefusal → EncodingEnd
+told_if capacity d (Ok t) = told capacity t d
+told_if capacity d (Err e) = d
+
+-- the end after the capacity that waits, if any
 abbrev pub begun_with : Option ℕ → EncodingEnd → EncodingEnd
 begun_with None d = d
-begun_with (Some capacity) d = told capacity (record d.table { capacity = capacity }) d
+begun_with (Some capacity) d = told_if capacity d (with_capacity d.table capacity)
 
--- the end once it announced the capacity that is due before the first section
+-- the end as a section meets it: the capacity that waits is announced, if the table takes it
 abbrev pub begun : EncodingEnd → EncodingEnd
 begun d = begun_with d.wanted d
 
--- the capacity that was due is announced; or memory was refused for it, and nothing changes
+-- a capacity waits, and the table takes it
+abbrev pub IsDue : EncodingEnd → Type 0
+IsDue d = (capacity : ℕ) × (d.wanted ≡ Some capacity) × IsOk (with_capacity d.table capacity)
+
+-- the capacity that waits is announced, if the table takes it; or memory was refused for that, and nothing changes
 abbrev pub Begins : EncodingEnd → EncodingEnd → Result ⊤ EncodingError → Type 0
 Begins old new (Ok done) = new ≡ begun old
-Begins old new (Err e) = (e ≡ Memory) × IsSome old.wanted × (new ≡ old)
+Begins old new (Err e) = (e ≡ Memory) × IsDue old × (new ≡ old)
+
+-- why a capacity neither was set nor waits: it is above the maximum, or memory was refused for one that the table takes
+abbrev pub StopsShrinking : Table → ℕ → EncodingError → Type 0
+StopsShrinking t capacity e = (e ≡ EntriesHeld → ⊥) × StopsTelling t capacity e
+
+-- a capacity was not set because it would evict an entry that is not evictable
+abbrev pub is_held : Result ⊤ EncodingError → Bool
+is_held (Err EntriesHeld) = true
+is_held r = false
+
+-- the end while a capacity waits
+abbrev pub waiting : ℕ → EncodingEnd → EncodingEnd
+waiting capacity d = record d { wanted = Some capacity }
+
+-- the capacity that waits for entries to be evictable, if any: an empty table takes each one, also that of the settings
+abbrev pub pending_capacity : EncodingEnd → Option ℕ
+pending_capacity d = if nat_eq (length d.table.live) 0 then None else d.wanted
+
+-- a capacity was set; or it would evict an entry that is not evictable, and waits; or why it was neither set nor waits,
+-- and nothing changes
+abbrev pub Shrinks : EncodingEnd → EncodingEnd → ℕ → Result ⊤ EncodingError → Type 0
+Shrinks old new capacity (Ok done) =
+    (old.failure ≡ None)
+    × (SetsIt old new capacity
+    ⊎ ((with_capacity old.table capacity ≡ Err DoesNotFit) × (new ≡ waiting capacity old)))
+Shrinks old new capacity (Err e) = (e ≡ EntriesHeld → ⊥) × SetsCapacity old new capacity (Err e)
 
 -- ---- the decoder stream
 
@@ -236,6 +268,10 @@ Checks d stream (Err e) = (d.failure ≡ Some e) ⊎ ((d.failure ≡ None) × (2
 abbrev pub is_full : EncodingEnd → Bool
 is_full d = nat_le d.settings.most_unacknowledged (length d.table.unacknowledged)
 
+-- a section references no entry: a capacity waits, or as many sections wait for acknowledgments as may
+abbrev pub is_alone : EncodingEnd → Bool
+is_alone d = is_some d.wanted || is_full d
+
 -- a section of a stream may require insertions that are not known to be received: its stream may be blocked already, or
 -- fewer streams may be blocked than the peer permits (section 2.1.2)
 abbrev pub may_block : EncodingEnd → ℕ → Bool
@@ -254,35 +290,35 @@ with_section t unsent d = record d { table = t; unsent = unsent }
 -- may be blocked, it requires nothing that is not known to be received (sections 2.1 and 2.1.2)
 pub record WritesSection (d new : EncodingEnd) (stream : ℕ) (fields : List FieldLine) (before after : List ℕ)
     (required : ℕ) : Type 0 where
-  pub room : is_full d ≡ false
+  pub room : is_alone d ≡ false
   pub section : EncodesChosen WhereShorter stream fields d.table new.table before after d.unsent new.unsent required
   pub known : may_block d stream ≡ false → required ≤ d.table.known_received_count
   pub new_is : new ≡ with_section new.table new.unsent d
 
--- at the limit of sections that wait, the section references no entry, and nothing else changes
+-- while a capacity waits, and at the limit of sections that wait, the section references no entry, and nothing else
+-- changes
 pub record WritesAlone (d new : EncodingEnd) (fields : List FieldLine) (before after : List ℕ) (required : ℕ) :
     Type 0 where
-  pub full : is_full d ≡ true
+  pub alone : is_alone d ≡ true
   pub required_is : required ≡ 0
   pub section : after ≡ before ++ written_alone fields
   pub new_is : new ≡ d
 
 -- memory ran out after some of the fields: their insertions stay and were written, and nothing is referenced
 pub record GivesUpSection (d new : EncodingEnd) (fields : List FieldLine) : Type 0 where
-  pub room : is_full d ≡ false
+  pub room : is_alone d ≡ false
   pub lines : GivesUpChosen WhereShorter fields d.table new.table d.unsent new.unsent
   pub new_is : new ≡ with_section new.table new.unsent d
 
--- before any field, memory is asked for the section at the limit of sections that wait, and for its stream if that may
--- be blocked
+-- before any field, memory is asked for a section that references no entry, and for its stream if that may be blocked
 abbrev pub AsksFirst : EncodingEnd → ℕ → Type 0
-AsksFirst d stream = (is_full d ≡ true) ⊎ (may_block d stream ≡ true)
+AsksFirst d stream = (is_alone d ≡ true) ⊎ (may_block d stream ≡ true)
 
 -- memory was refused: for the capacity that was due, and nothing changes; after it, before any field; or among the
 -- fields
 abbrev pub StopsForMemory : EncodingEnd → EncodingEnd → ℕ → List FieldLine → Type 0
 StopsForMemory old new stream fields =
-    (IsSome old.wanted × (new ≡ old))
+    (IsDue old × (new ≡ old))
     ⊎ (AsksFirst (begun old) stream × (new ≡ begun old))
     ⊎ GivesUpSection (begun old) new fields
 
@@ -310,4 +346,4 @@ HasNoRoomAlone fields section = vec_capacity section < vec_len section + length 
 
 -- memory may be asked for to encode a section: for the capacity to announce, or to write the section
 abbrev pub AsksToEncode : {A : Type 0} → EncodingEnd → List FieldLine → Vec ℕ A → Type 0
-AsksToEncode d fields section = IsSome d.wanted ⊎ AsksForSection fields section
+AsksToEncode d fields section = IsDue d ⊎ AsksForSection fields section

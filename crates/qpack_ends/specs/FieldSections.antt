@@ -1,5 +1,7 @@
 -- The fields of a section, each a name and a value cut out of one text.
+use denote.RawPtr.{Ptr}
 use Rattle.std.specs.Prelude.{◌≡◌, ◌<◌, ◌≤◌, ◌/◌, ◌⊎◌, ℕ, zero, suc, max, List, [], ◌∷◌, ◌++◌, Option, None, Some, slice_range}
+use Rattle.std.specs.Prelude.{length, take}
 use Rattle.qpack_spec.specs.Field.{FieldLine}
 use Rattle.qpack_base.specs.HeaderFields.{line_of}
 use Rattle.qpack_base.specs.declared.field.FieldLine.{FieldLine as LentLine}
@@ -33,6 +35,10 @@ abbrev pub text_of : List FieldLine → List ℕ
 text_of [] = []
 text_of (f ∷ fs) = text_of_field f ++ text_of fs
 
+-- where the field at an index begins in that text: behind those before it
+abbrev pub begins_at : List FieldLine → ℕ → ℕ
+begins_at fs index = length (text_of (take index fs))
+
 -- the span, which begins here, is within a text of this many bytes
 pub record IsWithin (len start : ℕ) (s : Span) : Type 0 where
   pub name : start ≤ s.middle
@@ -45,11 +51,19 @@ abbrev pub AreInTurn : ℕ → List Span → ℕ → Type 0
 AreInTurn start [] len = start ≡ len
 AreInTurn start (s ∷ spans) len = (start ≤ s.middle) × (s.middle ≤ s.end) × AreInTurn s.end spans len
 
--- the fields of a section, and how many bytes of names and values, and how many fields, there is memory for
+-- the fields of a section, where the text of their names and values lies in memory, and how many bytes of it, and how
+-- many fields, there is memory for
 pub record SectionView : Type 0 where
   pub fields : List FieldLine
+  pub text_at : Ptr
   pub text_room : ℕ
   pub fields_room : ℕ
+
+-- there is no field, and no memory for one
+pub record HoldsNothing (s : SectionView) : Type 0 where
+  pub fields : s.fields ≡ []
+  pub text_room : s.text_room ≡ 0
+  pub fields_room : s.fields_room ≡ 0
 
 -- memory was made for no more than these bytes and fields, and none was given back
 pub record GrowsTo (bytes fields : ℕ) (old new : SectionView) : Type 0 where

@@ -14,7 +14,7 @@ use Rattle.qpack_codec.specs.declared.encoder.choices.Choice.TheVariants.{Equal,
 use Rattle.qpack_codec.specs.declared.encoder.choices.Wish.{Wish}
 use Rattle.qpack_codec.specs.declared.encoder.choices.Wish.TheVariants.{Never, Reuse, Insert}
 use Rattle.qpack_ends.specs.declared.encoder.EncodingError.{EncodingError}
-use Rattle.qpack_ends.specs.Encoders.{EncodingEnd, begun, is_full, may_block}
+use Rattle.qpack_ends.specs.Encoders.{EncodingEnd, begun, is_alone, may_block}
 use Rattle.qpack_ends.specs.Risk.{with_limit, limit_for}
 
 -- a field is inserted: its line references the new entry if one more section may be blocked and there is room; if no
@@ -92,11 +92,12 @@ pub record KeepsWishes (d new : EncodingEnd) (stream : ℕ) (fields : List Field
 abbrev pub limited : Bool → EncodingEnd → EncodingEnd
 limited may d = record d { table = with_limit (limit_for may) d.table }
 
--- an encode follows the caller's wishes, except at the limit of sections that wait: then none references an entry
+-- an encode follows the caller's wishes, except while a capacity waits and at the limit of sections that wait: then no
+-- line references an entry, and no field is inserted
 abbrev pub EncodesAsWished : EncodingEnd → EncodingEnd → ℕ → List FieldLine → List Wish → List ℕ → List ℕ
     → Result ℕ EncodingError → Type 0
 EncodesAsWished old new stream fields wishes before after (Ok required) =
-    is_full (begun old) ≡ false
+    is_alone (begun old) ≡ false
     → KeepsWishes (limited (may_block (begun old) stream) (begun old)) (limited (may_block (begun old) stream) new) stream
     fields wishes before after required
 EncodesAsWished old new stream fields wishes before after (Err e) = Unit {0}

@@ -272,11 +272,12 @@ impl Chooser {
         requires { AreHashesIn (line_of field.now).field sought.now }
         ensures { KeepsWish block.now.table.now (line_of field.now).field wish None result }
     {
+        self.note_literal(block, field, sought);
         let Some(reason) = self.wants(block, field, wish, sought) else {
             return self.choose_literal(block, field, sought, false);
         };
         if !block.is_below_limit() {
-            let inserts = reason == Reason::Wish || self.affords(block, field);
+            let inserts = reason == Reason::Wish || self.affords(block, field, sought);
             if inserts {
                 self.note_insertion(block, reason);
             }
@@ -377,8 +378,21 @@ impl Chooser {
         &mut self,
         block: &DynamicTableEncoder<'_, Index, PackedField>,
         field: &FieldLine<'_>,
+        sought: &SoughtField,
     ) -> bool {
-        self.can_insert(block, field, None) && self.allowance.pay(length(field))
+        self.can_insert(block, field, None) && self.allowance.pay(length(field, sought))
+    }
+
+    /// Notes that a field which may be inserted is a literal, or is inserted, at the limit.
+    fn note_literal(
+        &mut self,
+        block: &DynamicTableEncoder<'_, Index, PackedField>,
+        field: &FieldLine<'_>,
+        sought: &SoughtField,
+    ) {
+        if !block.is_below_limit() {
+            self.allowance.note_literal(length(field, sought));
+        }
     }
 
     /// Notes that the next entry is inserted for a reason.
@@ -412,7 +426,7 @@ impl Chooser {
     {
         let is_below = block.is_below_limit();
         if !is_below {
-            self.allowance.earn(length(field));
+            self.allowance.earn(length(field, sought));
         }
         let last = self.marks.last_use(entry);
         self.marks.note_use(entry);
@@ -490,6 +504,9 @@ impl Chooses<Index, PackedField> for Chooser {
         self.history.fit(block.max_size());
         self.draining.advance(block);
         self.marks.begin_section();
+        if !block.is_below_limit() {
+            self.allowance.begin_section();
+        }
     }
 
     fn choose(
@@ -507,14 +524,22 @@ impl Chooses<Index, PackedField> for Chooser {
         };
         match self.entry_to_reference(block, field, newest) {
             Some(entry) => self.choose_equal(block, field, wish, sought, entry, newest),
-            None => self.choose_literal(block, field, sought, false),
+            None => {
+                self.note_literal(block, field, sought);
+                self.choose_literal(block, field, sought, false)
+            }
         }
     }
 }
 
-/// Returns how many bytes a field's name and value have.
-fn length(field: &FieldLine<'_>) -> usize {
-    field.name.len().saturating_add(field.value.len())
+/// Returns how many bytes a field's value has, with its name unless a static field has that.
+fn length(field: &FieldLine<'_>, sought: &SoughtField) -> usize {
+    let name = if sought.static_name().is_some() {
+        0
+    } else {
+        field.name.len()
+    };
+    field.value.len().saturating_add(name)
 }
 
 /// Returns whether, with the field, at most half of a large table is used and one more section may be blocked.

@@ -1,20 +1,23 @@
 //! The decoding end of a connection, made from what it sends as its settings (RFC 9204, sections 2.2, 4.4 and 5).
 
 ghost use Rattle.std.specs.Prelude.{◌≡◌, ◌<◌, ◌≤◌, ◌^◌, ◌-◌, None, Some, Err, OnOk, OnErr, IfOk, IfErr, IfSome};
-ghost use Rattle.std.specs.Prelude.{ℕ, List, [], drop, length};
+ghost use Rattle.std.specs.Prelude.{ℕ, List, [], drop, length, ⊤};
+ghost use Rattle.std.specs.Borrow.{sem, follows_so};
+ghost use mathlib.Core.Option.{none};
 ghost use Rattle.qpack_spec.specs.StrictReading.{strict_reading};
 ghost use Rattle.qpack_spec.specs.Table.{Table, empty_table, insert_count, window};
 ghost use Rattle.qpack_ends.specs.Blocked.{ready};
 ghost use Rattle.qpack_ends.specs.FieldSections.{GrowsWithin, IsRoomWithin};
-ghost use Rattle.qpack_ends.specs.Receiving.{Receives};
+ghost use Rattle.qpack_ends.specs.Receiving.{Receives, AsksToReceive};
 ghost use Rattle.qpack_ends.specs.SectionPrefixes.{GivesPrefix, strict_prefix};
 ghost use Rattle.qpack_ends.specs.Decoders.{end_of, Begins, FailsSettings, Checks, Reports, Acknowledges};
 ghost use Rattle.qpack_ends.specs.Decoders.{BlocksStream, DecodesInto, Decodes, Cancels, refused};
-ghost use Rattle.qpack_ends.specs.Decoders.{code_of, stream_failure, ReceivesBytes, blocked_streams};
-ghost use Rattle.qpack_ends.specs.Decoders.{NeedsMemoryToDecode, AsksForBytes, unreported};
+ghost use Rattle.qpack_ends.specs.Decoders.{code_of, stream_failure, ReceivesBytes, blocked_streams, TakesStream, with_report};
+ghost use Rattle.qpack_ends.specs.Decoders.{NeedsMemoryToDecode, unreported};
 ghost use Rattle.qpack_ends.specs.Decoders.{acknowledgment_of, answer_to, cancellation_of};
 ghost use Rattle.qpack_ends.specs.Unsent.{LacksRoom, KeepsRoom, Appends, Drops};
 ghost use Rattle.qpack_codec.specs.Receiving.{written_report};
+ghost use Rattle.qpack_ends.specs.contracts.decoder.ConnectionDecoder.{the_row};
 ghost use Rattle.qpack_ends.specs.declared.decoder.DecodingError.TheVariants.{Memory};
 ghost use Rattle.qpack_ends.specs.declared.decoder.SettingsError.TheVariants.{CapacityTooLarge};
 
@@ -24,7 +27,7 @@ use crate::field_section::FieldSection;
 use crate::section::{
     DECOMPRESSION_FAILED, Reading, SectionError, SectionPrefix, read_prefix, read_section,
 };
-use crate::unsent::Unsent;
+use crate::unsent::{Unsent, report_len};
 use qpack_base::coding::{Cursor, NoMemory};
 use qpack_codec::DecoderError;
 use qpack_table::dynamic::ReceivedPackedTable;
@@ -136,7 +139,7 @@ pub struct ConnectionDecoder {
     settings: DecoderSettings,
     table: ReceivedPackedTable,
     stream: EncoderStream,
-    /// How many insertions increments have reported.
+    /// How many insertions increments and acknowledgments have reported.
     reported: usize,
     blocked: BlockedStreams,
     /// The bytes of the decoder stream that are not sent.
@@ -231,11 +234,22 @@ impl ConnectionDecoder {
         self.stream.waiting()
     }
 
-    /// Returns the bytes of the decoder stream that are to be sent, in order (RFC 9204, section 4.4).
-    pub fn decoder_stream(&self) -> &[u8]
-        ensures { result.now ≡ self.now.unsent.bytes }
+    /// Returns the bytes of the decoder stream that are to be sent, in order (RFC 9204, section 4.4). At their end it
+    /// writes increments, of 64 and one of the rest, for the insertions that nothing before reports (section 4.4.3). If
+    /// memory is refused for these, a later call writes them.
+    pub fn decoder_stream(&mut self) -> &[u8]
+        ensures* takes { sem 𝓛 (follows_so the_row the_row self.entry.ghost_name none (λ _ _. ⊤)
+            (λ now. TakesStream self.old now × (result.now ≡ now.unsent.bytes))) }
     {
+        let _ = self.report();
         self.unsent.as_slice()
+    }
+
+    /// Returns how many bytes `decoder_stream` returns, unless memory is refused. It writes nothing.
+    pub fn decoder_stream_len(&self) -> usize
+        ensures { result ≡ length (with_report (end_of self.now)).unsent }
+    {
+        self.unsent.len() + report_len(self.unreported())
     }
 
     /// Drops this many bytes of the decoder stream, or all if there are fewer. Call this after they were sent. Once
@@ -268,8 +282,9 @@ impl ConnectionDecoder {
     /// limit of the settings. Unless it returns `Reading::Fields`, `fields` is empty. If `fields` has room for all that
     /// the limit allows, reading the section asks for no memory.
     ///
-    /// It acknowledges the fields of a section that requires insertions, after increments for insertions not yet
-    /// reported, and the stream is no longer blocked. It does not keep a blocked section. The stream counts as blocked
+    /// It acknowledges the fields of a section that requires insertions, and the stream is no longer blocked. Before the
+    /// acknowledgment it writes increments for insertions not yet reported, unless the section requires all that were
+    /// received: then the acknowledgment reports them (RFC 9204, section 2.1.4). It does not keep a blocked section. The stream counts as blocked
     /// while insertions are missing; once `next_ready` returns the stream, pass the section again.
     ///
     /// # Errors
@@ -325,34 +340,31 @@ impl ConnectionDecoder {
     }
 
     /// Receives the bytes left at the cursor, which continue those of earlier calls and may be cut anywhere (RFC 9204,
-    /// sections 4.2 and 4.3), as `EncoderStream::receive` does. Returns how many insertions were ever made. It reports
-    /// them by increments of 64 and one of the rest (section 4.4.3).
+    /// sections 4.2 and 4.3), as `EncoderStream::receive` does. Returns how many insertions were ever made;
+    /// `decoder_stream` reports them.
     ///
     /// # Errors
     ///
     /// A rejected instruction ends the connection (`EncoderStream`); the instructions before it stay applied. After
-    /// `Memory`, call again with the bytes left at the cursor, even if there are none; that call reports the insertions
-    /// that were made.
+    /// `Memory`, call again with the bytes left at the cursor, even if there are none.
     pub fn receive(&mut self, buf: &mut Cursor) -> Result<usize, DecodingError>
         ensures receives { self.old.failure ≡ None → (start : Table) (before : List ℕ)
             → Receives start self.old.table before self.old.stream
             → ReceivesBytes start before (end_of self.old) (end_of self.new) buf.old.rest buf.new.rest result }
         ensures ended { IfSome self.old.failure
             (λ e. (result ≡ Err e) × (self.new ≡ self.old) × (buf.new.rest ≡ buf.old.rest)) }
-        // Memory is refused only for increments that do not fit, for an instruction, or for bytes that are left.
-        ensures memory { result ≡ Err Memory → AsksForBytes self.old.unsent (end_of self.new) buf.new.rest }
-        ensures unsent { KeepsRoom (length (written_report (insert_count self.new.table - self.old.reported)))
-            self.old.unsent self.new.unsent }
+        // Memory is refused only for an instruction, or for bytes that are left.
+        ensures memory { result ≡ Err Memory → AsksToReceive self.new.table buf.new.rest self.new.stream }
+        ensures unsent { self.new.unsent ≡ self.old.unsent }
         ensures total { buf.new.total ≡ buf.old.total }
     {
         if let Some(failure) = self.failure {
             return Err(failure);
         }
         match self.stream.receive(&mut self.table, buf) {
-            Ok(()) => self.report()?,
-            Err(error) => return Err(self.refuse(DecodingError::of_stream(error))),
+            Ok(()) => Ok(self.table.total_inserted()),
+            Err(error) => Err(self.refuse(DecodingError::of_stream(error))),
         }
-        Ok(self.table.total_inserted())
     }
 
     /// Returns the error of a call for a stream, if the connection ended or the stream number is invalid.
@@ -402,7 +414,8 @@ impl ConnectionDecoder {
         }
     }
 
-    /// Writes the acknowledgment of a section, if it requires insertions, and counts its stream as blocked no more.
+    /// Writes the acknowledgment of a section, if it requires insertions, and counts its stream as blocked no more. If the
+    /// section requires fewer insertions than were received, increments come first.
     #[inline(always)]
     fn acknowledge(&mut self, stream: u64, required: usize) -> Result<(), DecodingError>
         ensures acknowledges { Acknowledges (end_of self.old) (end_of self.new) stream required result }
@@ -412,8 +425,12 @@ impl ConnectionDecoder {
             self.new.unsent }
     {
         if required > 0 {
-            self.report()?;
+            let inserted = self.table.total_inserted();
+            if required < inserted {
+                self.report()?;
+            }
             self.unsent.write_acknowledgment(stream)?;
+            self.reported = inserted;
         }
         self.blocked.forget(stream);
         Ok(())
@@ -442,11 +459,17 @@ impl ConnectionDecoder {
         ensures unsent { Appends (written_report (unreported (end_of self.old))) self.old.unsent self.new.unsent
             result }
     {
-        let inserted = self.table.total_inserted();
-        self.unsent
-            .write_increments(inserted.saturating_sub(self.reported))?;
-        self.reported = inserted;
+        let unreported = self.unreported();
+        self.unsent.write_increments(unreported)?;
+        self.reported = self.table.total_inserted();
         Ok(())
+    }
+
+    /// Returns how many insertions were received and are not reported.
+    fn unreported(&self) -> usize
+        ensures { result ≡ unreported (end_of self.now) }
+    {
+        self.table.total_inserted().saturating_sub(self.reported)
     }
 
     /// Returns the error, and keeps it if it ends the connection.

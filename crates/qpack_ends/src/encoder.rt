@@ -8,9 +8,10 @@ ghost use Rattle.qpack_spec.specs.Instruction.{DecoderInstruction};
 ghost use Rattle.qpack_spec.specs.Table.{empty_table, insert_count};
 ghost use Rattle.qpack_spec.specs.Text.{WhereShorter};
 ghost use Rattle.qpack_ends.specs.Hearing.{Receives};
-ghost use Rattle.qpack_ends.specs.Encoders.{Starts, first_capacity, code_of, capacity_failure, SetsCapacity};
-ghost use Rattle.qpack_ends.specs.Encoders.{TellsCapacity, Begins, ReceivesBytes, Checks, is_full, written_alone};
-ghost use Rattle.qpack_ends.specs.Encoders.{Encodes, begun, may_block, AsksToEncode, HasNoRoomAlone};
+ghost use Rattle.qpack_ends.specs.Encoders.{Starts, first_capacity, code_of, capacity_failure, SetsCapacity, Shrinks};
+ghost use Rattle.qpack_ends.specs.Encoders.{TellsCapacity, Begins, ReceivesBytes, Checks, is_alone, written_alone};
+ghost use Rattle.qpack_ends.specs.Encoders.{is_held, pending_capacity};
+ghost use Rattle.qpack_ends.specs.Encoders.{Encodes, begun, may_block, AsksToEncode, HasNoRoomAlone, IsDue};
 ghost use Rattle.qpack_ends.specs.Encoders.{TakesPeer, peer_refusal, refused};
 ghost use Rattle.qpack_ends.specs.Risk.{streams_at_risk, with_limit, limit_for};
 ghost use Rattle.qpack_ends.specs.declared.choosing.Chooser.{Chooser as State};
@@ -198,7 +199,7 @@ pub struct ConnectionEncoder {
     table: EncoderTable<Index, PackedField>,
     at_risk: StreamsAtRisk,
     chooser: Chooser,
-    /// The capacity to announce before the first section, in bytes.
+    /// The capacity that waits to be announced with a section, in bytes.
     wanted: Option<usize>,
     stream: DecoderStream,
     /// The bytes of the encoder stream that are not sent.
@@ -376,6 +377,40 @@ impl ConnectionEncoder {
         self.tell(capacity)
     }
 
+    /// Sets the capacity of the table in bytes, as `set_capacity` does, or as soon as no section needs what it evicts.
+    /// Call this to lower the capacity while requests are under way.
+    ///
+    /// If the capacity would evict an entry that is not evictable, it waits. Then nothing is inserted, and sections are
+    /// written without references. Each `encode` begins by trying again. Once the sections before are acknowledged or
+    /// cancelled, and the peer is known to have received what is evicted, that call announces the capacity (RFC 9204,
+    /// section 2.1.1). A capacity that waited before is replaced.
+    ///
+    /// # Errors
+    ///
+    /// Fails, checking in this order, after an error that ended the connection, with that error; with
+    /// `CapacityTooLarge` if the capacity is above the maximum; and with `Memory` if memory runs out. On error nothing
+    /// changes.
+    pub fn shrink(&mut self, capacity: usize) -> Result<(), EncodingError>
+        ensures { Shrinks self.old self.new capacity result }
+    {
+        let set = self.set_capacity(capacity);
+        if is_held(&set) {
+            self.wanted = Some(capacity);
+            return Ok(());
+        }
+        set
+    }
+
+    /// Returns the capacity that waits since `shrink`, in bytes, if one does.
+    pub fn pending_capacity(&self) -> Option<usize>
+        ensures { result ≡ pending_capacity self.now }
+    {
+        if self.table.table.count() == 0 {
+            return None;
+        }
+        self.wanted
+    }
+
     /// Encodes a field section for a stream (RFC 9204, section 2.1). Appends the section to the vector and its
     /// insertions to the encoder stream. Returns the section's required insert count, which is 0 if it references no
     /// entry.
@@ -390,9 +425,10 @@ impl ConnectionEncoder {
     /// entry. It is neither inserted nor compared with the values of entries (section 7.1.3). Only inserted fields are
     /// copied.
     ///
-    /// The first call announces the capacity of the settings, if none was announced. Once the limit of sections that
-    /// wait for acknowledgments is reached, a section is written without references, as `encode_section_stateless`
-    /// does, and does not wait.
+    /// The first call announces the capacity of the settings, if none was announced. Each call announces the capacity that
+    /// waits since `shrink`, if it can be set now. While one waits, and once the limit of sections that wait for
+    /// acknowledgments is reached, a section is written without references, as `encode_section_stateless` does, and does
+    /// not wait.
     ///
     /// # Errors
     ///
@@ -412,11 +448,11 @@ impl ConnectionEncoder {
         ensures wishes { EncodesAsWished self.old self.new stream (map H.line fields.now) (map H.wish fields.now)
             section.old.items section.new.items result }
         // Memory is refused only if a capacity is to be announced, if there is a field, or if the two bytes of a
-        // section without fields do not fit the vector. Once the limit of waiting sections is reached, only if the
-        // section's own bytes do not fit it.
+        // section without fields do not fit the vector. While a capacity waits, and once the limit of waiting sections is
+        // reached, only if the section's own bytes do not fit it.
         ensures memory { result ≡ Err Memory → AsksToEncode self.old (map H.line fields.now) section.old }
-        ensures alone { result ≡ Err Memory → is_full (begun self.old) ≡ true
-            → IsSome self.old.wanted ⊎ HasNoRoomAlone (map H.line fields.now) section.old }
+        ensures alone { result ≡ Err Memory → is_alone (begun self.old) ≡ true
+            → IsDue self.old ⊎ HasNoRoomAlone (map H.line fields.now) section.old }
         ensures capacity { vec_capacity section.old ≤ vec_capacity section.new }
         // A vector with room for the section is not grown.
         ensures still { OnOk result
@@ -424,7 +460,7 @@ impl ConnectionEncoder {
     {
         self.check(stream)?;
         self.begin()?;
-        if self.is_full() {
+        if self.is_alone() {
             return encode_alone(fields, section);
         }
         if fields.is_empty() {
@@ -509,11 +545,13 @@ impl ConnectionEncoder {
         Ok(())
     }
 
-    /// Returns whether as many sections wait for acknowledgments as may.
-    fn is_full(&self) -> bool
-        ensures { result ≡ is_full self.now }
+    /// Returns whether a section references no entry: a capacity waits, or as many sections wait for acknowledgments as
+    /// may.
+    fn is_alone(&self) -> bool
+        ensures { result ≡ is_alone self.now }
     {
-        self.table.table.unacknowledged_blocks() >= self.settings.most_unacknowledged
+        self.wanted.is_some()
+            || self.table.table.unacknowledged_blocks() >= self.settings.most_unacknowledged
     }
 
     /// Returns whether a section of a stream may require insertions that the peer is not known to have received: the
@@ -524,15 +562,18 @@ impl ConnectionEncoder {
         self.at_risk.len() < self.settings.max_blocked || self.at_risk.contains(stream)
     }
 
-    /// Announces the capacity of the settings, if it is due before the first section. On error, which is `Memory` only,
-    /// nothing changes.
+    /// Announces the capacity that waits, if the table takes it. On error, which is `Memory` only, nothing changes.
     fn begin(&mut self) -> Result<(), EncodingError>
         ensures { Begins self.old self.new result }
     {
-        match self.wanted {
-            Some(capacity) => self.tell(capacity),
-            None => Ok(()),
+        let Some(capacity) = self.wanted else {
+            return Ok(());
+        };
+        let told = self.tell(capacity);
+        if is_held(&told) {
+            return Ok(());
         }
+        told
     }
 
     /// Sets the capacity of the table, and writes the instruction that announces it. On error nothing changes.
@@ -547,6 +588,13 @@ impl ConnectionEncoder {
             Err(error) => Err(EncodingError::of_capacity(error)),
         }
     }
+}
+
+/// Returns whether a capacity was not set because entries that it would evict are held.
+fn is_held(set: &Result<(), EncodingError>) -> bool
+    ensures { result ≡ is_held set.now }
+{
+    matches!(set, Err(EncodingError::EntriesHeld))
 }
 
 /// Appends the section without fields, which is two bytes. Returns its required insert count, which is 0. On error the

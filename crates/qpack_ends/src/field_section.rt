@@ -1,12 +1,13 @@
 //! The fields of a section, in memory that is kept from section to section.
 
-ghost use Rattle.std.specs.Prelude.{◌≡◌, ◌<◌, ◌≤◌, ◌/◌, ℕ, List, [], length, nat_eq, slice_get, vec_capacity, Err};
+ghost use Rattle.std.specs.Prelude.{◌≡◌, ◌<◌, ◌≤◌, ◌/◌, ℕ, List, [], length, nat_eq, slice_get, vec_capacity, IfSome, Err};
 ghost use Rattle.std.specs.Option.{option_map};
 ghost use Rattle.qpack_spec.specs.Bytes.{Begins};
 ghost use Rattle.qpack_spec.specs.StrictReading.{strict_lines_at};
 ghost use Rattle.qpack_wire.specs.Memory.{AsksLine};
 ghost use Rattle.qpack_base.specs.HeaderFields.{line_of};
-ghost use Rattle.qpack_ends.specs.FieldSections.{IsWithin, GrowsTo, GrowsWithin, LacksRoomWithin, text_of};
+ghost use Rattle.qpack_ends.specs.FieldSections.{IsWithin, GrowsTo, GrowsWithin, LacksRoomWithin, HoldsNothing, text_of};
+ghost use Rattle.qpack_ends.specs.FieldSections.{begins_at};
 ghost use Rattle.qpack_ends.specs.FieldSections.{field_at as field_of_span, start_of as start_of_span};
 ghost use Rattle.qpack_ends.specs.Lines.{under};
 ghost use Rattle.qpack_ends.specs.Pieces.{ReadsOneLine, line_at};
@@ -55,6 +56,13 @@ fn start_of(spans: &[Span], index: usize) -> usize
     if index == 0 { 0 } else { spans[index - 1].end }
 }
 
+/// A field, and where its name begins in the text of its section, in bytes.
+#[derive(Clone, Copy, Debug, Drop)]
+pub struct PlacedField<'a> {
+    pub start: usize,
+    pub field: FieldLine<'a>,
+}
+
 /// The fields of a section: names and values one after the other in one text, which holds nothing else. It keeps its
 /// memory from section to section. Reading under a limit of n bytes makes room for at most n bytes of text, and for n /
 /// 32 spans of 24 bytes each: both together take at most 7n / 4 bytes. Once there is that much room, it asks for no
@@ -67,12 +75,14 @@ pub struct FieldSection {
 
 impl Model for FieldSection {
     ghost use Rattle.std.specs.Prelude.{length, vec_capacity};
+    ghost use Rattle.std.specs.Vec.{vec_ptr};
     ghost use Rattle.qpack_ends.specs.FieldSections.{SectionView, AreInTurn, fields_in};
 
     ghost Value = { SectionView };
 
     ghost view = { λ s. record {
       fields = fields_in s.text.items 0 s.spans.items;
+      text_at = vec_ptr s.text;
       text_room = vec_capacity s.text;
       fields_room = vec_capacity s.spans;
     } };
@@ -83,7 +93,7 @@ impl Model for FieldSection {
 impl FieldSection {
     /// Returns a section without fields. Takes no memory.
     pub fn new(alloc: Global) -> FieldSection
-        ensures { result ≡ record { fields = []; text_room = 0; fields_room = 0 } }
+        ensures { HoldsNothing result }
     {
         FieldSection {
             text: Vec::new(alloc),
@@ -108,12 +118,24 @@ impl FieldSection {
     }
 
     /// Returns the field at an index, from 0.
-    #[tactic(auto, using(crate::proofs::SpansInTurn::within_at, crate::proofs::SpansInTurn::field_there, crate::proofs::SpansInTurn::no_field_there))]
     pub fn get(&self, index: usize) -> Option<FieldLine<'_>>
         ensures { option_map line_of result ≡ slice_get self.now.fields index }
     {
+        Some(self.placed(index)?.field)
+    }
+
+    /// Returns the field at an index, from 0, and where it begins in the text.
+    #[tactic(auto, using(crate::proofs::SpansInTurn::within_at, crate::proofs::SpansInTurn::field_there, crate::proofs::SpansInTurn::no_field_there, crate::proofs::SpansInTurn::starts_behind))]
+    pub fn placed(&self, index: usize) -> Option<PlacedField<'_>>
+        ensures field { option_map (λ p. line_of p.field) result ≡ slice_get self.now.fields index }
+        ensures start { IfSome result (λ p. p.start ≡ begins_at self.now.fields index) }
+    {
         let span = self.spans.get(index)?;
-        Some(field_at(&self.text, start_of(&self.spans, index), span))
+        let start = start_of(&self.spans, index);
+        Some(PlacedField {
+            start,
+            field: field_at(&self.text, start, span),
+        })
     }
 
     /// Returns the fields, in the order of their lines.
@@ -135,6 +157,13 @@ impl FieldSection {
         &self.text
     }
 
+    /// Returns where the text lies in memory, until the section is changed.
+    pub fn text_ptr(&self) -> *const u8
+        ensures { result ≡ self.now.text_at }
+    {
+        self.text.as_ptr()
+    }
+
     /// Makes room for this many fields, and for this many bytes of their names and values, as far as memory permits.
     /// This affects only how often later calls ask for memory. With room for `limit / 32` fields and `limit` bytes,
     /// reading under that limit asks for none.
@@ -150,7 +179,9 @@ impl FieldSection {
 
     /// Drops every field; the memory is kept.
     pub fn clear(&mut self)
-        ensures { self.new ≡ record self.old { fields = [] } }
+        ensures none { self.new.fields ≡ [] }
+        ensures text_kept { self.new.text_room ≡ self.old.text_room }
+        ensures fields_kept { self.new.fields_room ≡ self.old.fields_room }
     {
         self.text.clear();
         self.spans.clear();

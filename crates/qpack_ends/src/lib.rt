@@ -19,7 +19,7 @@ pub use decoder::{ConnectionDecoder, DecoderSettings, DecodingError, SettingsErr
 pub use decoder_stream::{DECODER_STREAM_ERROR, DecoderStream, DecoderStreamError, HearingError};
 pub use encoder::{ConnectionEncoder, EncoderSettings, EncodingError};
 pub use encoder_stream::{ENCODER_STREAM_ERROR, EncoderStream, EncoderStreamError, Place};
-pub use field_section::{FieldSection, Fields};
+pub use field_section::{FieldSection, Fields, PlacedField};
 pub use qpack_base::coding::Cursor;
 pub use qpack_base::field::FieldLine;
 pub use qpack_codec::encoder::{AsField, Wish, WishedField};

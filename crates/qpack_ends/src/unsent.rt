@@ -1,7 +1,7 @@
 //! The bytes of a stream that are to be sent: instructions are written at their end, and a front is taken in pieces of any
 //! size.
 
-ghost use Rattle.std.specs.Prelude.{◌≡◌, ◌<◌, ◌≤◌, [], drop, length, map, Err, IfOk, OnOk, OnErr, vec_len, vec_capacity};
+ghost use Rattle.std.specs.Prelude.{◌≡◌, ◌<◌, ◌≤◌, ◌^◌, [], drop, length, map, Err, IfOk, OnOk, OnErr, vec_len, vec_capacity};
 ghost use Rattle.qpack_spec.specs.Field.{fields_of_lines};
 ghost use Rattle.qpack_spec.specs.Instruction.{Acknowledgment, Cancellation, written_decoder_instruction};
 ghost use Rattle.qpack_spec.specs.Text.{WhereShorter};
@@ -69,6 +69,14 @@ impl Unsent {
         ensures { result.now ≡ self.now.bytes }
     {
         &self.bytes[self.sent..]
+    }
+
+    /// Returns how many bytes are to be sent.
+    pub(crate) fn len(&self) -> usize
+        ensures is { result ≡ length self.now.bytes }
+        ensures few { result < 2 ^ 63 }
+    {
+        self.bytes.len() - self.sent
     }
 
     /// Drops this many bytes from the front, which were sent, or all.
@@ -165,5 +173,22 @@ impl Unsent {
             chooser,
             Coding::WhereShorter,
         )
+    }
+}
+
+/// Returns how many bytes the increments take that report this many insertions: one for each piece below 63, and two for
+/// those of 63 and 64 (RFC 9204, section 4.4.3).
+pub(crate) fn report_len(insertions: usize) -> usize
+    ensures is { result ≡ length (written_report insertions) }
+    ensures few { result < 2 ^ 63 }
+{
+    let full = 2 * (insertions / 64);
+    let rest = insertions % 64;
+    if rest == 0 {
+        full
+    } else if rest < 63 {
+        full + 1
+    } else {
+        full + 2
     }
 }

@@ -112,6 +112,7 @@ pub(crate) fn event_of(word: &str, call: &mut Call<'_>) -> Event {
         "to-encoder" => Event::ToEncoder(number),
         "cancels" => Event::Cancel(number as u64),
         "sets" => Event::SetCapacity(number),
+        "shrinks" => Event::Shrink(number),
         _ => {
             call.fail("a connection has no such call");
             Event::ToDecoder(0)

@@ -175,6 +175,7 @@ fn may_answer(word: &str, answer: &str) -> bool {
         "to-encoder" => answer == "heard",
         "acks" => answer.starts_with("acked") || answer.starts_with("skipped "),
         "sets" => answer.starts_with("capacity") || may_refuse_capacity(answer),
+        "shrinks" => answer.starts_with("capacity") || answer == "refused CapacityTooLarge",
         _ => true,
     }
 }

@@ -184,8 +184,8 @@ function request(turn) {
 for (const button of document.querySelectorAll('[data-requests]'))
   button.onclick = () => Array.from({length: Number(button.dataset.requests)}, (_, turn) => request(turn));
 document.getElementById('cookie').onclick = () => {
-  document.cookie = 'page=' +
-    'abcdefgh'.repeat(1 + Math.floor(Math.random() * 20)) + '; path=/';
+  const value = 'abcdefgh'.repeat(1 + Math.floor(Math.random() * 20));
+  document.cookie = `page=${value}; path=/`;
 };
 document.getElementById('pause').onclick = ({target}) => {
   isPaused = !isPaused;

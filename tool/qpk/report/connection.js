@@ -234,8 +234,8 @@ class Connection {
           entry: entries[shape]
         };
       }
-      const distance = code / 2, entry = base - distance;
-      const form = distance < 0 ? `post-base ${- 1 - distance}` : `dynamic ${distance}`;
+      const distance = code / 2, entry = base - distance, postBase = -1 - distance;
+      const form = distance < 0 ? `post-base ${postBase}` : `dynamic ${distance}`;
       const field = this.fields[encoder.fields[entry - 1]];
       return {hex: groups[i], how: 'dynamic', form: `${form} (entry ${entry})`, field, entry};
     });

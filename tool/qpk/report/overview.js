@@ -20,8 +20,8 @@ function chart(connection) {
   const paths = {section: '', instructions: ''};
   bins.forEach(([sections, instructions], i) => {
     const section = HEIGHT * sections / most, other = HEIGHT * instructions / most;
-    paths.section += `M${i + 0.1} ${HEIGHT}v${- section}h.8v${section}z`;
-    paths.instructions += `M${i + 0.1} ${HEIGHT - section}v${- other}h.8v${other}z`;
+    paths.section += `M${i + 0.1} ${HEIGHT}v-${section}h.8v${section}z`;
+    paths.instructions += `M${i + 0.1} ${HEIGHT - section}v-${other}h.8v${other}z`;
   });
   for (const [name, d] of Object.entries(paths)) made.append(drawn('path', {class: name, d}));
   for (const {event} of connection.faults.filter(it => it.event !== null)) {

@@ -40,12 +40,14 @@ function summary(ranked) {
   const worse = ranked.filter(it => it.connection.faults.length).length, {certain, explained} = connection.verdict;
   const worst = connection.faults.find(it => !it.perhaps) ?? connection.faults[0], rest = certain + explained - 1;
   const more = rest ? `, and ${counted(rest, 'more finding')}` : '';
-  const text = worst ? `${worst.perhaps ? 'Perhaps on' : 'On'} ${connection.name}: ${worst.fault}${more}. Findings on ${
-                         worse} of ${all} connections.` :
-    state === 'right' ? `Nothing is wrong on ${all} connections.` :
-                        `Nothing is found on ${all} connections, of which not all of ${
-                          ranked.filter(it => it.state === state).length} could be read.`;
-  return element('p', 'summary ' + state, sign(state), text);
+  const made = text => element('p', 'summary ' + state, sign(state), text);
+  if (worst) {
+    const where = `${worst.perhaps ? 'Perhaps on' : 'On'} ${connection.name}`;
+    return made(`${where}: ${worst.fault}${more}. Findings on ${worse} of ${all} connections.`);
+  }
+  if (state === 'right') return made(`Nothing is wrong on ${all} connections.`);
+  const unread = ranked.filter(it => it.state === state).length;
+  return made(`Nothing is found on ${all} connections, of which not all of ${unread} could be read.`);
 }
 
 // A button for each connection, worst first.
@@ -74,8 +76,8 @@ function findings({connection, details}) {
   if (verdict.seen) made.append(element('p', verdict.lacks ? 'seen lacks' : 'seen', verdict.seen));
   made.append(...leftOut.map(text => element('p', 'left-out', text)));
   const item = fault => {
-    const place = `line ${fault.line}${fault.packet ? `, packet ${fault.packet}` : ''}${fault.time ? ', ' + fault.time : ''}${
-      fault.from ? ', ' + fault.from : ''}`;
+    const parts = [`line ${fault.line}`, fault.packet && `packet ${fault.packet}`, fault.time, fault.from];
+    const place = parts.filter(it => it).join(', ');
     return element(
       'li', fault.perhaps ? 'perhaps' : 'wrong', fault.event === null ? place : details.link(fault.event, place), ': ',
       textOfFault(fault));

@@ -28,7 +28,8 @@ function nameOf(connection, event) {
   const name = connection.events[event][3];
   if (name === NONE) return '';
   if (name >= 0) return ` with the name of static ${name}`;
-  return ` with the name of dynamic ${- 2 - name} (entry ${connection.referencedBy(event)})`;
+  const relative = -2 - name;
+  return ` with the name of dynamic ${relative} (entry ${connection.referencedBy(event)})`;
 }
 
 function sectionOf([, , , required, base, , arrival]) {

@@ -26,7 +26,7 @@ function isCapture(bytes) {
 // The packets of a capture, and what was seen of the file. Secrets in it go to a function as they come.
 class Capture {
   constructor(bytes, learn) {
-    Object.assign(this, {bytes, learn, at: 0, count: 0, short: 0, longestShort: 0, damage: ''});
+    Object.assign(this, {bytes, learn, at: 0, count: 0, cut: 0, longestCut: 0, damage: ''});
     this.view = new DataView(bytes.buffer, bytes.byteOffset, bytes.length);
   }
 
@@ -39,8 +39,8 @@ class Capture {
   packet(time, link, data, size) {
     this.count++;
     if (data.length < size) {
-      this.short ++;
-      this.longestShort = Math.max(this.longestShort, data.length);
+      this.cut++;
+      this.longestCut = Math.max(this.longestCut, data.length);
     }
     return {number: this.count, time, link, data};
   }

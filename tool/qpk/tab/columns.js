@@ -1,4 +1,5 @@
-// The events of a connection as the page has them: a row each, and each text once. tool/qpk/report/columns.py says what a row has.
+// The events of a connection as the page has them: a row each, and each text once. tool/qpk/report/columns.py says what a
+// row has.
 'use strict';
 
 // The page has the first events that are not more than these, and says so.
@@ -24,11 +25,12 @@ class Texts {
   // Returns the code of a line that is not of the dynamic table.
   code(it) {
     const words = shownForm(it.form);
-    return 2 * takeOrMake(it.field.codes, words, () => {
-             this.firsts.push({...it, words});
-             this.field(it.field);
-             return this.firsts.length - 1;
-           }) + 1;
+    const number = takeOrMake(it.field.codes, words, () => {
+      this.firsts.push({...it, words});
+      this.field(it.field);
+      return this.firsts.length - 1;
+    });
+    return 2 * number + 1;
   }
 
   data() {

@@ -63,20 +63,22 @@ class Datagrams {
   ofPacket(link, data) {
     const at = beginOfIp(link, data), version = data[at] >> 4;
     if (at < 0 || data.length < at + 20) return null;
-    const rest = data.subarray(at),
-          found = version === 4 ? this.ofVersion4(rest) :
-      version === 6             ? this.ofVersion6(rest) :
-                                  null;
+    const found = this.ofVersion(version, data.subarray(at));
     this.count += found !== null;
     return found;
+  }
+
+  ofVersion(version, data) {
+    if (version === 4) return this.ofVersion4(data);
+    return version === 6 ? this.ofVersion6(data) : null;
   }
 
   // A packet of IPv4 (RFC 791).
   ofVersion4(data) {
     const head = (data[0] & 15) * 4, size = numberAt(data, 2, 2), part = numberAt(data, 6, 2);
     if (data[9] !== UDP || head < 20) return null;
-    const payload =
-      data.subarray(head, size >= head ? size : data.length); // of a packet that a segmenting device sends it is 0
+    const end = size >= head ? size : data.length; // of a packet that a segmenting device sends the size is 0
+    const payload = data.subarray(head, end);
     const [source, target] = [data.subarray(12, 16), data.subarray(16, 20)];
     if (!(part & 0x3fff)) return datagramOf(source, target, payload);
     return this.fragment([source, target, data.subarray(4, 6)], (part & 0x1fff) * 8, payload, !(part & 0x2000));

@@ -2,8 +2,8 @@
 // reads the bytes. tool/qpk/findings.py has the same rules.
 'use strict';
 
-const CUT_SECTION = '4.2',
-      WAITS = 'to the end'; // the section of what the end of a recording cuts, and how a fault of what waits ends
+const CUT_SECTION = '4.2'; // of what the end of a recording cuts
+const WAITS = 'to the end'; // how a fault of what waits ends
 const CUT_AT_THE_END = 'cut at the end';
 // Sections of RFC 9204 of findings that are none ..
 const OF_SECTIONS = ['2.1.2', '2.2.3', '4.5.1.1', '4.5.1.2']; // if an insertion is not in the file, about a section

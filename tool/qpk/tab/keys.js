@@ -7,11 +7,11 @@ const BLOCK = 16; // bytes of a block of AES
 const AES_128 = {
   digest: 'SHA-256',
   size: 16
-},
-      AES_256 = {
-        digest: 'SHA-384',
-        size: 32
-      };
+};
+const AES_256 = {
+  digest: 'SHA-384',
+  size: 32
+};
 const CHACHA20 = {
   digest: 'SHA-256',
   size: 32,
@@ -22,19 +22,21 @@ const AES_128_CCM = {
   size: 16,
   isCcm: true
 };
+// By the length of a secret.
 const SUITES = {
   32: [AES_128, CHACHA20, AES_128_CCM],
   48: [AES_256]
-}; // by the length of a secret
+};
 const SHORTEST = 4 + SAMPLE; // bytes of a packet from its number on
 const MOST_SECRETS = 1 << 16; // connections of a key log that are kept; the others are left out
 const LONGEST_SECRET = 64; // bytes
+// How many upper parts of a packet number are tried where none is known, by the bytes written.
 const UPPER_PARTS = {
   1: 256,
   2: 16,
   3: 2,
   4: 1
-}; // of a packet number that are tried where none is known, by the bytes written
+};
 const AHEAD = 1; // generations of keys, after the newest that opened a packet, that are tried
 const INITIAL = 'initial', EARLY = 'early', HANDSHAKE = 'handshake', RETRY = 'retry';
 const VERSIONS = new Map([
@@ -98,14 +100,16 @@ class KeyLog {
   secretOf(random, which) { return this.secrets.get(random)?.[NAMES_OF_SECRETS[which]] ?? null; }
 }
 
+function importedKey(suite, key) {
+  if (suite.isChacha) return key;
+  return suite.isCcm ? keysOfCcm(key) : crypto.subtle.importKey('raw', key, 'AES-GCM', false, ['decrypt']);
+}
+
 // Opens payloads by a key (RFC 9001, section 5.3).
 class Payloads {
   static async of(suite, key, iv) {
     const made = new Payloads();
-    const imported = suite.isChacha ? key :
-      suite.isCcm                   ? await keysOfCcm(key) :
-                                      await crypto.subtle.importKey('raw', key, 'AES-GCM', false, ['decrypt']);
-    return Object.assign(made, {suite, key: imported, iv});
+    return Object.assign(made, {suite, key: await importedKey(suite, key), iv});
   }
 
   // Returns the payload of the packet with a number, or nothing if the key does not open it.

@@ -5,12 +5,12 @@ const ENDS = {
   '>': 'client',
   '<': 'server',
   '': ''
-},
-      PEER = {
-        '>': '<',
-        '<': '>',
-        '': ''
-      };
+};
+const PEER = {
+  '>': '<',
+  '<': '>',
+  '': ''
+};
 const OTHER = {
   client: 'server',
   server: 'client',

@@ -37,7 +37,8 @@ function isObject(it) { return typeof it === 'object' && it !== null && !Array.i
 function readRecords(text) {
   try {
     return [JSON.parse(text)];
-  } catch { /* then there is one a record */
+  } catch {
+    // Then there is one a record.
   }
   const separator = text.trimStart().startsWith(SEPARATOR) ? SEPARATOR : '\n', records = [];
   const texts = text.split(separator).filter(it => it.trim());
@@ -171,10 +172,8 @@ class TraceReader {
   readInstruction(event, mark) {
     const it = event.data.instruction ?? {}, raw = wholeBytes(event.data.raw, it.raw);
     const kind = String(it.instruction_type ?? '').toLowerCase();
-    const isOf = names => names.some(name => kind.startsWith(name)),
-          name = isOf(OF_ENCODER) ? 'e' :
-      isOf(OF_DECODER)            ? 'd' :
-                                    null;
+    const isOf = names => names.some(name => kind.startsWith(name));
+    const name = isOf(OF_ENCODER) ? 'e' : isOf(OF_DECODER) ? 'd' : null;
     if (!name) return;
     if (!raw) this.cut.add(mark + name);
     this.add(event, mark, 'instruction', name, this.cut.has(mark + name) ? null : raw);
@@ -195,10 +194,9 @@ class TraceReader {
 
   // Reads bytes of a stream, which may have been moved more than once, and then have their offset.
   readStream(event) {
-    const {from, to, raw, data, stream_id: stream, offset: given} = event.data,
-                                                           isUser = it => it === 'application' || it === 'user';
-    const mark = from === 'network' || isUser(to) ? this.peer : this.own, bytes = wholeBytes(raw, data),
-          number = wholeNumberOf(stream ?? 0);
+    const {from, to, raw, data, stream_id: stream, offset: given} = event.data;
+    const isUser = it => it === 'application' || it === 'user', mark = from === 'network' || isUser(to) ? this.peer : this.own;
+    const bytes = wholeBytes(raw, data), number = wholeNumberOf(stream ?? 0);
     const offset = given ?? (isUser(from) || isUser(to) ? this.streams.streams.get(mark + number)?.taken ?? 0 : null);
     if (!bytes || stream === undefined || stream === null || offset === null) {
       this.withoutBytes++;

@@ -1,17 +1,18 @@
-// Reads recordings by JavaScript, where a browser can't run the proved program: by the reader of examples/http3-server, qpack.js. It
-// finds what an end must refuse, and what waits to the end. Nothing proves it.
+// Reads recordings by JavaScript, where a browser can't run the proved program: by the reader of examples/http3-server,
+// qpack.js. It finds what an end must refuse, and what waits to the end. Nothing proves it.
 'use strict';
 
 const MOST_INTEGER = 2 ** 62; // RFC 9204, section 4.1.1
 const MOST_STRING = 1 << 16; // bytes of a name or a value that is read, and of an instruction
 const CAPACITY = 4096, BLOCKED = 100; // where no line s has them
+// How many words follow the kind of a line, at least.
 const WORDS = {
   e: 1,
   d: 1,
   b: 2,
   c: 1,
   s: 2
-}; // how many words follow the kind of a line, at least
+};
 const CODES_OF_ERRORS = {
   section: [0x200, 'QPACK_DECOMPRESSION_FAILED'],
   encoder: [0x201, 'QPACK_ENCODER_STREAM_ERROR'],
@@ -32,8 +33,8 @@ function asSaid(text) {
 class ScriptDirection {
   constructor() {
     Object.assign(this, {capacity: 0, size: 0, evicted: 0, entries: [], maximum: CAPACITY, isEnded: {}});
-    Object.assign(
-      this, {blocked: new Map(), waiting: new Map()}); // sections, by the insertion that they wait for, and by streams
+    // Sections, by the insertion that they wait for, and by streams.
+    Object.assign(this, {blocked: new Map(), waiting: new Map()});
     Object.assign(
       this, {rest: {encoder: EMPTY, decoder: EMPTY}, begin: {encoder: 0, decoder: 0}, unacknowledged: new Map(), known: 0});
   }
@@ -263,7 +264,8 @@ class ScriptRun {
         this.said.push({...head, section: stream, blocked_until: required});
         return;
       }
-    } catch { /* decode says why */
+    } catch {
+      // decode says why.
     }
     this.decode(head, direction, stream, data, false);
   }

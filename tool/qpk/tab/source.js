@@ -60,7 +60,7 @@ async function readCapture(bytes, log) {
     const datagram = datagrams.ofPacket(packet.link, packet.data);
     if (datagram) await reader.read(packet.time, {...datagram, packet: packet.number});
   }
-  const said = [capture.damage, capture.short ? cutPackets(capture) : ''].filter(it => it);
+  const said = [capture.damage, capture.cut ? cutPackets(capture) : ''].filter(it => it);
   return finished(reader, log, said, () => whyNoPackets(capture, datagrams) || whyNothing(reader, log));
 }
 
@@ -94,14 +94,14 @@ async function finished(reader, log, said, why) {
 
 // ---- Why there is nothing
 
-function cutPackets({count, short, longestShort}) {
-  return `${short} of ${count} packets are cut to ${longestShort} bytes: ${CAPTURE_AGAIN}`;
+function cutPackets({count, cut, longestCut}) {
+  return `${cut} of ${count} packets are cut to ${longestCut} bytes: ${CAPTURE_AGAIN}`;
 }
 
 function whyNoPackets(capture, datagrams) {
-  const {count, short} = capture;
+  const {count, cut} = capture;
   if (!count) return `the capture has no packets: ${CAPTURE_AGAIN}`;
-  if (short * 2 > count) return cutPackets(capture);
+  if (cut * 2 > count) return cutPackets(capture);
   return datagrams.count ? '' : `none of the ${count} packets is a datagram of UDP: ${CAPTURE_AGAIN}`;
 }
 
@@ -120,9 +120,8 @@ function whyNothing(reader, log) {
   if (!log.secrets.size) return `there are no secrets for the client random ${first}: choose the key log too`;
   const known = randoms.find(it => log.secrets.has(it));
   if (known) return `the secrets for the client random ${known} open none of its packets: capture both directions, to the end`;
-  return `the key log has secrets of ${log.secrets.size} other connections, and none for the client random ${
-           first}: choose the log ` +
-    'that was written during this capture';
+  const lacks = `the key log has secrets of ${log.secrets.size} other connections, and none for the client random ${first}`;
+  return `${lacks}: choose the log that was written during this capture`;
 }
 
 function whyNoBytes(netLog) {

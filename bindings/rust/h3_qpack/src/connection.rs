@@ -38,6 +38,7 @@ mod reader;
 
 pub use crate::copied::Fields;
 pub use crate::field::{FieldLine, Wish, WishedField};
+pub use crate::view::{FieldView, Views};
 pub use decoder::{longest_section, ConnectionDecoder, DecoderSettings, Reading, SectionPrefix};
 pub use encoder::{ConnectionEncoder, EncoderSettings};
 pub use entries::Entries;

@@ -54,6 +54,7 @@ mod room;
 mod stateless;
 #[allow(unsafe_code)]
 mod sys;
+mod view;
 
 pub use field::{HeaderField, ESTIMATED_OVERHEAD_BYTES};
 pub use stateless::{decode_stateless, encode_stateless, Decoded, DecoderError, EncoderError, Error};

@@ -55,8 +55,8 @@ impl fmt::Display for DecoderError {
     fn fmt(&self, f: &mut fmt::Formatter<'_>) -> fmt::Result {
         match self {
             DecoderError::Decompression(None) => f.write_str("the prefix of the section is invalid"),
-            DecoderError::Decompression(Some(place)) => write!(f, "the section is invalid at line {place}"),
-            DecoderError::HeaderTooLong(size) => write!(f, "the fields are too large: {size} bytes or more"),
+            DecoderError::Decompression(Some(place)) => write!(f, "a section is invalid, at line {place}"),
+            DecoderError::HeaderTooLong(size) => write!(f, "the section is too large: {size} bytes or more"),
             DecoderError::Memory => f.write_str("out of memory"),
         }
     }

@@ -7,12 +7,14 @@
 //! - Memory that a call writes is passed by `&mut`, so it overlaps nothing else.
 //! - One thread at a time uses an end, for the ends are `Send` and not `Sync`.
 
-use crate::field::Wish;
+use crate::field::{FieldLine, Wish};
+use crate::view::FieldView;
 use alloc::vec::Vec;
 use core::cell::UnsafeCell;
 use core::ffi::c_void;
 use core::marker::PhantomData;
 use core::ptr;
+use core::slice;
 
 /// The call did what it was asked to.
 pub(crate) const OK: i32 = 0;
@@ -165,6 +167,41 @@ impl Given {
     }
 }
 
+/// Where a field lies in the text of its section: `h3q_view`.
+#[repr(C)]
+struct Seen {
+    text: *const u8,
+    start: usize,
+    name_len: usize,
+    value_len: usize,
+    flags: u32,
+    static_name: i16,
+    static_field: i16,
+}
+
+impl Seen {
+    /// What a call is passed to write to.
+    fn nowhere() -> Seen {
+        Seen { text: ptr::null(), start: 0, name_len: 0, value_len: 0, flags: 0, static_name: -1, static_field: -1 }
+    }
+
+    /// Returns the field.
+    ///
+    /// # Safety
+    /// A call wrote it, and for `'a` no call changes the text.
+    unsafe fn view<'a>(&self) -> FieldView<'a> {
+        // SAFETY: the name begins at `start` of the text, and the value behind it. The text is not null, whatever its
+        // length, and the caller says that it stays.
+        let (name, value) = unsafe {
+            let name = self.text.add(self.start);
+            let value = name.add(self.name_len);
+            (slice::from_raw_parts(name, self.name_len), slice::from_raw_parts(value, self.value_len))
+        };
+        let never_indexed = self.flags & u32::from(NEVER_INDEX) != 0;
+        FieldView::new(FieldLine { name, value, never_indexed }, self.static_name, self.static_field)
+    }
+}
+
 /// `h3_qpack_encoder`, `h3_qpack_decoder` and `h3_qpack_section_reader`, which are alike.
 #[repr(C)]
 #[derive(Clone, Copy)]
@@ -240,6 +277,7 @@ declare! {
         out: *mut u8,
         out_len: usize,
     ) -> Written;
+    fn h3q_decoder_view(decoder: *mut Handle, index: usize, view: *mut Seen) -> i32;
     fn h3q_decoder_read(decoder: *mut Handle, bytes: *const u8, bytes_len: usize) -> Received;
     fn h3q_decoder_insert_count(decoder: *mut Handle) -> usize;
     fn h3q_decoder_blocked(decoder: *mut Handle) -> usize;
@@ -260,7 +298,7 @@ declare! {
     ) -> Piece;
     fn h3q_reader_new(stream_id: u64, at: *mut *mut c_void) -> i32;
     fn h3q_reader_free(reader: Handle);
-    fn h3q_reader_field(reader: *mut Handle, out: *mut u8, out_len: usize) -> Given;
+    fn h3q_reader_view(reader: *mut Handle, view: *mut Seen) -> i32;
     fn h3q_reader_waiting(reader: *mut Handle) -> usize;
     fn h3q_encode_stateless(
         fields: *const Lent<'_>,
@@ -568,6 +606,17 @@ impl Decoder {
         }
     }
 
+    /// Returns the field at an index of the section that was decoded last, where it lies.
+    pub(crate) fn view(&self, index: usize) -> Option<FieldView<'_>> {
+        let mut seen = Seen::nowhere();
+        // SAFETY: as for `insert_count`; `seen` is there for the call, which may write to it. At status OK it did. The text
+        // is the end's, and only calls that borrow the end by `&mut` change it.
+        unsafe {
+            let status = h3q_decoder_view(self.handle.get(), index, &mut seen);
+            (status == OK).then(|| seen.view())
+        }
+    }
+
     /// Takes bytes of the encoder stream.
     pub(crate) fn read(&mut self, bytes: &[u8]) -> Received {
         // SAFETY: the end is one that `new` made, and the bytes are lent for the length of the call.
@@ -686,22 +735,21 @@ impl Reader {
         }
     }
 
-    /// Writes the field that was read last to the spare room of a vector, if it fits.
-    pub(crate) fn field(&mut self, bytes: &mut Vec<u8>) -> Given {
-        let (room, room_len) = room_of(bytes);
-        // SAFETY: the reader is one that `new` made; the room is lent for the length of the call. At status OK the call
-        // wrote both lengths to the room.
+    /// Returns the field that was read last, where it lies, if the last call of `read` gave one.
+    pub(crate) fn view(&self) -> Option<FieldView<'_>> {
+        let mut seen = Seen::nowhere();
+        // SAFETY: the reader is one that `new` made; it is no `Sync`, so no other call has it, and this one keeps it as it
+        // is; `seen` is there for the call, which may write to it. At status OK it did. The text is the reader's, and only
+        // calls that borrow the reader by `&mut` change it.
         unsafe {
-            let given = h3q_reader_field(self.handle.get_mut(), room, room_len);
-            take_given(bytes, &given);
-            given
+            let status = h3q_reader_view(self.handle.get(), &mut seen);
+            (status == OK).then(|| seen.view())
         }
     }
 
     /// Returns how many bytes it keeps.
     pub(crate) fn waiting(&self) -> usize {
-        // SAFETY: the reader is one that `new` made; it is no `Sync`, so no other call has it, and this one keeps it as it
-        // is.
+        // SAFETY: as for `view`.
         unsafe { h3q_reader_waiting(self.handle.get()) }
     }
 }
@@ -715,7 +763,7 @@ impl Drop for Reader {
 
 #[cfg(test)]
 mod tests {
-    use super::{Decoded, DecodedAlone, Encoded, Given, Handle, Lent, Piece, Prefixed, Received, Written, OK};
+    use super::{Decoded, DecodedAlone, Encoded, Given, Handle, Lent, Piece, Prefixed, Received, Seen, Written, OK};
     use crate::field::Wish;
     use alloc::format;
     use alloc::vec;
@@ -792,6 +840,11 @@ mod tests {
         assert_laid_out!(
             "h3_qpack_field", Given { status: OK, flags: 0, name_len: 0, value_len: 0 },
             status is "status", flags is "flags", name_len is "namelen", value_len is "valuelen"
+        );
+        assert_laid_out!(
+            "h3q_view", Seen::nowhere(),
+            text is "text", start is "start", name_len is "namelen", value_len is "valuelen", flags is "flags",
+            static_name is "static_name", static_field is "static_field"
         );
     }
 }

@@ -108,7 +108,7 @@ fn connect(number: isize) -> usize {
     again(&mut refused, || decoder.fields().map(|lent| assert!(lent.eq(fields))), |_| true);
     again(&mut refused, || encoder.entries().try_for_each(|entry| entry.map(drop)), |_| true);
     let mut answers = Vec::new();
-    assert_eq!(again(&mut refused, || decoder.take_decoder_stream(&mut answers), |_| true), 2);
+    assert_eq!(again(&mut refused, || decoder.take_decoder_stream(&mut answers), |_| true), 1);
     GRANTED.with(|granted| granted.set(-1));
     assert_eq!((encoder.receive(&answers), encoder.blocked()), (Ok(()), 0));
     assert!(section.len() > 900 && section.len() < 950);

@@ -324,7 +324,7 @@ fn full_server() -> (Ends, Ends, Vec<u8>) {
     client.set_peer_settings(4096, 100).unwrap();
     let section = encode(&client, 0);
     receive(&server, &instructions(&client)).unwrap();
-    for stream_id in 0..7 {
+    for stream_id in 0..8 {
         assert!(ready(poll_decode(&server, &Task::new(), stream_id, &section)).is_ok());
     }
     (client, server, section)

@@ -63,7 +63,7 @@ fn an_encoder_is_over_behind_its_decoder_stream() {
     let instruction = Some(Place::new(2, 1));
     let error = encoder.receive(b"\x44\x84").unwrap_err();
     assert_eq!(error, EncodingError::DecoderStream { instruction });
-    assert_eq!((error.code(), error.to_string()), (Some(0x202), told("decoder", "2, at byte 1")));
+    assert_eq!((error.code(), error.to_string()), (Some(0x202), told("decoder", "2, byte 1")));
     let over = EncodingError::DecoderStream { instruction: None };
     assert_eq!(encoder.encode(0, [("a", "b")], &mut section), Err(over));
     assert_eq!((encoder.set_capacity(0), section), (Err(over), vec![7]));
@@ -94,7 +94,7 @@ fn a_peer_changes_a_maximum_that_was_remembered() {
 }
 
 fn told(stream: &str, place: &str) -> String {
-    format!("the {stream} stream is invalid at instruction {place}")
+    format!("the peer's {stream} stream is invalid, at instruction {place}")
 }
 
 #[test]
@@ -103,7 +103,7 @@ fn a_decoder_is_over_behind_its_encoder_stream() {
     let instruction = Some(Place::new(2, 3));
     let error = decoder.receive(b"\x3f\xe1\x1f\x02").unwrap_err();
     assert_eq!(error, DecodingError::EncoderStream { instruction });
-    assert_eq!((error.code(), error.to_string()), (Some(0x201), told("encoder", "2, at byte 3")));
+    assert_eq!((error.code(), error.to_string()), (Some(0x201), told("encoder", "2, byte 3")));
     let over = DecodingError::EncoderStream { instruction: None };
     assert_eq!((decoder.decode(0, b"\x00\x00\xd1"), decoder.cancel_stream(0)), (Err(over), Err(over)));
     assert_eq!(decoder.receive(b"\x20"), Err(error));

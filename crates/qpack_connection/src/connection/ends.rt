@@ -4,8 +4,8 @@ ghost use Rattle.std.specs.Prelude.{◌≡◌, IfOk, IfErr};
 ghost use Rattle.qpack_connection.specs.OwnedLines.{lines_of};
 ghost use Rattle.qpack_connection.specs.ConnectionEvents.{BeginsWith, Goes, IsReached};
 ghost use Rattle.qpack_ends.specs.Decoders.{end_of, FailsSettings};
-ghost use Rattle.qpack_connection.specs.declared.connection.Event.TheVariants.{Encode, SetCapacity, ToDecoder};
-ghost use Rattle.qpack_connection.specs.declared.connection.Event.TheVariants.{ToEncoder, Decode, Cancel};
+ghost use Rattle.qpack_connection.specs.declared.connection.Event.TheVariants.{Encode, SetCapacity, Shrink};
+ghost use Rattle.qpack_connection.specs.declared.connection.Event.TheVariants.{ToDecoder, ToEncoder, Decode, Cancel};
 
 use crate::connection::fields::OwnedFieldLine;
 use crate::connection::offered::next_of;
@@ -64,6 +64,7 @@ impl Ends {
         match event {
             Event::Encode(stream, fields) => self.encode(stream, fields),
             Event::SetCapacity(capacity) => self.set_capacity(capacity),
+            Event::Shrink(capacity) => self.shrink(capacity),
             Event::ToDecoder(many) => self.deliver_to_decoder(many),
             Event::ToEncoder(many) => self.deliver_to_encoder(many),
             Event::Decode(stream) => self.decode(stream),
@@ -90,6 +91,13 @@ impl Ends {
         ensures { Goes self.old self.new (SetCapacity capacity) result }
     {
         Outcome::CapacitySet(self.encoder.set_capacity(capacity))
+    }
+
+    /// Sets the capacity of the encoding end, now or as soon as no section needs what it evicts.
+    fn shrink(&mut self, capacity: usize) -> Outcome
+        ensures { Goes self.old self.new (Shrink capacity) result }
+    {
+        Outcome::CapacitySet(self.encoder.shrink(capacity))
     }
 
     /// Delivers this many more bytes of the encoder stream to the decoding end, after those that it received.

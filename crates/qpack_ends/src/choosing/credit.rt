@@ -1,8 +1,10 @@
 //! Credit and allowance.
 //!
 //! Two fields may be inserted for their names before one of them is referenced. The first reference to one allows one more.
-//! At the limit insertions are paid by their bytes of names and values from an allowance: 1,024 at first, and 16,384 at
-//! most. There each reference to an equal field gives its bytes.
+//! At the limit an insertion is paid by its bytes: its value, and its name unless a static field has it. There each reference
+//! to an equal field gives its bytes: first for what is owed, then up to 16,384 are kept. An insertion that these don't pay is
+//! owed. At most four fifths of what all literals at the limit had, shared among the sections at the limit, or twelve if there
+//! are more, may be owed. So a short connection, and one whose acknowledgments are late, loses little.
 
 /// The most fields that may be inserted for their names before one of them is referenced.
 const MOST_FOR_NAMES: u8 = 2;
@@ -40,36 +42,71 @@ impl NameCredit {
     }
 }
 
-/// How many bytes a new connection may insert without a reference.
-const FIRST_BYTES: usize = 1024;
+/// The most bytes that may be earned and not spent.
+const MOST_EARNED: usize = 16384;
 
-/// The most bytes that may be left to insert.
-const MOST_BYTES: usize = 16384;
+/// Among how many sections the bytes of all literals are shared, once there are that many.
+const SHARES: usize = 12;
 
-/// How many more bytes of names and values may be inserted that their lines don't reference. What is inserted so costs
-/// bytes now, and saves some only if it is referenced later.
+/// How many bytes of names and values may be inserted that their lines don't reference. What is inserted so costs bytes now,
+/// and saves some only if it is referenced later.
 #[derive(Debug, Drop)]
 pub(super) struct Allowance {
-    left: usize,
+    /// How many bytes references gave that are not spent.
+    earned: usize,
+    /// How many bytes were inserted on credit.
+    owed: usize,
+    /// How many bytes the literals at the limit had.
+    literals: usize,
+    /// How many sections began at the limit, at most `SHARES`.
+    sections: usize,
 }
 
 impl Allowance {
     /// Returns the allowance of a new connection.
     pub(super) fn new() -> Allowance {
-        Allowance { left: FIRST_BYTES }
+        Allowance {
+            earned: 0,
+            owed: 0,
+            literals: 0,
+            sections: 0,
+        }
+    }
+
+    /// Notes that a section begins at the limit.
+    pub(super) fn begin_section(&mut self) {
+        self.sections = self.sections.saturating_add(1).min(SHARES);
+    }
+
+    /// Notes a literal of this many bytes.
+    pub(super) fn note_literal(&mut self, bytes: usize) {
+        self.literals = self.literals.saturating_add(bytes);
     }
 
     /// Notes a reference that stands for this many bytes.
     pub(super) fn earn(&mut self, bytes: usize) {
-        self.left = self.left.saturating_add(bytes).min(MOST_BYTES);
+        let back = bytes.min(self.owed);
+        self.owed = self.owed.saturating_sub(back);
+        let left = bytes.saturating_sub(back);
+        self.earned = self.earned.saturating_add(left).min(MOST_EARNED);
     }
 
     /// Returns whether this many bytes may be inserted, and takes them away.
     pub(super) fn pay(&mut self, bytes: usize) -> bool {
-        let is_enough = bytes <= self.left;
-        if is_enough {
-            self.left = self.left.saturating_sub(bytes);
+        if bytes <= self.earned {
+            self.earned = self.earned.saturating_sub(bytes);
+            return true;
         }
-        is_enough
+        let owed = self.owed.saturating_add(bytes);
+        if owed > self.credit() {
+            return false;
+        }
+        self.owed = owed;
+        true
+    }
+
+    /// Returns how many bytes may be owed: four fifths of what an average section has in literals.
+    fn credit(&self) -> usize {
+        self.literals.saturating_mul(4) / self.sections.saturating_mul(5).max(1)
     }
 }

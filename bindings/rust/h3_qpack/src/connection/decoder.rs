@@ -5,6 +5,7 @@ use super::error::{DecodingError, NoMemory, Place, SettingsError};
 use super::take_all;
 use crate::copied::{Copied, Fields};
 use crate::sys;
+use crate::view::Views;
 use alloc::vec::Vec;
 use core::fmt;
 
@@ -175,7 +176,8 @@ impl ConnectionDecoder {
         &mut self.end
     }
 
-    /// Returns the fields of the last decode, in order. There are none if it did not return [`Reading::Fields`].
+    /// Returns copies of the fields of the last decode, in order. There are none if it did not return
+    /// [`Reading::Fields`].
     ///
     /// # Errors
     /// [`NoMemory`] if there is no memory to copy them to: call it again later.
@@ -184,6 +186,30 @@ impl ConnectionDecoder {
             self.copy_fields()?;
         }
         Ok(self.copied.fields())
+    }
+
+    /// Returns the fields of the last decode where they lie in the decoder, in order, and copies none. Each has its index
+    /// in the static table.
+    ///
+    /// ```
+    /// # use h3_qpack::connection::{ConnectionDecoder, DecoderSettings, FieldLine};
+    /// let mut decoder = ConnectionDecoder::new(DecoderSettings::default())?;
+    /// decoder.decode(0, &[0x00, 0x00, 0x51, 0x02, b'/', b'a'])?; // the name :path, and a value
+    /// let path = decoder.views().next().unwrap();
+    /// assert_eq!(path.line, FieldLine::new(":path", "/a"));
+    /// assert_eq!((path.static_name(), path.static_field()), (Some(1), None));
+    /// # Ok::<(), Box<dyn std::error::Error>>(())
+    /// ```
+    /// While they are there, the decoder can't decode:
+    /// ```compile_fail,E0502
+    /// # use h3_qpack::connection::{ConnectionDecoder, DecoderSettings};
+    /// let mut decoder = ConnectionDecoder::new(DecoderSettings::default()).unwrap();
+    /// let fields = decoder.views();
+    /// decoder.decode(4, &[0x00, 0x00]).unwrap();
+    /// assert_eq!(fields.len(), 0);
+    /// ```
+    pub fn views(&self) -> Views<'_> {
+        Views::new(&self.end)
     }
 
     /// Takes the fields of the last decode. Without memory they stay, and can be taken later.

@@ -40,7 +40,7 @@ impl Place {
 
 impl fmt::Display for Place {
     fn fmt(&self, f: &mut fmt::Formatter<'_>) -> fmt::Result {
-        write!(f, "{}, at byte {}", self.number, self.offset)
+        write!(f, "{}, byte {}", self.number, self.offset)
     }
 }
 
@@ -144,9 +144,9 @@ impl EncodingError {
 impl fmt::Display for EncodingError {
     fn fmt(&self, f: &mut fmt::Formatter<'_>) -> fmt::Result {
         match self {
-            EncodingError::DecoderStream { instruction: None } => f.write_str("the decoder stream is invalid"),
+            EncodingError::DecoderStream { instruction: None } => f.write_str("the peer's decoder stream is invalid"),
             EncodingError::DecoderStream { instruction: Some(place) } => {
-                write!(f, "the decoder stream is invalid at instruction {place}")
+                write!(f, "the peer's decoder stream is invalid, at instruction {place}")
             }
             EncodingError::LimitLowered => f.write_str("the peer lowered its limit of blocked streams"),
             EncodingError::MaximumTooLarge => f.write_str("the peer's maximum capacity is 2^30 or more"),
@@ -227,13 +227,13 @@ impl fmt::Display for DecodingError {
                 f.write_str("a section is invalid, or too many streams are blocked")
             }
             DecodingError::DecompressionFailed { line: Some(place) } => {
-                write!(f, "a section is invalid at line {place}")
+                write!(f, "a section is invalid, at line {place}")
             }
-            DecodingError::EncoderStream { instruction: None } => f.write_str("the encoder stream is invalid"),
+            DecodingError::EncoderStream { instruction: None } => f.write_str("the peer's encoder stream is invalid"),
             DecodingError::EncoderStream { instruction: Some(place) } => {
-                write!(f, "the encoder stream is invalid at instruction {place}")
+                write!(f, "the peer's encoder stream is invalid, at instruction {place}")
             }
-            DecodingError::TooLarge => f.write_str("the fields of the section are too large"),
+            DecodingError::TooLarge => f.write_str("the section is too large"),
             DecodingError::StreamId => f.write_str("no stream has that number"),
             DecodingError::NoMemory { .. } => f.write_str("out of memory"),
             DecodingError::Unknown(status) => write!(f, "unknown status {status}"),

@@ -3,9 +3,8 @@
 use super::decoder::ConnectionDecoder;
 use super::error::{DecodingError, Place};
 use crate::field::FieldLine;
-use crate::room::make_room;
 use crate::sys;
-use alloc::vec::Vec;
+use crate::view::FieldView;
 use core::fmt;
 
 /// What a piece of a section gives.
@@ -49,10 +48,6 @@ pub enum Progress<'a> {
 /// ```
 pub struct SectionReader {
     end: sys::Reader,
-    /// The name and the value of the field that was given last.
-    bytes: Vec<u8>,
-    /// Whether memory was refused for a field that was read.
-    is_owed: bool,
 }
 
 impl SectionReader {
@@ -63,7 +58,7 @@ impl SectionReader {
     /// - [`DecodingError::NoMemory`].
     pub fn new(stream_id: u64) -> Result<SectionReader, DecodingError> {
         match sys::Reader::new(stream_id) {
-            Ok(end) => Ok(SectionReader { end, bytes: Vec::new(), is_owed: false }),
+            Ok(end) => Ok(SectionReader { end }),
             Err(status) => Err(DecodingError::of(status, None, 0)),
         }
     }
@@ -80,14 +75,11 @@ impl SectionReader {
         bytes: &mut &[u8],
         last: bool,
     ) -> Result<Progress<'_>, DecodingError> {
-        if self.is_owed {
-            return self.give();
-        }
         let piece = self.end.read(decoder.end(), bytes, last);
         *bytes = &bytes[piece.taken..];
         match piece.status {
             sys::OK => Ok(Progress::Waits),
-            sys::FIELD => self.give(),
+            sys::FIELD => Ok(Progress::Field(self.given())),
             sys::BLOCKED => Ok(Progress::Blocked { required: piece.required }),
             sys::END => Ok(Progress::End { required: piece.required }),
             status => Err(DecodingError::of(status, Place::told(piece.number, piece.offset), 0)),
@@ -99,20 +91,24 @@ impl SectionReader {
         self.end.waiting()
     }
 
-    /// Copies the field that was read.
-    fn give(&mut self) -> Result<Progress<'_>, DecodingError> {
-        self.is_owed = true;
-        self.bytes.clear();
-        let mut given = self.end.field(&mut self.bytes);
-        if given.status == sys::NO_ROOM {
-            make_room(&mut self.bytes, given.name_len + given.value_len)
-                .map_err(|_| DecodingError::of(sys::NO_MEMORY, None, 0))?;
-            given = self.end.field(&mut self.bytes);
-        }
-        assert_eq!(given.status, sys::OK, "the field is there, and fits in the room that the library asked for");
-        self.is_owed = false;
-        let (name, value) = self.bytes.split_at(given.name_len);
-        Ok(Progress::Field(FieldLine { name, value, never_indexed: given.is_never_indexed() }))
+    /// Returns the field that the last call of [`read`](Self::read) gave, with its index in the static table.
+    ///
+    /// ```
+    /// # use h3_qpack::connection::{ConnectionDecoder, DecoderSettings, SectionReader};
+    /// let mut decoder = ConnectionDecoder::new(DecoderSettings::default())?;
+    /// let mut reader = SectionReader::new(0)?;
+    /// assert_eq!(reader.view(), None);
+    /// reader.read(&mut decoder, &mut &[0x00, 0x00, 0xd1][..], false)?; // :method GET
+    /// assert_eq!(reader.view().and_then(|field| field.static_field()), Some(17));
+    /// # Ok::<(), Box<dyn std::error::Error>>(())
+    /// ```
+    pub fn view(&self) -> Option<FieldView<'_>> {
+        self.end.view()
+    }
+
+    /// Returns the field that was read.
+    fn given(&self) -> FieldLine<'_> {
+        self.view().expect("the library keeps the field that it gave").line
     }
 }
 

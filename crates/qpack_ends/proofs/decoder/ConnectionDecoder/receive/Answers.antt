@@ -1,13 +1,12 @@
-use Rattle.std.proofs.Common.{inr, arith, ◌≡◌, ◌∙◌, sym, subst, ap, Result, Ok, Err}
+use Rattle.std.proofs.Common.{arith, ◌≡◌, ◌∙◌, refl, sym, subst, ap, Result, Ok, Err}
 use Rattle.std.specs.Prelude.{⊤}
 use Rattle.qpack_ends.specs.declared.decoder.DecodingError.TheVariants.{Memory}
 use Rattle.qpack_ends.specs.declared.encoder_stream.EncoderStreamError.{EncoderStreamError}
 use Rattle.qpack_spec.specs.Table.{insert_count}
-use Rattle.std.proofs.lemmas.Result.{err_from_is_err_and}
 use Rattle.qpack_ends.specs.Decoders.{DecodingEnd, DecoderView, end_of, ReceivesBytes}
 use Rattle.qpack_ends.specs.Receiving.{Receives, AsksToReceive}
 use Rattle.qpack_ends.proofs.AskingToReceive.{memory_of_stream}
-use Rattle.qpack_ends.proofs.Decoders.{stream_refused, stream_reported, stream_unreported}
+use Rattle.qpack_ends.proofs.Decoders.{stream_refused, stream_taken}
 use Rattle.qpack_ends.proofs.BlockedStreams.{fewer_blocked}
 use Rattle.qpack_ends.proofs.decoder.ConnectionDecoder.receive.Goals as goal
 
@@ -22,28 +21,24 @@ returns-in-Err-clause-receives c live start before k =
     (c.refuse.ensures.is ∙ c.of_stream.ensures)
     (rw c.refuse.ensures.is c.refuse.ensures.ends))
 
-pub returns-in_err-report-in-Ok-clause-receives : goal.returns-in_err-report-in-Ok-clause-receives
-returns-in_err-report-in-Ok-clause-receives c live start before k =
-    let p = err_from_is_err_and c.from_residual.result c.from_residual.ensures.1 in
-    rw (p.1, p.2)
-    (subst (λ (d : DecoderView). ReceivesBytes start before (end_of d) (end_of c.report.new.self) c.args.buf.now.rest
-    c.receive.new.buf.rest (Err c.in_err-report-in-Ok.field-0.0)) c.self.view_is
-    (stream_unreported start before c.args.buf.now.rest c.receive.new.buf.rest _ (end_of c.report.new.self)
-    c.receive.new.table c.receive.new.self c.in_err-report-in-Ok.field-0.0
+pub returns-in-Ok-clause-receives : goal.returns-in-Ok-clause-receives
+returns-in-Ok-clause-receives c live start before k =
+    let new : DecodingEnd = record {
+      settings = c.self.inside.settings;
+      table = c.receive.new.table;
+      stream = c.receive.new.self;
+      reported = c.self.inside.reported;
+      blocked = c.self.inside.blocked;
+      unsent = c.self.inside.unsent.bytes;
+      failure = c.self.inside.failure;
+    } in
+    subst (λ (d : DecoderView). ReceivesBytes start before (end_of d) new c.args.buf.now.rest c.receive.new.buf.rest
+    (Ok c.total_inserted.result)) c.self.view_is
+    (stream_taken start before c.args.buf.now.rest c.receive.new.buf.rest _ new c.receive.new.table c.receive.new.self
+    c.total_inserted.result
     (c.in-Ok.ensures.receives start before
-    (subst (λ (d : DecoderView). Receives start d.table before d.stream) (sym c.self.view_is) k))
-    c.in_err-report-in-Ok.ensures.reports))
-
-pub returns-clause-receives : goal.returns-clause-receives
-returns-clause-receives c live start before k =
-    subst (λ (d : DecoderView). ReceivesBytes start before (end_of d) (end_of c.report.new.self) c.args.buf.now.rest
-    c.receive.new.buf.rest (Ok c.total_inserted.result)) c.self.view_is
-    (stream_reported start before c.args.buf.now.rest c.receive.new.buf.rest _ (end_of c.report.new.self)
-    c.receive.new.table c.receive.new.self c.total_inserted.result
-    (c.in-Ok.ensures.receives start before
-    (subst (λ (d : DecoderView). Receives start d.table before d.stream) (sym c.self.view_is) k))
-    c.in_ok-report-in-Ok.ensures.reports
-    (c.total_inserted.ensures ∙ ap (λ (d : DecoderView). insert_count d.table) c.self-2.view_is))
+    (subst (λ (d : DecoderView). Receives start d.table before d.stream) (sym c.self.view_is) k)) refl
+    c.total_inserted.ensures)
 
 pub invariant_of-self : goal.invariant_of-self
 invariant_of-self c =
@@ -62,7 +57,7 @@ invariant_of-self-in-Err c =
 pub returns-in-Err-clause-memory : goal.returns-in-Err-clause-memory
 returns-in-Err-clause-memory c e =
     let failed : c.refuse.result ≡ Memory = cc in
-    inr (subst (λ (d : DecodingEnd). AsksToReceive d.table c.receive.new.buf.rest d.stream) (sym c.refuse.ensures.ends)
+    subst (λ (d : DecodingEnd). AsksToReceive d.table c.receive.new.buf.rest d.stream) (sym c.refuse.ensures.ends)
     (c.in-Err.ensures.memory
     (ap (λ (x : EncoderStreamError). let r : Result ⊤ EncoderStreamError = Err x in r)
-    (memory_of_stream c.in-Err.error (sym c.of_stream.ensures ∙ sym c.refuse.ensures.is ∙ failed)))))
+    (memory_of_stream c.in-Err.error (sym c.of_stream.ensures ∙ sym c.refuse.ensures.is ∙ failed))))

@@ -1,11 +1,19 @@
-use Rattle.std.proofs.Common.{subst, sym}
-use Rattle.qpack_ends.specs.Encoders.{EncodingEnd, TellsCapacity, Begins}
-use Rattle.qpack_ends.proofs.Encoders.{begins_sound}
+use Rattle.std.proofs.Common.{◌≡◌, Some, subst, sym, ap, ◌∙◌}
+use Rattle.qpack_ends.specs.Encoders.{EncodingEnd, IsSound}
+use Rattle.qpack_ends.proofs.Encoders.{begins_sound, begins_held, held_is, not_held}
 use Rattle.qpack_ends.proofs.encoder.ConnectionEncoder.begin.Goals as goal
 
-pub returns-in-Some : goal.returns-in-Some
-returns-in-Some c =
-    subst (λ (d : EncodingEnd). Begins d c.tell.new.self c.tell.result) c.self.view_is
-    (begins_sound _ c.tell.new.self c.in-Some.capacity c.tell.result c.self.invariant.0 c.in-Some.is
-    (subst (λ (d : EncodingEnd). TellsCapacity d c.tell.new.self c.in-Some.capacity c.tell.result)
-    (sym c.self.view_is) c.tell.ensures))
+pub returns-then-is_held : goal.returns-then-is_held
+returns-then-is_held c =
+    let wanted : c.args.self.now.wanted ≡ Some c.in-Some.capacity =
+    sym (ap (λ (d : EncodingEnd). d.wanted) c.self.view_is) ∙ c.in-Some.is in
+    begins_held c.args.self.now c.tell-told.new.self c.in-Some.capacity c.tell-told.result wanted c.tell-told.ensures
+    (held_is c.tell-told.result (sym c.is_held.ensures ∙ c.if-is_held.true))
+
+pub returns : goal.returns
+returns c =
+    let wanted : c.args.self.now.wanted ≡ Some c.in-Some.capacity =
+    sym (ap (λ (d : EncodingEnd). d.wanted) c.self.view_is) ∙ c.in-Some.is in
+    begins_sound c.args.self.now c.tell-told.new.self c.in-Some.capacity c.tell-told.result
+    (subst IsSound c.self.view_is c.self.invariant.0) wanted c.tell-told.ensures
+    (not_held c.tell-told.result (sym c.is_held.ensures ∙ c.if-is_held.false))

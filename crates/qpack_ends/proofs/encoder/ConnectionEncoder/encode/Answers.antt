@@ -10,12 +10,12 @@ use Rattle.qpack_codec.proofs.ChosenBlocks.{gives_up_chosen_alone}
 use Rattle.qpack_ends.specs.declared.blocked.BlockedStream.{BlockedStream}
 use Rattle.qpack_ends.specs.declared.encoder.EncodingError.{EncodingError}
 use Rattle.qpack_ends.specs.contracts.encoder.ConnectionEncoder.{the_view}
-use Rattle.qpack_ends.specs.Encoders.{EncodingEnd, begun, is_full, may_block, with_section, Encodes, HasNoRoomAlone}
+use Rattle.qpack_ends.specs.Encoders.{EncodingEnd, begun, is_alone, may_block, with_section, Encodes, HasNoRoomAlone}
 use Rattle.qpack_ends.specs.Risk.{TracksRisk}
 use Rattle.qpack_ends.specs.Wishes.{KeepsWishes, limited, EncodesAsWished}
 use Rattle.qpack_ends.proofs.BareEnds.{encoded_bare, given_up_bare}
 use Rattle.qpack_ends.proofs.NoFields.{no_field, without_named, nothing_encoded, nothing_wished, alone_asks}
-use Rattle.qpack_ends.proofs.LimitedSections.{begun_wants, sound_with, tracks_put, tracks_known, tracks_given_up}
+use Rattle.qpack_ends.proofs.LimitedSections.{none_waits, sound_with, tracks_put, tracks_known, tracks_given_up}
 use Rattle.qpack_ends.proofs.LimitedSections.{written_known, where_done, may_be}
 use Rattle.qpack_ends.proofs.Wishes.{keeps_wishes}
 use Rattle.qpack_ends.proofs.encoder.ConnectionEncoder.encode.Goals as goal
@@ -27,7 +27,7 @@ invariant_of-self-in_err-required g c =
     let u = c.write_section.new.table.table in
     let kept = c.make_room.new.self.streams.items in
     let none : d.wanted ≡ None =
-    ap (λ (x : EncodingEnd). x.wanted) (c.self.view_is ∙ c.in_ok-begin.ensures) ∙ begun_wants c.args.self.now in
+    none_waits d (ap is_alone c.self.view_is ∙ sym c.is_alone.ensures ∙ c.if-is_alone.false) in
     let tracks : TracksRisk kept d.table =
     subst (λ (l : List BlockedStream). TracksRisk l d.table) (sym c.make_room.ensures.same) c.self.invariant.1 in (
       sound_with d u c.write_section.new.unsent.bytes none c.self.invariant.0,
@@ -43,7 +43,7 @@ invariant_of-self-then-required-known_received_count g c =
     let u = c.write_section.new.table.table in
     let kept = c.make_room.new.self.streams.items in
     let none : d.wanted ≡ None =
-    ap (λ (x : EncodingEnd). x.wanted) (c.self.view_is ∙ c.in_ok-begin.ensures) ∙ begun_wants c.args.self.now in
+    none_waits d (ap is_alone c.self.view_is ∙ sym c.is_alone.ensures ∙ c.if-is_alone.false) in
     let tracks : TracksRisk kept d.table =
     subst (λ (l : List BlockedStream). TracksRisk l d.table) (sym c.make_room.ensures.same) c.self.invariant.1 in
     let written = c.in_ok-required.ensures.section in
@@ -66,7 +66,7 @@ invariant_of-self-else-required-known_received_count g c =
     let u = c.write_section.new.table.table in
     let kept = c.make_room.new.self.streams.items in
     let none : d.wanted ≡ None =
-    ap (λ (x : EncodingEnd). x.wanted) (c.self.view_is ∙ c.in_ok-begin.ensures) ∙ begun_wants c.args.self.now in
+    none_waits d (ap is_alone c.self.view_is ∙ sym c.is_alone.ensures ∙ c.if-is_alone.false) in
     let tracks : TracksRisk kept d.table =
     subst (λ (l : List BlockedStream). TracksRisk l d.table) (sym c.make_room.ensures.same) c.self.invariant.1 in
     let written = c.in_ok-required.ensures.section in
@@ -123,7 +123,7 @@ invariant_of-self g c =
     let d : EncodingEnd = the_view c.self.inside in
     let u = c.give_up.new.self.table in
     let none : d.wanted ≡ None =
-    ap (λ (x : EncodingEnd). x.wanted) (c.self.view_is ∙ c.in_ok-begin.ensures) ∙ begun_wants c.args.self.now in (
+    none_waits d (ap is_alone c.self.view_is ∙ sym c.is_alone.ensures ∙ c.if-is_alone.false) in (
       sound_with d u d.unsent none c.self.invariant.0,
       tracks_given_up c.self.inside.at_risk.streams.items [] d.table u d.unsent d.unsent
           (gives_up_chosen_alone WhereShorter [] (Err codec.Memory) d.table u d.unsent c.give_up.ensures) c.self.invariant.1,
@@ -132,8 +132,8 @@ invariant_of-self g c =
           (c.self.invariant.2 zero)).0,
     )
 
-pub returns-then-is_full-clause-memory : goal.returns-then-is_full-clause-memory
-returns-then-is_full-clause-memory g c refused =
+pub returns-then-is_alone-clause-memory : goal.returns-then-is_alone-clause-memory
+returns-then-is_alone-clause-memory g c refused =
     let lines = map g.H.AsField.line c.args.fields.now in
     inr (alone_asks lines c.args.section.now
     (subst (λ (r : Result ℕ EncodingError). OnErr r (HasNoRoomAlone lines c.args.section.now)) refused
@@ -148,8 +148,8 @@ returns-then-is_empty-clause-encodes g c =
     let lines : map g.H.AsField.line c.args.fields.now ≡ [] =
     ap (map g.H.AsField.line) (no_field c.args.fields.now
     (eqb-true _ _ (sym c.is_empty.ensures ∙ c.if-is_empty.true))) in
-    let room : is_full (begun c.args.self.now) ≡ false =
-    ap is_full (sym c.in_ok-begin.ensures) ∙ sym c.is_full.ensures ∙ c.if-is_full.false in
+    let room : is_alone (begun c.args.self.now) ≡ false =
+    ap is_alone (sym c.in_ok-begin.ensures) ∙ sym c.is_alone.ensures ∙ c.if-is_alone.false in
     let is : new ≡ without_named (begun c.args.self.now) =
     ap (λ (t : Table). with_section t d.unsent d) c.give_up.ensures
     ∙ ap without_named (c.self.view_is ∙ c.in_ok-begin.ensures) in
