@@ -20,8 +20,7 @@ NGHTTP3 = (
 # Connections that Chromium 156 and Firefox 153 wrote to a server that allowed a table of 4,096 bytes.
 BROWSERS = ("chromium_4096_100", "firefox_4096_100")
 # What the example server wrote to these browsers, and their decoders to it: a file, and how many streams may be blocked.
-# It is made of the log of examples/http3-server, with the encoder's capacity that follows. The page is that of
-# tests/browsers, with 92 requests and none aborted. Where the encoder chooses otherwise, make it again.
+# tests/browsers/record.py made it, with the encoder's capacity that follows. Where the encoder chooses otherwise, run it again.
 ANSWERS = (("heard_chromium", 100), ("heard_firefox", 20))
 ANSWERS_CAPACITY = 16384
 # How often a recording is given with lines mutated, otherwise each time.

@@ -1,11 +1,11 @@
 #!/usr/bin/env bash
 # Tests pylsqpack over h3_qpack by the tests of others: pylsqpack 0.3.23's own, and those of HTTP/3 and WebTransport of
-# aioquic 1.3.0, which runs over it unchanged. Each runs over pylsqpack itself too. It needs a C compiler, make and
-# Debian's python3 with its headers. aioquic needs OpenSSL, some packages of Python (Debian: python3-dev,
-# python3-cryptography, python3-openssl, python3-certifi, python3-service-identity and libssl-dev), and of cryptography
-# version 42, which Debian has since 13. With --pylsqpack it runs pylsqpack's own tests alone, which need none of these
-# packages but python3-dev. It installs by apt-get what is not there, which only root can, and gets the sources by
-# bindings/source. What can't be had is named as not shown. The last line is 'N passed, M failed'.
+# aioquic 1.3.0, which runs over it unchanged. Each runs over pylsqpack itself too, and ls-qpack reads corpora. It needs
+# a C compiler, make and Debian's python3 with its headers. aioquic needs OpenSSL, some packages of Python (Debian:
+# python3-dev, python3-cryptography, python3-openssl, python3-certifi, python3-service-identity and libssl-dev), and of
+# cryptography version 42, which Debian has since 13. With --pylsqpack it runs pylsqpack's own tests alone, which need
+# none of these packages but python3-dev. It installs by apt-get what is not there, which only root can, and gets the
+# sources by bindings/source. What can't be had is named as not shown. The last line is 'N passed, M failed'.
 set -uo pipefail
 cd "$(dirname "$0")/.." || exit 1
 script=bindings/pylsqpack/check.sh
@@ -94,6 +94,15 @@ prepare_pylsqpack() {
     mkdir "$room/tests-alone" && cp -r "$room/pylsqpack/tests" "$room/tests-alone"
 }
 
+# Has ls-qpack read what h3_qpack writes of the corpora: those that are recorded, and those that are made.
+read_corpora() {
+    "$python" ../bench/corpora.py "$room/corpora" &&
+        PYTHONPATH=$room/own:$top/bindings/python H3_QPACK_LIBRARY=$room/build/libh3_qpack.so.0 \
+            "$python" pylsqpack/peers/reads.py ../crates/qpack_tests/data/[!h]*.qif "$room"/corpora/*.qif >"$room/read" ||
+        return
+    grep '^[1-9][0-9]* sections read by ls-qpack' "$room/read"
+}
+
 # Has a client and a server of aioquic exchange requests over h3_qpack.
 run_live() {
     (cd "$room/aioquic" && PYTHONPATH=$PWD/src:$top/bindings/pylsqpack:$top/bindings/python \
@@ -112,6 +121,7 @@ test_all() {
     try "the tests of pylsqpack" compare_tests pylsqpack "$room/tests-alone" \
         tests.test_decoder tests.test_encoder tests.test_roundtrip
     tell_tests pylsqpack
+    try "ls-qpack reads the corpora" read_corpora && echo "$script: $(cat "$room/read")"
     is_tested aioquic || return 0
     has_cryptography || { not_shown "the tests of aioquic" "without version 42 of python3-cryptography, as Debian 13 has"; return; }
     try "build aioquic" build_aioquic || return

@@ -30,6 +30,7 @@ from nghttp3 import Decoder, Failure
 from processes import new_folder, stop
 
 HERE = os.path.dirname(os.path.abspath(__file__))
+PAGES = os.path.join(HERE, "pages")
 SERVER = os.path.join(HERE, "..", "..", "examples", "http3-server")
 SETTINGS = {
     "no table": ["--capacity", "0", "--blocked", "0", "--encoder-capacity", "0"],
@@ -115,8 +116,8 @@ def find_report(path):
     return json.loads(json.loads(line)["text"]) if line else None
 
 
-def run(browser, program, certificates, key, options, room, is_captured):
-    """Runs the server and a browser, and returns the page's report."""
+def run(browser, program, certificates, key, options, room, is_captured=False, pages=PAGES):
+    """Runs the server and a browser, which opens the page of a folder, and returns the page's report."""
     port = free_port()
     capturing = capture.start(port, room) if is_captured else None
     server = subprocess.Popen(
@@ -125,7 +126,7 @@ def run(browser, program, certificates, key, options, room, is_captured):
             "--port",
             str(port),
             "--folder",
-            f"{HERE}/pages",
+            pages,
             "--log",
             f"{room}/log",
             "--certificate",
@@ -155,29 +156,40 @@ def run(browser, program, certificates, key, options, room, is_captured):
     return report
 
 
+def compare(browser, report, room, is_captured=False):
+    """Compares what a run left, and returns what was compared. Raises Failure if anything differs."""
+    if report["wrong"]:
+        raise Failure("the page found " + report["wrong"][0])
+    if report["protocols"] != ["h3"]:
+        raise Failure(f"the page was loaded by {report['protocols']}")
+    events = read_events(f"{room}/log")
+    ended = [e for e in events if e["event"] == "end" and e["code"] != 0x100]
+    if ended:
+        raise Failure("the server ended the connection: " + ended[0]["why"])
+    received, sent = lists_of(events, "section received"), lists_of(events, "section sent")
+    if decode_again(events, "received", "section received", "begin") != received:
+        raise Failure("nghttp3 decodes other fields of what was received")
+    if decode_again(events, "sent", "section sent", "settings") != sent:
+        raise Failure("nghttp3 decodes other fields of what was sent")
+    compared = browser.compare(room, received, sent)
+    shown = f", {capture.compare(room, received, sent)}" if is_captured else ""
+    return (
+        f"{report['compared']} fields by the page, {len(received) + len(sent)} lists by nghttp3, "
+        f"{compared} by {browser.name}'s log{shown}"
+    )
+
+
 def check(browser, program, certificates, key, options, is_captured=False):
     """Runs a setting, and returns what was compared. Raises Failure if anything differs."""
     with new_folder() as room:
-        report = run(browser, program, certificates, key, options, room, is_captured)
-        if report["wrong"]:
-            raise Failure("the page found " + report["wrong"][0])
-        if report["protocols"] != ["h3"]:
-            raise Failure(f"the page was loaded by {report['protocols']}")
-        events = read_events(f"{room}/log")
-        ended = [e for e in events if e["event"] == "end" and e["code"] != 0x100]
-        if ended:
-            raise Failure("the server ended the connection: " + ended[0]["why"])
-        received, sent = lists_of(events, "section received"), lists_of(events, "section sent")
-        if decode_again(events, "received", "section received", "begin") != received:
-            raise Failure("nghttp3 decodes other fields of what was received")
-        if decode_again(events, "sent", "section sent", "settings") != sent:
-            raise Failure("nghttp3 decodes other fields of what was sent")
-        compared = browser.compare(room, received, sent)
-        shown = f", {capture.compare(room, received, sent)}" if is_captured else ""
-        return (
-            f"{report['compared']} fields by the page, {len(received) + len(sent)} lists by nghttp3, "
-            f"{compared} by {browser.name}'s log{shown}"
-        )
+        return compare(browser, run(browser, program, certificates, key, options, room, is_captured), room, is_captured)
+
+
+def make_certificate(folder):
+    """Makes a certificate in a folder, and returns the hash of its key."""
+    made = subprocess.run([f"{SERVER}/certificate", folder], check=True, capture_output=True, text=True)
+    base64.b64decode(made.stdout.strip(), validate=True)
+    return made.stdout.strip()
 
 
 def build(folder, sources):
@@ -209,9 +221,7 @@ def main():
             browsers.append(browser)
     passed = failed = 0
     with tempfile.TemporaryDirectory() as folder:
-        made = subprocess.run([f"{SERVER}/certificate", folder], check=True, capture_output=True, text=True)
-        key = made.stdout.strip()
-        base64.b64decode(key, validate=True)
+        key = make_certificate(folder)
         for browser in browsers:
             if "--planted" in sys.argv[1:]:
                 found = try_faults(browser, folder, key)
@@ -265,4 +275,5 @@ def try_faults(browser, folder, key):
     return found
 
 
-sys.exit(main())
+if __name__ == "__main__":
+    sys.exit(main())
