@@ -3,9 +3,10 @@
 # aioquic 1.3.0, which runs over it unchanged. Each runs over pylsqpack itself too, and ls-qpack reads corpora. It needs
 # a C compiler, make and Debian's python3 with its headers. aioquic needs OpenSSL, some packages of Python (Debian:
 # python3-dev, python3-cryptography, python3-openssl, python3-certifi, python3-service-identity and libssl-dev), and of
-# cryptography version 42, which Debian has since 13. With --pylsqpack it runs pylsqpack's own tests alone, which need
-# none of these packages but python3-dev. It installs by apt-get what is not there, which only root can, and gets the
-# sources by bindings/source. What can't be had is named as not shown. The last line is 'N passed, M failed'.
+# cryptography version 42, which Debian has since 13. With --pylsqpack it leaves aioquic out, and needs none of these
+# packages but python3-dev; with --bytes it compares the bytes that both libraries write of corpora, and tests nothing.
+# It installs by apt-get what is not there, which only root can, and gets the sources by bindings/source. What can't be
+# had is named as not shown. The last line is 'N passed, M failed'.
 set -uo pipefail
 cd "$(dirname "$0")/.." || exit 1
 script=bindings/pylsqpack/check.sh
@@ -14,8 +15,9 @@ script=bindings/pylsqpack/check.sh
 room=$(mktemp -d) || exit 1
 trap 'rm -rf --one-file-system "$room"' EXIT
 python=/usr/bin/python3
+word=${1-}
 packages='pylsqpack aioquic'
-[ "${1-}" != --pylsqpack ] || packages=pylsqpack
+[ -z "$word" ] || packages=pylsqpack
 export PYTHONDONTWRITEBYTECODE=1
 
 # Whether the tests of a package are to be run.
@@ -94,13 +96,16 @@ prepare_pylsqpack() {
     mkdir "$room/tests-alone" && cp -r "$room/pylsqpack/tests" "$room/tests-alone"
 }
 
-# Has ls-qpack read what h3_qpack writes of the corpora: those that are recorded, and those that are made.
-read_corpora() {
+# Runs a program of peers/ over h3_qpack and pylsqpack, with the corpora: those that are recorded, and those that are made.
+play_corpora() {
     "$python" ../bench/corpora.py "$room/corpora" &&
         PYTHONPATH=$room/own:$top/bindings/python H3_QPACK_LIBRARY=$room/build/libh3_qpack.so.0 \
-            "$python" pylsqpack/peers/reads.py ../crates/qpack_tests/data/[!h]*.qif "$room"/corpora/*.qif >"$room/read" ||
-        return
-    grep '^[1-9][0-9]* sections read by ls-qpack' "$room/read"
+            "$python" "pylsqpack/peers/$1" ../crates/qpack_tests/data/[!h]*.qif "$room"/corpora/*.qif
+}
+
+# Has ls-qpack read what h3_qpack writes of the corpora.
+read_corpora() {
+    play_corpora reads.py >"$room/read" && grep '^[1-9][0-9]* sections read by ls-qpack' "$room/read"
 }
 
 # Has a client and a server of aioquic exchange requests over h3_qpack.
@@ -118,6 +123,7 @@ tell_tests() {
 test_all() {
     try "build dist/" make -s -C ../dist BUILD="$room/build" && try "build pylsqpack" build_pylsqpack &&
         prepare_pylsqpack || return
+    [ "$word" != --bytes ] || { try "compare bytes" play_corpora bytes.py && cat "$room/told"; return; }
     try "the tests of pylsqpack" compare_tests pylsqpack "$room/tests-alone" \
         tests.test_decoder tests.test_encoder tests.test_roundtrip
     tell_tests pylsqpack
