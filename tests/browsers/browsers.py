@@ -5,8 +5,13 @@ import json
 import os
 import re
 import subprocess
+import sys
+from pathlib import Path
 
 from nghttp3 import Failure
+
+sys.path.insert(0, str(Path(__file__).resolve().parents[1]))
+from chromium import CHROMIUM  # pylint: disable=wrong-import-position # tests/chromium.py
 
 # The page gives up so many requests, whose responses may not be logged.
 GIVEN_UP = 20
@@ -22,18 +27,7 @@ class Chromium:
         rules = "MAP localhost 127.0.0.1, MAP * ~NOTFOUND, EXCLUDE 127.0.0.1"
         return subprocess.Popen(
             [
-                "chromium",
-                "--headless=new",
-                "--no-sandbox",
-                "--disable-gpu",
-                "--disable-dev-shm-usage",
-                "--no-first-run",
-                "--disable-extensions",
-                "--disable-background-networking",
-                "--disable-component-update",
-                "--disable-sync",
-                "--disable-default-apps",
-                "--no-proxy-server",
+                *CHROMIUM,
                 f"--host-resolver-rules={rules}",
                 f"--user-data-dir={room}/profile",
                 "--enable-quic",

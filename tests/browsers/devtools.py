@@ -6,20 +6,24 @@ import os
 import re
 import select
 import subprocess
+import sys
 import time
+from pathlib import Path
 
 from nghttp3 import Failure
 from processes import stop
 
+sys.path.insert(0, str(Path(__file__).resolve().parents[1]))
+from chromium import CHROMIUM  # pylint: disable=wrong-import-position # tests/chromium.py
+
 SECONDS = 60
-PROGRAM = "chromium"
 KEYS = {"Tab": 9, "Enter": 13, "Escape": 27, "PageDown": 34, "End": 35, "Home": 36, "ArrowUp": 38, "ArrowDown": 40}
 
 
 class Browser:
     """Chromium without a window. Close it at the end."""
 
-    name, program, schemes = "Chromium", PROGRAM, ("light", "dark")
+    name, program, schemes = "Chromium", CHROMIUM[0], ("light", "dark")
 
     def __init__(self, room, more=()):
         own_read, its_write = os.pipe()
@@ -27,17 +31,8 @@ class Browser:
         passed = [fcntl.fcntl(it, fcntl.F_DUPFD, 10) for it in (its_read, its_write)]
         self.process = subprocess.Popen(
             [
-                PROGRAM,
-                "--headless=new",
-                "--no-sandbox",
-                "--disable-gpu",
-                "--disable-dev-shm-usage",
-                "--no-first-run",
-                "--disable-extensions",
-                "--disable-background-networking",
-                "--disable-component-update",
+                *CHROMIUM,
                 "--hide-scrollbars",
-                "--no-proxy-server",
                 "--host-resolver-rules=MAP * ~NOTFOUND",
                 "--window-size=1200,1000",
                 "--force-device-scale-factor=1",

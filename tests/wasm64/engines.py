@@ -2,29 +2,19 @@
 import http.server
 import os
 import subprocess
+import sys
 import threading
 from pathlib import Path
 
 HERE = Path(__file__).resolve().parent
+sys.path.insert(0, str(HERE.parent))
+from chromium import CHROMIUM  # pylint: disable=wrong-import-position # tests/chromium.py
+
 LOADER = HERE.parent.parent / "dist" / "qpk_wasm64.js"
 SCRIPTS = [LOADER, HERE / "library.js", HERE / "batch.js"]
 # The most seconds that a batch may take, on a busy machine.
 SECONDS = 300
-CHROMIUM = [
-    "chromium",
-    "--headless=new",
-    "--no-sandbox",
-    "--disable-gpu",
-    "--disable-dev-shm-usage",
-    "--no-first-run",
-    "--disable-extensions",
-    "--disable-background-networking",
-    "--disable-component-update",
-    "--disable-sync",
-    "--disable-default-apps",
-    "--no-proxy-server",
-    "--host-resolver-rules=MAP * ~NOTFOUND, EXCLUDE 127.0.0.1",
-]
+RESOLVER = "--host-resolver-rules=MAP * ~NOTFOUND, EXCLUDE 127.0.0.1"
 
 
 class Failure(Exception):
@@ -93,7 +83,7 @@ def run_chromium(batch, modules, room):
         **{f"/module/{at}": (Path(it).read_bytes(), "application/wasm") for at, it in enumerate(modules)},
     }
     threading.Thread(target=server.serve_forever, daemon=True).start()
-    words = [*CHROMIUM, f"--user-data-dir={room}/profile", f"http://127.0.0.1:{server.server_port}/"]
+    words = [*CHROMIUM, RESOLVER, f"--user-data-dir={room}/profile", f"http://127.0.0.1:{server.server_port}/"]
     browser = subprocess.Popen(
         words, stdout=subprocess.DEVNULL, stderr=subprocess.DEVNULL, env={**os.environ, "HOME": str(room)}
     )
