@@ -1,6 +1,6 @@
 /* The rule of this library's encoder: what is inserted, what is referenced, and what is let go. It is that of
- * crates/qpack_ends/src/choosing.rt, which model.c compares it with; bound.c --rule says what another one would write. Include
- * it after encoder.h. */
+ * crates/qpack_encoding/src/choosing.rt, which model.c compares it with; bound.c --rule says what another one would write.
+ * Include it after encoder.h. */
 #ifndef RULE_H
 #define RULE_H
 

@@ -22,7 +22,9 @@ NAMES = TOP / "docs" / "h3-lacks.tsv"
 OF_H3 = ("h3_qpack", "qpack_codec", "qpack_table", "qpack_wire", "qpack_base", "qpack_rules", "qpack_spec")
 # The crates with calls, those that a user begins with first. The header is over the calls of h3_qpack_c.
 OF_CALLS = [
-    "qpack_ends",
+    "qpack_encoding",
+    "qpack_decoding",
+    "qpack_shared",
     "qpack_connection",
     "h3_qpack",
     "qpack_codec",

@@ -229,7 +229,7 @@ BELOW_0 = (
 )
 NOT_OF_QPACK = ("OK", "SETTINGS_ERROR", *BELOW_0)
 NO_ERRORS = ("OK", "ERR_NO_ROOM", "FIELD", "END")
-RUST, ENDS = "bindings/rust/h3_qpack/src", "crates/qpack_ends/src"
+RUST, ENCODING, DECODING = "bindings/rust/h3_qpack/src", "crates/qpack_encoding/src", "crates/qpack_decoding/src"
 PYTHON = "bindings/python/h3_qpack"
 SOURCES = [
     Source("C", ["dist/h3_qpack.h"], read_header, ("value", "code", "section"), (), ("_HELD (-6)", "_HELD (-10)")),
@@ -243,7 +243,12 @@ SOURCES = [
     ),
     Source(
         "Rattle, the ends",
-        [f"{ENDS}/section.rt", f"{ENDS}/encoder_stream.rt", f"{ENDS}/decoder_stream.rt", f"{ENDS}/encoder.rt"],
+        [
+            f"{DECODING}/section.rt",
+            f"{DECODING}/encoder_stream.rt",
+            f"{ENCODING}/decoder_stream.rt",
+            f"{ENCODING}/encoder.rt",
+        ],
         read_ends,
         ("value", "code", "section"),
         ("OK", *BELOW_0),

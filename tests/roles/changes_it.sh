@@ -12,10 +12,10 @@ def insert(name, before, text):
 
 shown = re.search(r"^   ```rust\n(.*?)^   ```$", Path("CONTRIBUTING.md").read_text(encoding="utf-8"), re.M | re.S)[1]
 use, call = re.sub(r"^   ", "", shown, flags=re.M).split("\n\n", 1)
-decoder = "crates/qpack_ends/src/decoder.rt"
-insert(decoder, "ghost use Rattle.qpack_ends.specs.Unsent.", f"{use}\n")
+decoder = "crates/qpack_decoding/src/decoder.rt"
+insert(decoder, "ghost use Rattle.qpack_shared.specs.Unsent.", f"{use}\n")
 insert(decoder, "    /// Returns how many streams are blocked: those that still wait", f"{call}\n")
-insert("crates/qpack_ends/src/blocked.rt", "fn is_blocked(", "pub(crate) ")
+insert("crates/qpack_decoding/src/blocked.rt", "fn is_blocked(", "pub(crate) ")
 insert("crates/qpack_connection_tests/src/decoder.rt", '            "sends" => self.send(call),\n', """\
             "waits" => {
                 let stream = call.number();
@@ -31,20 +31,20 @@ counted = counts.read_text(encoding="utf-8")
 counted = of_file.sub(lambda it: f"decoder.txt: {int(it[1]) + 1} cases, {int(it[2]) + 2} calls", counted)
 counts.write_text(counted, encoding="utf-8")
 PY
-for crate in qpack_ends qpack_connection_tests; do (cd crates/$crate && rt fmt); done
+for crate in qpack_decoding qpack_connection_tests; do (cd crates/$crate && rt fmt); done
 fails ./test qpack_connection_tests >said
 grep -q 'waits 0' said
 sed -i 's/^waits 0 -> false$/waits 0 -> true/' crates/qpack_tests/data/decoder.txt
 ./test qpack_connection_tests
 if [ "${PROVE:-}" = 1 ]; then
-    for crate in qpack_spec qpack_rules qpack_base qpack_wire qpack_table qpack_codec; do (cd crates/$crate && rt check); done
-    cd crates/qpack_ends
+    for crate in qpack_spec qpack_rules qpack_base qpack_wire qpack_table qpack_codec qpack_shared; do (cd crates/$crate && rt check); done
+    cd crates/qpack_decoding
     rt check --only decoder::ConnectionDecoder::is_blocked >said
     grep -q 'proved=3' said
     rt plant --only is_blocked
     cp src/blocked.rt kept && sed -i 's/=> required > inserted,/=> required <= inserted,/' src/blocked.rt
     fails rt check --only decoder::ConnectionDecoder::is_blocked
-    mv kept src/blocked.rt && cd "$CLONE" && tests/above qpack_ends
+    mv kept src/blocked.rt && cd "$CLONE" && tests/above qpack_decoding
 else
     echo 'not shown: the proofs of a first change, without PROVE=1'
 fi

@@ -3,11 +3,11 @@ use Rattle.std.specs.Prelude.{◌≡◌, ℕ, ℤ, List, length, None, Result, O
 use Rattle.qpack_spec.specs.Field.{FieldLine}
 use Rattle.qpack_spec.specs.StrictReading.{strict_reading}
 use Rattle.qpack_spec.specs.Table.{empty_table, window}
-use Rattle.qpack_ends.specs.declared.section.Reading.{Reading}
-use Rattle.qpack_ends.specs.declared.section.Reading.TheVariants.{Fields, Blocked}
-use Rattle.qpack_ends.specs.declared.section.SectionError.{SectionError}
-use Rattle.qpack_ends.specs.declared.section.SectionError.TheVariants.{Line, Memory}
-use Rattle.qpack_ends.specs.Sections.{ReadsSection}
+use Rattle.qpack_decoding.specs.declared.section.Reading.{Reading}
+use Rattle.qpack_decoding.specs.declared.section.Reading.TheVariants.{Fields, Blocked}
+use Rattle.qpack_decoding.specs.declared.section.SectionError.{SectionError}
+use Rattle.qpack_decoding.specs.declared.section.SectionError.TheVariants.{Line, Memory}
+use Rattle.qpack_decoding.specs.Sections.{ReadsSection}
 use Rattle.qpack_wire.specs.Memory.{AsksSectionForMemory}
 use Rattle.h3_qpack_c.specs.declared.answers.DecodedAlone.{DecodedAlone}
 use Rattle.h3_qpack_c.specs.declared.answers.Given.{Given}

@@ -6,7 +6,7 @@ use Rattle.qpack_spec.specs.Field.{FieldLine, fields_of_lines, total_size}
 use Rattle.qpack_codec.specs.declared.encoder.choices.Wish.{Wish}
 use Rattle.qpack_codec.specs.declared.encoder.choices.Wish.TheVariants.{Unmarked, Never, Reuse, Insert}
 use Rattle.h3_qpack_c.specs.declared.answers.Written.{Written}
-use Rattle.qpack_ends.specs.FieldSections.{text_of, text_of_field}
+use Rattle.qpack_decoding.specs.FieldSections.{text_of, text_of_field}
 use Rattle.h3_qpack_c.specs.declared.fields.Field.{Field}
 use Rattle.h3_qpack_c.specs.Statuses.{done, no_memory, no_room, invalid}
 

@@ -5,20 +5,20 @@ use Rattle.std.specs.Option.{IfSome}
 use Rattle.qpack_spec.specs.Field.{FieldLine}
 use Rattle.qpack_spec.specs.StrictReading.{strict_reading}
 use Rattle.qpack_spec.specs.Table.{Table, window, insert_count}
-use Rattle.qpack_ends.specs.declared.decoder.DecodingError.{DecodingError}
-use Rattle.qpack_ends.specs.declared.decoder.DecodingError.TheVariants.{EncoderStream, Section, Memory}
-use Rattle.qpack_ends.specs.SectionPrefixes.{GivesPrefix, strict_prefix}
-use Rattle.qpack_ends.specs.declared.section.SectionError.{SectionError}
-use Rattle.qpack_ends.specs.declared.section.SectionError.TheVariants.{Line}
-use Rattle.qpack_ends.specs.declared.section.SectionPrefix.{SectionPrefix}
-use Rattle.qpack_ends.specs.declared.section.Reading.{Reading}
-use Rattle.qpack_ends.specs.declared.section.Reading.TheVariants.{Fields, Blocked}
-use Rattle.qpack_ends.specs.declared.decoder.DecoderSettings.{DecoderSettings}
-use Rattle.qpack_ends.specs.Decoders.{DecoderView, end_of, Begins, TakesStream, Decodes, Cancels, ReceivesBytes}
-use Rattle.qpack_ends.specs.Decoders.{NeedsMemoryToDecode, answer_to, cancellation_of}
-use Rattle.qpack_ends.specs.FieldSections.{IsRoomWithin, HoldsNothing, text_of}
-use Rattle.qpack_ends.specs.Receiving.{Receives, AsksToReceive}
-use Rattle.qpack_ends.specs.Unsent.{LacksRoom, KeepsRoom, Drops}
+use Rattle.qpack_decoding.specs.declared.decoder.DecodingError.{DecodingError}
+use Rattle.qpack_decoding.specs.declared.decoder.DecodingError.TheVariants.{EncoderStream, Section, Memory}
+use Rattle.qpack_decoding.specs.SectionPrefixes.{GivesPrefix, strict_prefix}
+use Rattle.qpack_decoding.specs.declared.section.SectionError.{SectionError}
+use Rattle.qpack_decoding.specs.declared.section.SectionError.TheVariants.{Line}
+use Rattle.qpack_decoding.specs.declared.section.SectionPrefix.{SectionPrefix}
+use Rattle.qpack_decoding.specs.declared.section.Reading.{Reading}
+use Rattle.qpack_decoding.specs.declared.section.Reading.TheVariants.{Fields, Blocked}
+use Rattle.qpack_decoding.specs.declared.decoder.DecoderSettings.{DecoderSettings}
+use Rattle.qpack_decoding.specs.Decoders.{DecoderView, end_of, Begins, TakesStream, Decodes, Cancels, ReceivesBytes}
+use Rattle.qpack_decoding.specs.Decoders.{NeedsMemoryToDecode, answer_to, cancellation_of}
+use Rattle.qpack_decoding.specs.FieldSections.{IsRoomWithin, HoldsNothing, text_of}
+use Rattle.qpack_decoding.specs.Receiving.{Receives, AsksToReceive}
+use Rattle.qpack_shared.specs.Unsent.{LacksRoom, KeepsRoom, Drops}
 use Rattle.h3_qpack_c.specs.declared.answers.Decoding.{Decoding}
 use Rattle.h3_qpack_c.specs.declared.answers.Prefixed.{Prefixed}
 use Rattle.h3_qpack_c.specs.declared.answers.Received.{Received}

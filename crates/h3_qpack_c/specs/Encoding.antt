@@ -4,12 +4,12 @@ use Rattle.std.specs.Prelude.{Result, Ok, Err}
 use Rattle.std.specs.Option.{IfSome}
 use Rattle.qpack_spec.specs.Field.{FieldLine}
 use Rattle.qpack_spec.specs.Instruction.{DecoderInstruction}
-use Rattle.qpack_ends.specs.declared.encoder.EncodingError.{EncodingError}
-use Rattle.qpack_ends.specs.declared.encoder.EncodingError.TheVariants.{DecoderStream}
-use Rattle.qpack_ends.specs.declared.encoder.EncoderSettings.{EncoderSettings}
-use Rattle.qpack_ends.specs.Encoders.{Starts, Encodes, ReceivesBytes, SetsCapacity, Shrinks, TakesPeer}
-use Rattle.qpack_ends.specs.Hearing.{Receives}
-use Rattle.qpack_ends.specs.Wishes.{EncodesAsWished}
+use Rattle.qpack_encoding.specs.declared.encoder.EncodingError.{EncodingError}
+use Rattle.qpack_encoding.specs.declared.encoder.EncodingError.TheVariants.{DecoderStream}
+use Rattle.qpack_encoding.specs.declared.encoder.EncoderSettings.{EncoderSettings}
+use Rattle.qpack_encoding.specs.Encoders.{Starts, Encodes, ReceivesBytes, SetsCapacity, Shrinks, TakesPeer}
+use Rattle.qpack_encoding.specs.Hearing.{Receives}
+use Rattle.qpack_encoding.specs.Wishes.{EncodesAsWished}
 use Rattle.qpack_codec.specs.declared.encoder.choices.Wish.{Wish}
 use Rattle.h3_qpack_c.specs.declared.answers.Encoded.{Encoded}
 use Rattle.h3_qpack_c.specs.declared.answers.Received.{Received}

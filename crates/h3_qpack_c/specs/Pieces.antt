@@ -1,15 +1,15 @@
 -- What the calls over sections that come in pieces do in C.
 use Rattle.std.specs.Prelude.{◌≡◌, ◌-◌, ℕ, Bool, List, length, Option, Some, Result, Ok, Err}
-use Rattle.qpack_ends.specs.declared.decoder.DecodingError.{DecodingError}
-use Rattle.qpack_ends.specs.declared.decoder.DecodingError.TheVariants.{Section, Memory}
-use Rattle.qpack_ends.specs.declared.section.SectionError.TheVariants.{Line}
-use Rattle.qpack_ends.specs.declared.section.reader.Progress.{Progress}
-use Rattle.qpack_ends.specs.declared.section.reader.Progress.TheVariants.{Waits, Prefix, Blocked, Field, Ends}
-use Rattle.qpack_ends.specs.Decoders.{end_of}
-use Rattle.qpack_ends.specs.FieldSections.{GrowsWithin, HoldsNothing}
-use Rattle.qpack_ends.specs.PieceDecoders.{ReadsPiece, NeedsMemoryForPiece, answer_to_next, next_here}
-use Rattle.qpack_ends.specs.Pieces.{KeepsWithin, fresh}
-use Rattle.qpack_ends.specs.Unsent.{KeepsRoom}
+use Rattle.qpack_decoding.specs.declared.decoder.DecodingError.{DecodingError}
+use Rattle.qpack_decoding.specs.declared.decoder.DecodingError.TheVariants.{Section, Memory}
+use Rattle.qpack_decoding.specs.declared.section.SectionError.TheVariants.{Line}
+use Rattle.qpack_decoding.specs.declared.section.reader.Progress.{Progress}
+use Rattle.qpack_decoding.specs.declared.section.reader.Progress.TheVariants.{Waits, Prefix, Blocked, Field, Ends}
+use Rattle.qpack_decoding.specs.Decoders.{end_of}
+use Rattle.qpack_decoding.specs.FieldSections.{GrowsWithin, HoldsNothing}
+use Rattle.qpack_decoding.specs.PieceDecoders.{ReadsPiece, NeedsMemoryForPiece, answer_to_next, next_here}
+use Rattle.qpack_decoding.specs.Pieces.{KeepsWithin, fresh}
+use Rattle.qpack_shared.specs.Unsent.{KeepsRoom}
 use Rattle.h3_qpack_c.specs.declared.answers.Piece.{Piece}
 use Rattle.h3_qpack_c.specs.declared.decoder.State.{State}
 use Rattle.h3_qpack_c.specs.declared.reader.State.{State as Reader}

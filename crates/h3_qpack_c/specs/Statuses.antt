@@ -1,15 +1,15 @@
 -- What calls return in C: 0, a number below it if the connection goes on after the error, and the code that ends the
 -- connection above it (RFC 9204, section 6, and RFC 9114, section 8.1).
 use Rattle.std.specs.Prelude.{ℤ, pos, negsuc, Result, Ok, Err, ⊤}
-use Rattle.qpack_ends.specs.declared.encoder.EncodingError.{EncodingError}
-use Rattle.qpack_ends.specs.declared.encoder.EncodingError.TheVariants.{DecoderStream, CapacityTooLarge}
-use Rattle.qpack_ends.specs.declared.encoder.EncodingError.TheVariants as encoding
-use Rattle.qpack_ends.specs.declared.decoder.DecodingError.{DecodingError}
-use Rattle.qpack_ends.specs.declared.decoder.DecodingError.TheVariants as decoding
-use Rattle.qpack_ends.specs.declared.section.SectionError.{SectionError}
-use Rattle.qpack_ends.specs.declared.section.SectionError.TheVariants as section
-use Rattle.qpack_ends.specs.declared.section.LineError.{LineError}
-use Rattle.qpack_ends.specs.declared.section.LineError.TheVariants as line
+use Rattle.qpack_encoding.specs.declared.encoder.EncodingError.{EncodingError}
+use Rattle.qpack_encoding.specs.declared.encoder.EncodingError.TheVariants.{DecoderStream, CapacityTooLarge}
+use Rattle.qpack_encoding.specs.declared.encoder.EncodingError.TheVariants as encoding
+use Rattle.qpack_decoding.specs.declared.decoder.DecodingError.{DecodingError}
+use Rattle.qpack_decoding.specs.declared.decoder.DecodingError.TheVariants as decoding
+use Rattle.qpack_decoding.specs.declared.section.SectionError.{SectionError}
+use Rattle.qpack_decoding.specs.declared.section.SectionError.TheVariants as section
+use Rattle.qpack_decoding.specs.declared.section.LineError.{LineError}
+use Rattle.qpack_decoding.specs.declared.section.LineError.TheVariants as line
 
 -- done
 abbrev pub done : ℤ

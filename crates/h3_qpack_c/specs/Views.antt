@@ -3,7 +3,7 @@ use denote.RawPtr.{Ptr}
 use Rattle.std.specs.Prelude.{◌≡◌, ℕ, ℤ, pos, negsuc, length, slice_get, Option, None, Some}
 use Rattle.qpack_spec.specs.Field.{FieldLine}
 use Rattle.qpack_spec.specs.StaticTable.{static_index, static_name_index}
-use Rattle.qpack_ends.specs.FieldSections.{SectionView, begins_at}
+use Rattle.qpack_decoding.specs.FieldSections.{SectionView, begins_at}
 use Rattle.h3_qpack_c.specs.declared.views.View.{View}
 use Rattle.h3_qpack_c.specs.Crossing.{flags_of}
 use Rattle.h3_qpack_c.specs.Statuses.{done, invalid}

@@ -3,9 +3,9 @@
 ghost use Rattle.h3_qpack_c.specs.declared.decoder.State.{State};
 ghost use Rattle.std.specs.Prelude.{◌≡◌, ◌<◌, ◌≤◌, ◌^◌, length, slice_get, IfOk, IfErr, [], ℕ};
 ghost use Rattle.qpack_spec.specs.Table.{insert_count};
-ghost use Rattle.qpack_ends.specs.Blocked.{ready};
-ghost use Rattle.qpack_ends.specs.Decoders.{end_of, FailsSettings, blocked_streams, with_report};
-ghost use Rattle.qpack_ends.specs.declared.decoder.DecoderSettings.{DecoderSettings};
+ghost use Rattle.qpack_decoding.specs.Blocked.{ready};
+ghost use Rattle.qpack_decoding.specs.Decoders.{end_of, FailsSettings, blocked_streams, with_report};
+ghost use Rattle.qpack_decoding.specs.declared.decoder.DecoderSettings.{DecoderSettings};
 ghost use Rattle.h3_qpack_c.specs.Crossing.{Makes, Gives, GivesAll, StoresOption};
 ghost use Rattle.h3_qpack_c.specs.Decoding.{DecodesTo, ReceivesTo, CancelsTo, TakesFront, InRange};
 ghost use Rattle.h3_qpack_c.specs.Decoding.{SaysPrefix, of_waiting, taken_of};

@@ -2,14 +2,14 @@
 
 ghost use Rattle.h3_qpack_c.specs.declared.encoder.State.{State};
 ghost use Rattle.std.specs.Prelude.{◌≡◌, ◌<◌, ◌≤◌, ◌^◌, [], pos, length, map, IfOk, IfErr, ℤ};
-ghost use Rattle.qpack_ends.specs.declared.decoder.SettingsError.TheVariants.{CapacityTooLarge};
+ghost use Rattle.qpack_shared.specs.declared.settings.SettingsError.TheVariants.{CapacityTooLarge};
 ghost use Rattle.h3_qpack_c.specs.Crossing.{line_of_lent, wish_of_lent, copied, told_of_copy, Makes};
 ghost use Rattle.h3_qpack_c.specs.Encoding.{EncodesTo, HearsTo, SetsCapacityTo, TakesStream, told_of_hearing};
 ghost use Rattle.h3_qpack_c.specs.Encoding.{IsNew, KeepsNew, ShrinksTo, TakesPeerTo};
 ghost use Rattle.h3_qpack_c.specs.Crossing.{StoresOption};
-ghost use Rattle.qpack_ends.specs.Encoders.{pending_capacity};
-ghost use Rattle.qpack_ends.specs.declared.encoder.EncoderSettings.{EncoderSettings};
-ghost use Rattle.qpack_ends.specs.Risk.{streams_at_risk};
+ghost use Rattle.qpack_encoding.specs.Encoders.{pending_capacity};
+ghost use Rattle.qpack_encoding.specs.declared.encoder.EncoderSettings.{EncoderSettings};
+ghost use Rattle.qpack_encoding.specs.Risk.{streams_at_risk};
 
 use crate::answers::{Encoded, Received, Written};
 use crate::fields::{Field, copy_front, list_size, write};

@@ -4,11 +4,11 @@ ghost use Rattle.std.specs.Prelude.{◌≡◌, ◌⊎◌, ◌≤◌, ◌*◌, �
 ghost use Rattle.qpack_spec.specs.StrictReading.{strict_reading};
 ghost use Rattle.qpack_spec.specs.Table.{empty_table, window};
 ghost use Rattle.qpack_wire.specs.Memory.{AsksSectionForMemory};
-ghost use Rattle.qpack_ends.specs.FieldSections.{HoldsNothing};
-ghost use Rattle.qpack_ends.specs.Sections.{ReadsSection};
-ghost use Rattle.qpack_ends.specs.declared.section.SectionError.TheVariants.{Memory};
+ghost use Rattle.qpack_decoding.specs.FieldSections.{HoldsNothing};
+ghost use Rattle.qpack_decoding.specs.Sections.{ReadsSection};
+ghost use Rattle.qpack_decoding.specs.declared.section.SectionError.TheVariants.{Memory};
 ghost use Rattle.h3_qpack_c.specs.Alone.{DecodesAlone, GivesAlone, told_of_refusal};
-ghost use Rattle.qpack_ends.specs.Encoders.{written_alone};
+ghost use Rattle.qpack_encoding.specs.Encoders.{written_alone};
 ghost use Rattle.h3_qpack_c.specs.Crossing.{line_of_lent, copied, told_of_copy};
 ghost use Rattle.h3_qpack_c.specs.Statuses.{no_memory};
 

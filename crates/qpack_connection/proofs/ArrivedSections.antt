@@ -22,13 +22,13 @@ use Rattle.qpack_safety.specs.Refines.{Agrees}
 use Rattle.qpack_safety.specs.TwoEnds.{EndStep, after_end_steps}
 use Rattle.qpack_safety.proofs.Invariant.{Invariant, KeepsBlock, sound_received, total_window}
 use Rattle.qpack_safety.proofs.TwoEnds.{holds_started, holds_behind}
-use Rattle.qpack_ends.specs.declared.section.Reading.TheVariants as reading
+use Rattle.qpack_decoding.specs.declared.section.Reading.TheVariants as reading
 use Rattle.qpack_connection.specs.ArrivedSections.{SectionsArrive}
 use Rattle.qpack_connection.specs.Connections.{SentSection, Connection, Call, Encode, SetCapacity, Shrink, Hear, Receive}
 use Rattle.qpack_connection.specs.Connections.{Decode, Cancel, Step, Run, next_of}
-use Rattle.qpack_ends.specs.Decoders as decoders
+use Rattle.qpack_decoding.specs.Decoders as decoders
 use Rattle.qpack_connection.specs.RefinedConnections.{received_of, RefinesSection, RefinesSession}
-use Rattle.qpack_ends.specs.Receiving as receiving
+use Rattle.qpack_decoding.specs.Receiving as receiving
 use Rattle.qpack_connection.specs.TwoEndsHeadline.{AllFit}
 use Rattle.qpack_connection.proofs.KeptDecoderCalls.{cut_behind}
 use Rattle.qpack_connection.proofs.KeptEncoderCalls.{IsKept}

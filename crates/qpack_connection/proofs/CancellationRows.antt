@@ -1,10 +1,10 @@
 -- The headline of two ends on cancellations, on errors, and on what is kept after an event that changes nothing: short
 -- runs, each of which is right or is refused for one thing.
 use Rattle.std.proofs.Common.{ℕ, ◌+◌, ◌^◌, true, false, List, [], ◌∷◌, Ok, Err, arith}
-use Rattle.qpack_ends.specs.declared.decoder.DecodingError.TheVariants as decoding
-use Rattle.qpack_ends.specs.declared.encoder.EncodingError.TheVariants as encoding
-use Rattle.qpack_ends.specs.declared.section.LineError.TheVariants.{TooLarge, PastRequired}
-use Rattle.qpack_ends.specs.declared.section.SectionError.TheVariants.{TooLong, Line}
+use Rattle.qpack_decoding.specs.declared.decoder.DecodingError.TheVariants as decoding
+use Rattle.qpack_encoding.specs.declared.encoder.EncodingError.TheVariants as encoding
+use Rattle.qpack_decoding.specs.declared.section.LineError.TheVariants.{TooLarge, PastRequired}
+use Rattle.qpack_decoding.specs.declared.section.SectionError.TheVariants.{TooLong, Line}
 use Rattle.qpack_connection.specs.declared.connection.Event.{Event}
 use Rattle.qpack_connection.specs.declared.connection.Event.TheVariants as event
 use Rattle.qpack_connection.specs.declared.connection.Outcome.{Outcome}

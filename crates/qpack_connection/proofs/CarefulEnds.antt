@@ -7,27 +7,27 @@ use Rattle.qpack_spec.specs.Field.{FieldLine}
 use Rattle.qpack_spec.specs.Instruction.{DecoderInstruction}
 use Rattle.qpack_spec.specs.Table.{Table, without_references, with_capacity}
 use Rattle.qpack_spec.specs.Window.{TableRefusal}
-use Rattle.qpack_ends.specs.declared.encoder.EncoderSettings.{EncoderSettings}
-use Rattle.qpack_ends.specs.declared.encoder.EncodingError.{EncodingError}
-use Rattle.qpack_ends.specs.declared.encoder.EncodingError.TheVariants.{DecoderStream, CapacityTooLarge}
-use Rattle.qpack_ends.specs.declared.encoder.EncodingError.TheVariants.{EntriesHeld, NoStream, Memory}
-use Rattle.qpack_ends.specs.declared.encoder.EncodingError.TheVariants.{MaximumChanged, LimitLowered, MaximumTooLarge}
-use Rattle.qpack_ends.specs.Encoders.{EncodingEnd, IsSound, IsUnused, begun, begun_with, told_if, is_alone, waiting}
-use Rattle.qpack_ends.specs.Encoders.{with_section, StopsForMemory, SetsCapacity, Shrinks}
-use Rattle.qpack_ends.specs.Encoders.{WritesSection, Encodes, ReceivesBytes}
-use Rattle.qpack_ends.specs.Hearing.{Receives}
+use Rattle.qpack_encoding.specs.declared.encoder.EncoderSettings.{EncoderSettings}
+use Rattle.qpack_encoding.specs.declared.encoder.EncodingError.{EncodingError}
+use Rattle.qpack_encoding.specs.declared.encoder.EncodingError.TheVariants.{DecoderStream, CapacityTooLarge}
+use Rattle.qpack_encoding.specs.declared.encoder.EncodingError.TheVariants.{EntriesHeld, NoStream, Memory}
+use Rattle.qpack_encoding.specs.declared.encoder.EncodingError.TheVariants.{MaximumChanged, LimitLowered, MaximumTooLarge}
+use Rattle.qpack_encoding.specs.Encoders.{EncodingEnd, IsSound, IsUnused, begun, begun_with, told_if, is_alone, waiting}
+use Rattle.qpack_encoding.specs.Encoders.{with_section, StopsForMemory, SetsCapacity, Shrinks}
+use Rattle.qpack_encoding.specs.Encoders.{WritesSection, Encodes, ReceivesBytes}
+use Rattle.qpack_encoding.specs.Hearing.{Receives}
 use Rattle.qpack_connection.proofs.CarefulTables.{IsCarefulTable, careful_first}
 use Rattle.qpack_connection.proofs.CarefulTables.{careful_section, careful_given_up, careful_capacity}
 use Rattle.qpack_connection.proofs.CarefulTables.{careful_hearing, careful_risk}
-use Rattle.qpack_ends.proofs.Encoders.{told_still, received_sound, refused_sound}
+use Rattle.qpack_encoding.proofs.Encoders.{told_still, received_sound, refused_sound}
 use Rattle.qpack_connection.proofs.KeptConnections.{sound_begun, sound_section, sound_set, sound_waiting}
 use Rattle.qpack_connection.proofs.UnnamedTables.{committed_unnamed, given_up_unnamed, capacity_unnamed, hearing_unnamed}
 use Rattle.qpack_connection.proofs.FirstEnds.{sound_first}
 use Rattle.std.specs.Prelude.{◌≤◌, ◌||◌, nat_lt}
 use Rattle.qpack_spec.specs.Table.{has_number}
-use Rattle.qpack_ends.specs.Risk.{streams_at_risk}
-use Rattle.qpack_ends.proofs.Risk.{none_yet, same_at_risk, risk_within}
-use Rattle.qpack_ends.proofs.LimitedChoices.{given_up_keeps, capacity_keeps, committed_known, committed_open}
+use Rattle.qpack_encoding.specs.Risk.{streams_at_risk}
+use Rattle.qpack_encoding.proofs.Risk.{none_yet, same_at_risk, risk_within}
+use Rattle.qpack_encoding.proofs.LimitedChoices.{given_up_keeps, capacity_keeps, committed_known, committed_open}
 
 -- ---- between calls
 

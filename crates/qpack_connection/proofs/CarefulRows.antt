@@ -13,11 +13,11 @@ use Rattle.qpack_spec.proofs.Computing.{computed}
 use Rattle.qpack_rules.specs.LawfulDecoders.{KeepsNeeded, IsQuiet, IsToBeInserted}
 use Rattle.qpack_codec.specs.declared.encoder.choices.Wish.{Wish}
 use Rattle.qpack_codec.specs.declared.encoder.choices.Wish.TheVariants.{Insert}
-use Rattle.qpack_ends.specs.Encoders.{EncodingEnd, StopsTelling, begun, is_full}
-use Rattle.qpack_ends.specs.Risk.{streams_at_risk}
-use Rattle.qpack_ends.specs.declared.encoder.EncoderSettings.{EncoderSettings}
-use Rattle.qpack_ends.specs.declared.encoder.EncodingError.{EncodingError}
-use Rattle.qpack_ends.specs.declared.encoder.EncodingError.TheVariants as encoding
+use Rattle.qpack_encoding.specs.Encoders.{EncodingEnd, StopsTelling, begun, is_full}
+use Rattle.qpack_encoding.specs.Risk.{streams_at_risk}
+use Rattle.qpack_encoding.specs.declared.encoder.EncoderSettings.{EncoderSettings}
+use Rattle.qpack_encoding.specs.declared.encoder.EncodingError.{EncodingError}
+use Rattle.qpack_encoding.specs.declared.encoder.EncodingError.TheVariants as encoding
 use Rattle.qpack_connection.specs.LawfulDecoders.{Call, Encode, SetCapacity, Run, AllCareful, AllAnswer}
 
 -- ---- with any peer

@@ -26,8 +26,8 @@ use Rattle.qpack_spec.proofs.Positions.{eviction_count_live}
 use Rattle.qpack_spec.proofs.Readings.{greatest_bound}
 use Rattle.qpack_spec.proofs.Results.{bind_ok, ok_is}
 use Rattle.qpack_spec.proofs.Windows.{Sound, sound_start, sound_grown, leads_sound}
-use Rattle.qpack_ends.specs.Risk.{streams_at_risk}
-use Rattle.qpack_ends.proofs.Risk.{heard_within}
+use Rattle.qpack_encoding.specs.Risk.{streams_at_risk}
+use Rattle.qpack_encoding.proofs.Risk.{heard_within}
 use Rattle.qpack_safety.proofs.Encoding.{same_committed, kept_committed, blocked_committed}
 use Rattle.qpack_safety.proofs.Fronts.{length_filter}
 use Rattle.qpack_safety.proofs.Hearing.{kept_opened, kept_raised}

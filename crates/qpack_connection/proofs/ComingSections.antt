@@ -7,18 +7,18 @@ use Rattle.std.proofs.Math.Seq.{drop-append_seam}
 use Rattle.qpack_spec.specs.Field.{FieldLine}
 use Rattle.qpack_spec.specs.StrictReading.{LineFault, SectionFault, LinesUnder, TooLong, strict_reading}
 use Rattle.qpack_spec.specs.Window.{Window, window_insert_count}
-use Rattle.qpack_ends.specs.Missing.{line_missing, prefix_missing}
-use Rattle.qpack_ends.specs.PieceLaws.{reading_on, ReadsOrWaits, LeavesReading}
-use Rattle.qpack_ends.specs.Pieces.{ReaderView, IsReading, Next, More, Opens, Stays, Gives, Over, Fails, Answers}
-use Rattle.qpack_ends.specs.Pieces.{fresh, opened, behind_line, goes_on, line_at, lines_under, line_says, prefix_says}
-use Rattle.qpack_ends.specs.Pieces.{next_prefix, next_line, next_behind, next_of, most_read}
-use Rattle.qpack_ends.specs.SectionPrefixes.{strict_prefix}
-use Rattle.qpack_ends.specs.declared.section.SectionPrefix.{SectionPrefix}
-use Rattle.qpack_ends.specs.declared.section.reader.Progress.{Progress}
-use Rattle.qpack_ends.specs.declared.section.reader.Progress.TheVariants as progress
-use Rattle.qpack_ends.proofs.PieceSteps.{no_prefix_waits}
-use Rattle.qpack_ends.proofs.PieceWindows.{pieces_leave}
-use Rattle.qpack_ends.proofs.PiecesInTurn.{IsOn, GoesOn, next_goes_on, whole_is}
+use Rattle.qpack_decoding.specs.Missing.{line_missing, prefix_missing}
+use Rattle.qpack_decoding.specs.PieceLaws.{reading_on, ReadsOrWaits, LeavesReading}
+use Rattle.qpack_decoding.specs.Pieces.{ReaderView, IsReading, Next, More, Opens, Stays, Gives, Over, Fails, Answers}
+use Rattle.qpack_decoding.specs.Pieces.{fresh, opened, behind_line, goes_on, line_at, lines_under, line_says, prefix_says}
+use Rattle.qpack_decoding.specs.Pieces.{next_prefix, next_line, next_behind, next_of, most_read}
+use Rattle.qpack_decoding.specs.SectionPrefixes.{strict_prefix}
+use Rattle.qpack_decoding.specs.declared.section.SectionPrefix.{SectionPrefix}
+use Rattle.qpack_decoding.specs.declared.section.reader.Progress.{Progress}
+use Rattle.qpack_decoding.specs.declared.section.reader.Progress.TheVariants as progress
+use Rattle.qpack_decoding.proofs.PieceSteps.{no_prefix_waits}
+use Rattle.qpack_decoding.proofs.PieceWindows.{pieces_leave}
+use Rattle.qpack_decoding.proofs.PiecesInTurn.{IsOn, GoesOn, next_goes_on, whole_is}
 use Rattle.qpack_connection.specs.Connections.{SentSection}
 use Rattle.qpack_connection.specs.LawfulEncoders.{Coming, begins}
 

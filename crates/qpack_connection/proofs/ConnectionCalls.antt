@@ -19,27 +19,27 @@ use Rattle.qpack_connection.specs.declared.connection.Outcome.TheVariants as out
 use Rattle.qpack_connection.specs.declared.connection.Skip.{Skip}
 use Rattle.qpack_connection.specs.declared.connection.Skip.TheVariants.{StreamCancelled}
 use Rattle.qpack_connection.specs.declared.connection.fields.OwnedFieldLine.{OwnedFieldLine}
-use Rattle.qpack_ends.specs.FieldSections.{SectionView}
-use Rattle.qpack_ends.specs.declared.decoder.DecodingError.{DecodingError}
-use Rattle.qpack_ends.specs.declared.decoder.DecodingError.TheVariants as decoding
-use Rattle.qpack_ends.specs.declared.encoder.EncodingError.{EncodingError}
-use Rattle.qpack_ends.specs.declared.encoder.EncodingError.TheVariants as encoding
-use Rattle.qpack_ends.specs.declared.encoder_stream.EncoderStreamError.{EncoderStreamError}
-use Rattle.qpack_ends.specs.declared.section.Reading.{Reading}
-use Rattle.qpack_ends.specs.declared.section.Reading.TheVariants as reading
+use Rattle.qpack_decoding.specs.FieldSections.{SectionView}
+use Rattle.qpack_decoding.specs.declared.decoder.DecodingError.{DecodingError}
+use Rattle.qpack_decoding.specs.declared.decoder.DecodingError.TheVariants as decoding
+use Rattle.qpack_encoding.specs.declared.encoder.EncodingError.{EncodingError}
+use Rattle.qpack_encoding.specs.declared.encoder.EncodingError.TheVariants as encoding
+use Rattle.qpack_decoding.specs.declared.encoder_stream.EncoderStreamError.{EncoderStreamError}
+use Rattle.qpack_decoding.specs.declared.section.Reading.{Reading}
+use Rattle.qpack_decoding.specs.declared.section.Reading.TheVariants as reading
 use Rattle.qpack_connection.specs.ConnectionEvents.{connection_of, Shows, IsReached, HasBytes, decoded_with}
 use Rattle.qpack_connection.specs.ConnectionEvents.{SendsAmong, decode_skip, cancel_skip, Makes, Goes}
 use Rattle.qpack_connection.specs.Connections.{Wire, SentSection, Connection, HearsOn, Encode, SetCapacity, Shrink}
 use Rattle.qpack_connection.specs.Connections.{with_encoder, with_decoder, with_section, with_reading}
 use Rattle.qpack_connection.specs.Connections.{with_cancelled, behind_received}
-use Rattle.qpack_ends.specs.Decoders.{DecodingEnd, DecoderView, end_of, IsTaken, Decodes, Cancels, EndsReceiving}
-use Rattle.qpack_ends.specs.Decoders.{AsksBehind, AsksToDecode, NeedsMemoryBehind, NeedsMemoryToDecode}
-use Rattle.qpack_ends.specs.FieldSections.{SectionView}
-use Rattle.qpack_ends.specs.Decoders as decoders
-use Rattle.qpack_ends.specs.Encoders.{EncodingEnd, SetsCapacity, Shrinks}
-use Rattle.qpack_ends.specs.Encoders as encoders
-use Rattle.qpack_ends.specs.Hearing as hearing
-use Rattle.qpack_ends.specs.Receiving as receiving
+use Rattle.qpack_decoding.specs.Decoders.{DecodingEnd, DecoderView, end_of, IsTaken, Decodes, Cancels, EndsReceiving}
+use Rattle.qpack_decoding.specs.Decoders.{AsksBehind, AsksToDecode, NeedsMemoryBehind, NeedsMemoryToDecode}
+use Rattle.qpack_decoding.specs.FieldSections.{SectionView}
+use Rattle.qpack_decoding.specs.Decoders as decoders
+use Rattle.qpack_encoding.specs.Encoders.{EncodingEnd, SetsCapacity, Shrinks}
+use Rattle.qpack_encoding.specs.Encoders as encoders
+use Rattle.qpack_encoding.specs.Hearing as hearing
+use Rattle.qpack_decoding.specs.Receiving as receiving
 use Rattle.qpack_connection.specs.OwnedLines.{lines_of}
 use Rattle.qpack_connection.proofs.FramedEncoderCalls as encoder
 use Rattle.qpack_connection.proofs.FramedDecoderCalls as decoder

@@ -5,7 +5,7 @@ use Rattle.qpack_connection.specs.declared.connection.ConnectionSettings.{Connec
 use Rattle.qpack_connection.specs.declared.connection.Event.{Event}
 use Rattle.qpack_connection.specs.declared.connection.Outcome.{Outcome}
 use Rattle.qpack_connection.specs.declared.connection.Outcome.TheVariants as outcome
-use Rattle.qpack_ends.specs.declared.decoder.DecoderSettings.{DecoderSettings}
+use Rattle.qpack_decoding.specs.declared.decoder.DecoderSettings.{DecoderSettings}
 use Rattle.qpack_connection.specs.ConnectionEvents.{Shows, BeginsWith, IsReached, call_of, Makes, MakesOne}
 use Rattle.qpack_connection.specs.ConnectionEvents.{Goes, GoesAll}
 use Rattle.qpack_connection.specs.ConnectionRuns.{MakesSo, AnswersEvent, StepsAll, behind_call, calls_of}

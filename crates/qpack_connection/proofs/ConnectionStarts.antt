@@ -2,14 +2,14 @@
 use Rattle.std.proofs.Common.{◌≡◌, ℕ, List, [], refl, ap, arith}
 use Rattle.qpack_rules.specs.Session.{RequestStream}
 use Rattle.qpack_connection.specs.declared.connection.ConnectionSettings.{ConnectionSettings}
-use Rattle.qpack_ends.specs.declared.decoder.DecoderSettings.{DecoderSettings}
-use Rattle.qpack_ends.specs.declared.encoder.EncoderSettings.{EncoderSettings}
+use Rattle.qpack_decoding.specs.declared.decoder.DecoderSettings.{DecoderSettings}
+use Rattle.qpack_encoding.specs.declared.encoder.EncoderSettings.{EncoderSettings}
 use Rattle.qpack_connection.specs.ConnectionEvents.{connection_of, encoder_settings, BeginsWith}
 use Rattle.qpack_connection.specs.Connections.{SentSection}
-use Rattle.qpack_ends.specs.Decoders.{DecodingEnd}
-use Rattle.qpack_ends.specs.Decoders as decoders
-use Rattle.qpack_ends.specs.Encoders.{EncodingEnd}
-use Rattle.qpack_ends.specs.Encoders as encoders
+use Rattle.qpack_decoding.specs.Decoders.{DecodingEnd}
+use Rattle.qpack_decoding.specs.Decoders as decoders
+use Rattle.qpack_encoding.specs.Encoders.{EncodingEnd}
+use Rattle.qpack_encoding.specs.Encoders as encoders
 use Rattle.qpack_connection.proofs.ConnectionCalls.{wire_is}
 use Rattle.qpack_connection.proofs.FramedEncoderCalls as encoder
 use Rattle.qpack_connection.proofs.FramedDecoderCalls as decoder

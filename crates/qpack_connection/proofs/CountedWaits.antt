@@ -4,8 +4,9 @@ use Rattle.std.proofs.Common.{refl, ap, ◌∙◌, arith}
 use Rattle.std.proofs.lemmas.Bool.{leb-true, ltb-true, lt-ltb}
 use Rattle.std.specs.Option.{IfSome}
 use Rattle.std.specs.Prelude.{◌&&◌, filter, nat_eq, nat_le, nat_lt, not}
-use Rattle.qpack_ends.specs.declared.blocked.BlockedStream.{BlockedStream}
-use Rattle.qpack_ends.specs.Blocked.{blocked_among, without, comes_before, in_order, with_blocked}
+use Rattle.qpack_shared.specs.declared.streams.BlockedStream.{BlockedStream}
+use Rattle.qpack_shared.specs.Streams.{without}
+use Rattle.qpack_decoding.specs.Blocked.{blocked_among, comes_before, in_order, with_blocked}
 use Rattle.qpack_connection.specs.Headline.{others, known_to_wait}
 
 -- ---- how many of a list are so

@@ -6,11 +6,11 @@ use Rattle.std.specs.Option.{IsSome}
 use Rattle.std.specs.Prelude.{nat_eq}
 use Rattle.qpack_spec.specs.Table.{Table}
 use Rattle.qpack_spec.specs.Window.{greatest_capacity}
-use Rattle.qpack_ends.specs.declared.encoder.EncoderSettings.{EncoderSettings}
-use Rattle.qpack_ends.specs.declared.encoder.EncodingError.{EncodingError}
-use Rattle.qpack_ends.specs.Encoders.{EncodingEnd, Starts, IsUnused, IsSound, IsToBeTold, begun, WritesSection, WritesAlone}
-use Rattle.qpack_ends.specs.Encoders.{ReceivesBytes, Encodes, SetsIt, first_capacity}
-use Rattle.qpack_ends.specs.Encoders as encoders
+use Rattle.qpack_encoding.specs.declared.encoder.EncoderSettings.{EncoderSettings}
+use Rattle.qpack_encoding.specs.declared.encoder.EncodingError.{EncodingError}
+use Rattle.qpack_encoding.specs.Encoders.{EncodingEnd, Starts, IsUnused, IsSound, IsToBeTold, begun, WritesSection, WritesAlone}
+use Rattle.qpack_encoding.specs.Encoders.{ReceivesBytes, Encodes, SetsIt, first_capacity}
+use Rattle.qpack_encoding.specs.Encoders as encoders
 
 -- the first capacity is within the maximum
 first_wanted : (d : EncodingEnd) (n most : ℕ) (b : Bool) → n ≤ most → most < 2 ^ 30 → d.table.agreed_max ≡ Some most

@@ -7,10 +7,10 @@ use Rattle.std.specs.Prelude.{⊤, nat_le}
 use Rattle.qpack_spec.specs.Field.{FieldLine}
 use Rattle.qpack_spec.specs.Table.{Table, empty_table, insert_count}
 use Rattle.qpack_safety.specs.TwoEnds.{EndStep}
-use Rattle.qpack_ends.specs.Decoders.{DecodingEnd, EndsReceiving}
-use Rattle.qpack_ends.specs.Decoders as decoders
-use Rattle.qpack_ends.specs.Receiving.{StreamView, ReceivesMore}
-use Rattle.qpack_ends.specs.declared.encoder_stream.EncoderStreamError.{EncoderStreamError}
+use Rattle.qpack_decoding.specs.Decoders.{DecodingEnd, EndsReceiving}
+use Rattle.qpack_decoding.specs.Decoders as decoders
+use Rattle.qpack_decoding.specs.Receiving.{StreamView, ReceivesMore}
+use Rattle.qpack_decoding.specs.declared.encoder_stream.EncoderStreamError.{EncoderStreamError}
 use Rattle.qpack_connection.specs.ConnectionEvents.{Shows}
 use Rattle.qpack_connection.specs.Connections.{Wire, Connection, IsNew, Call, Encode, Receive, Step, Run, ReceivesOn}
 use Rattle.qpack_connection.specs.Connections.{next_of}

@@ -7,13 +7,13 @@ use Rattle.qpack_spec.specs.Field.{FieldLine}
 use Rattle.qpack_spec.specs.Instruction.{Acknowledgment, Cancellation, written_decoder_instruction}
 use Rattle.qpack_spec.specs.StrictReading.{StrictReading, Read, Blocked, Refused}
 use Rattle.qpack_codec.specs.Receiving.{written_report}
-use Rattle.qpack_ends.specs.declared.decoder.DecodingError.{DecodingError}
-use Rattle.qpack_ends.specs.declared.decoder.DecodingError.TheVariants as decoding
-use Rattle.qpack_ends.specs.declared.section.Reading.{Reading}
-use Rattle.qpack_ends.specs.declared.section.Reading.TheVariants as reading
-use Rattle.qpack_ends.specs.Decoders.{DecodingEnd, unreported, with_report, report_before, IsTaken, acknowledged}
-use Rattle.qpack_ends.specs.Decoders.{GivesReading, StopsBehindReport}
-use Rattle.qpack_ends.specs.Decoders.{StopsForMemory, StopsDecoding, IsNotAnswered, Checks, Decodes, Cancels}
+use Rattle.qpack_decoding.specs.declared.decoder.DecodingError.{DecodingError}
+use Rattle.qpack_decoding.specs.declared.decoder.DecodingError.TheVariants as decoding
+use Rattle.qpack_decoding.specs.declared.section.Reading.{Reading}
+use Rattle.qpack_decoding.specs.declared.section.Reading.TheVariants as reading
+use Rattle.qpack_decoding.specs.Decoders.{DecodingEnd, unreported, with_report, report_before, IsTaken, acknowledged}
+use Rattle.qpack_decoding.specs.Decoders.{GivesReading, StopsBehindReport}
+use Rattle.qpack_decoding.specs.Decoders.{StopsForMemory, StopsDecoding, IsNotAnswered, Checks, Decodes, Cancels}
 
 -- the end with other bytes that are to be sent
 abbrev pub with_unsent : List ℕ → DecodingEnd → DecodingEnd

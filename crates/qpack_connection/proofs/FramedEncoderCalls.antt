@@ -7,15 +7,15 @@ use Rattle.qpack_spec.specs.Field.{FieldLine}
 use Rattle.qpack_spec.specs.Instruction.{SetCapacity, written_encoder_instruction, coded_encoder_instructions}
 use Rattle.qpack_spec.specs.Chosen.{chosen_rule}
 use Rattle.qpack_spec.specs.Text.{WhereShorter}
-use Rattle.qpack_ends.specs.declared.encoder.EncodingError.{EncodingError}
-use Rattle.qpack_ends.specs.declared.encoder.EncodingError.TheVariants.{Memory}
+use Rattle.qpack_encoding.specs.declared.encoder.EncodingError.{EncodingError}
+use Rattle.qpack_encoding.specs.declared.encoder.EncodingError.TheVariants.{Memory}
 use Rattle.qpack_spec.specs.Table.{Table, with_capacity}
 use Rattle.qpack_spec.specs.Window.{TableRefusal, DoesNotFit}
-use Rattle.qpack_ends.specs.Encoders.{EncodingEnd, begun, begun_with, told_if, waiting, WritesSection, WritesAlone}
-use Rattle.qpack_ends.specs.Encoders.{GivesUpSection, Shrinks}
-use Rattle.qpack_ends.specs.Encoders.{AsksFirst, StopsForMemory, Encodes, SetsIt, SetsCapacity, TellsCapacity}
-use Rattle.qpack_ends.specs.Encoders.{IsNoCapacity}
-use Rattle.qpack_ends.specs.Encoders.{Checks}
+use Rattle.qpack_encoding.specs.Encoders.{EncodingEnd, begun, begun_with, told_if, waiting, WritesSection, WritesAlone}
+use Rattle.qpack_encoding.specs.Encoders.{GivesUpSection, Shrinks}
+use Rattle.qpack_encoding.specs.Encoders.{AsksFirst, StopsForMemory, Encodes, SetsIt, SetsCapacity, TellsCapacity}
+use Rattle.qpack_encoding.specs.Encoders.{IsNoCapacity}
+use Rattle.qpack_encoding.specs.Encoders.{Checks}
 
 -- the end with other bytes that are to be sent
 abbrev pub with_unsent : List ℕ → EncodingEnd → EncodingEnd

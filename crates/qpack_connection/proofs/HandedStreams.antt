@@ -7,9 +7,9 @@ use Rattle.std.specs.Option.{is_some}
 use Rattle.std.specs.Prelude.{nat_eq, slice_get}
 use Rattle.qpack_spec.specs.Field.{FieldLine}
 use Rattle.qpack_rules.specs.Session.{RequestStream, stream_at, with_stream, oldest_undecoded}
-use Rattle.qpack_ends.specs.FieldSections.{SectionView}
-use Rattle.qpack_ends.specs.declared.decoder.DecodingError.{DecodingError}
-use Rattle.qpack_ends.specs.declared.section.Reading.{Reading}
+use Rattle.qpack_decoding.specs.FieldSections.{SectionView}
+use Rattle.qpack_decoding.specs.declared.decoder.DecodingError.{DecodingError}
+use Rattle.qpack_decoding.specs.declared.section.Reading.{Reading}
 use Rattle.qpack_connection.specs.declared.connection.Outcome.{Outcome}
 use Rattle.qpack_connection.specs.declared.connection.Outcome.TheVariants.{Decoded, Skipped}
 use Rattle.qpack_connection.specs.declared.connection.Skip.{Skip}

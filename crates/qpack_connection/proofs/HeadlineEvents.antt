@@ -13,22 +13,23 @@ use Rattle.qpack_rules.proofs.PutTables.{count_put}
 use Rattle.qpack_rules.proofs.StrictReadings.{strict_are_within}
 use Rattle.qpack_safety.specs.AbstractSession.{abstract_start}
 use Rattle.qpack_safety.specs.TwoEnds.{after_end_steps}
-use Rattle.qpack_ends.specs.FieldSections.{SectionView}
-use Rattle.qpack_ends.specs.Blocked.{without, with_blocked}
-use Rattle.qpack_ends.specs.Decoders.{DecodingEnd, acknowledged, blocked_streams}
-use Rattle.qpack_ends.specs.Decoders as decoders
-use Rattle.qpack_ends.specs.Encoders.{EncodingEnd, SetsIt, SetsCapacity, Shrinks, StopsTelling}
-use Rattle.qpack_ends.proofs.Encoders.{held_within}
-use Rattle.qpack_ends.specs.Encoders as encoders
-use Rattle.qpack_ends.specs.declared.blocked.BlockedStream.{BlockedStream}
-use Rattle.qpack_ends.specs.declared.decoder.DecoderSettings.{DecoderSettings}
-use Rattle.qpack_ends.specs.declared.decoder.DecodingError.{DecodingError}
-use Rattle.qpack_ends.specs.declared.decoder.DecodingError.TheVariants as decoding
-use Rattle.qpack_ends.specs.declared.encoder.EncoderSettings.{EncoderSettings}
-use Rattle.qpack_ends.specs.declared.encoder.EncodingError.{EncodingError}
-use Rattle.qpack_ends.specs.declared.encoder.EncodingError.TheVariants as encoding
-use Rattle.qpack_ends.specs.declared.section.Reading.{Reading}
-use Rattle.qpack_ends.specs.declared.section.Reading.TheVariants as reading
+use Rattle.qpack_decoding.specs.FieldSections.{SectionView}
+use Rattle.qpack_shared.specs.Streams.{without}
+use Rattle.qpack_decoding.specs.Blocked.{with_blocked}
+use Rattle.qpack_decoding.specs.Decoders.{DecodingEnd, acknowledged, blocked_streams}
+use Rattle.qpack_decoding.specs.Decoders as decoders
+use Rattle.qpack_encoding.specs.Encoders.{EncodingEnd, SetsIt, SetsCapacity, Shrinks, StopsTelling}
+use Rattle.qpack_encoding.proofs.Encoders.{held_within}
+use Rattle.qpack_encoding.specs.Encoders as encoders
+use Rattle.qpack_shared.specs.declared.streams.BlockedStream.{BlockedStream}
+use Rattle.qpack_decoding.specs.declared.decoder.DecoderSettings.{DecoderSettings}
+use Rattle.qpack_decoding.specs.declared.decoder.DecodingError.{DecodingError}
+use Rattle.qpack_decoding.specs.declared.decoder.DecodingError.TheVariants as decoding
+use Rattle.qpack_encoding.specs.declared.encoder.EncoderSettings.{EncoderSettings}
+use Rattle.qpack_encoding.specs.declared.encoder.EncodingError.{EncodingError}
+use Rattle.qpack_encoding.specs.declared.encoder.EncodingError.TheVariants as encoding
+use Rattle.qpack_decoding.specs.declared.section.Reading.{Reading}
+use Rattle.qpack_decoding.specs.declared.section.Reading.TheVariants as reading
 use Rattle.qpack_connection.specs.declared.connection.ConnectionSettings.{ConnectionSettings}
 use Rattle.qpack_connection.specs.declared.connection.Event.{Event}
 use Rattle.qpack_connection.specs.declared.connection.Event.TheVariants as event

@@ -7,12 +7,12 @@ use denote.RawPtr.{null_ptr}
 use Rattle.qpack_spec.specs.Field.{FieldLine}
 use Rattle.qpack_codec.specs.declared.encoder.choices.Wish.TheVariants.{Unmarked}
 use denote.RawPtr.{null_ptr}
-use Rattle.qpack_ends.specs.FieldSections.{SectionView}
-use Rattle.qpack_ends.specs.declared.decoder.DecodingError.TheVariants as decoding
-use Rattle.qpack_ends.specs.declared.encoder.EncodingError.TheVariants as encoding
-use Rattle.qpack_ends.specs.declared.section.LineError.TheVariants.{TooLarge}
-use Rattle.qpack_ends.specs.declared.section.Reading.TheVariants.{Fields, Blocked}
-use Rattle.qpack_ends.specs.declared.section.SectionError.TheVariants.{TooLong, CountAtZero, Line}
+use Rattle.qpack_decoding.specs.FieldSections.{SectionView}
+use Rattle.qpack_decoding.specs.declared.decoder.DecodingError.TheVariants as decoding
+use Rattle.qpack_encoding.specs.declared.encoder.EncodingError.TheVariants as encoding
+use Rattle.qpack_decoding.specs.declared.section.LineError.TheVariants.{TooLarge}
+use Rattle.qpack_decoding.specs.declared.section.Reading.TheVariants.{Fields, Blocked}
+use Rattle.qpack_decoding.specs.declared.section.SectionError.TheVariants.{TooLong, CountAtZero, Line}
 use Rattle.qpack_connection.specs.declared.connection.ConnectionSettings.{ConnectionSettings}
 use Rattle.qpack_connection.specs.declared.connection.Event.{Event}
 use Rattle.qpack_connection.specs.declared.connection.Event.TheVariants as event

@@ -10,16 +10,17 @@ use Rattle.qpack_rules.specs.Session.{RequestStream, stream_at, with_stream, old
 use Rattle.qpack_spec.specs.Table.{Table, with_capacity}
 use Rattle.qpack_spec.specs.Window.{TableRefusal, DoesNotFit}
 use Rattle.qpack_spec.proofs.Lists.{every_weaker}
-use Rattle.qpack_ends.specs.declared.blocked.BlockedStream.{BlockedStream}
-use Rattle.qpack_ends.specs.Blocked.{without, with_blocked}
+use Rattle.qpack_shared.specs.declared.streams.BlockedStream.{BlockedStream}
+use Rattle.qpack_shared.specs.Streams.{without}
+use Rattle.qpack_decoding.specs.Blocked.{with_blocked}
 use Rattle.qpack_connection.specs.Connections.{SentSection, Connection}
-use Rattle.qpack_ends.specs.Encoders.{EncodingEnd, IsSound, IsToBeTold, HasReceived, begun, begun_with, code_of}
-use Rattle.qpack_ends.specs.Encoders.{told, told_if, waiting, is_alone, with_section}
+use Rattle.qpack_encoding.specs.Encoders.{EncodingEnd, IsSound, IsToBeTold, HasReceived, begun, begun_with, code_of}
+use Rattle.qpack_encoding.specs.Encoders.{told, told_if, waiting, is_alone, with_section}
 use Rattle.qpack_connection.specs.Waiting.{AreOfOneEach, IsNextOf, BlockedAreNext}
-use Rattle.qpack_ends.specs.declared.encoder.EncodingError.{EncodingError}
-use Rattle.qpack_ends.proofs.BlockedStreams.{once_without, once_with, all_with}
-use Rattle.qpack_ends.proofs.Encoders.{told_still, held_within}
-use Rattle.qpack_ends.proofs.LimitedSections.{none_waits, sound_with}
+use Rattle.qpack_encoding.specs.declared.encoder.EncodingError.{EncodingError}
+use Rattle.qpack_decoding.proofs.BlockedStreams.{once_without, once_with, all_with}
+use Rattle.qpack_encoding.proofs.Encoders.{told_still, held_within}
+use Rattle.qpack_encoding.proofs.LimitedSections.{none_waits, sound_with}
 use Rattle.qpack_connection.proofs.WaitingStreams.{apart_swap}
 
 -- ---- the encoder stays sound

@@ -20,19 +20,19 @@ use Rattle.qpack_safety.specs.AbstractSession.{AbstractSession, abstract_start}
 use Rattle.qpack_safety.specs.TwoEnds.{EndStep, after_end_steps}
 use Rattle.qpack_safety.proofs.MadeInsertions.{required_made, all_taken}
 use Rattle.qpack_safety.proofs.TwoEnds.{holds_started, holds_behind}
-use Rattle.qpack_ends.specs.declared.decoder.DecodingError.{DecodingError}
-use Rattle.qpack_ends.specs.declared.decoder.DecodingError.TheVariants as decoding
-use Rattle.qpack_ends.specs.declared.encoder_stream.EncoderStreamError.{EncoderStreamError}
-use Rattle.qpack_ends.specs.declared.section.Reading.{Reading}
-use Rattle.qpack_ends.specs.declared.section.Reading.TheVariants as reading
-use Rattle.qpack_ends.specs.Blocked.{without}
+use Rattle.qpack_decoding.specs.declared.decoder.DecodingError.{DecodingError}
+use Rattle.qpack_decoding.specs.declared.decoder.DecodingError.TheVariants as decoding
+use Rattle.qpack_decoding.specs.declared.encoder_stream.EncoderStreamError.{EncoderStreamError}
+use Rattle.qpack_decoding.specs.declared.section.Reading.{Reading}
+use Rattle.qpack_decoding.specs.declared.section.Reading.TheVariants as reading
+use Rattle.qpack_shared.specs.Streams.{without}
 use Rattle.qpack_connection.specs.Connections.{Connection, Receive}
 use Rattle.qpack_connection.specs.Connections.{Decode, Cancel, ReceivesOn}
 use Rattle.qpack_connection.specs.Connections.{DecodesOn, CancelsOn, next_of, with_decoder, with_reading}
-use Rattle.qpack_ends.specs.Decoders.{DecodingEnd, acknowledged, IsNotAnswered, Checks, StopsDecoding}
-use Rattle.qpack_ends.specs.Decoders.{StopsForMemory, EndsReceiving, Decodes}
-use Rattle.qpack_ends.specs.Decoders as decoders
-use Rattle.qpack_ends.specs.Receiving as receiving
+use Rattle.qpack_decoding.specs.Decoders.{DecodingEnd, acknowledged, IsNotAnswered, Checks, StopsDecoding}
+use Rattle.qpack_decoding.specs.Decoders.{StopsForMemory, EndsReceiving, Decodes}
+use Rattle.qpack_decoding.specs.Decoders as decoders
+use Rattle.qpack_decoding.specs.Receiving as receiving
 use Rattle.qpack_connection.specs.RefinedConnections.{received_of, RefinesSession}
 use Rattle.qpack_connection.specs.RefinedDecodes.{AnswersSection}
 use Rattle.qpack_connection.specs.RefinedStreams.{IsOpen}

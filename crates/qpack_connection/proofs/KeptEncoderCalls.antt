@@ -10,21 +10,21 @@ use Rattle.qpack_spec.specs.Table.{with_capacity}
 use Rattle.qpack_spec.specs.Window.{DoesNotFit}
 use Rattle.qpack_safety.specs.AbstractSession.{abstract_start}
 use Rattle.qpack_safety.specs.TwoEnds.{EndStep, after_end_steps}
-use Rattle.qpack_ends.specs.declared.encoder.EncodingError.{EncodingError}
-use Rattle.qpack_ends.specs.declared.encoder.EncodingError.TheVariants as encoding
+use Rattle.qpack_encoding.specs.declared.encoder.EncodingError.{EncodingError}
+use Rattle.qpack_encoding.specs.declared.encoder.EncodingError.TheVariants as encoding
 use Rattle.qpack_connection.specs.Connections.{SentSection, Connection, Call, Encode, SetCapacity, Shrink, Hear}
 use Rattle.qpack_connection.specs.Connections.{Step, EncodesOn, SetsCapacityOn, ShrinksOn, HearsOn, TakesAndHears}
 use Rattle.qpack_connection.specs.Connections.{with_decoder, next_of}
-use Rattle.qpack_ends.specs.Decoders.{DecodingEnd, IsTaken}
-use Rattle.qpack_ends.specs.Encoders.{EncodingEnd, IsSound, begun, is_alone, waiting, WritesSection, WritesAlone}
-use Rattle.qpack_ends.specs.Encoders.{ReceivesBytes, SetsIt}
-use Rattle.qpack_ends.specs.Encoders as encoders
-use Rattle.qpack_ends.specs.Hearing as hearing
+use Rattle.qpack_decoding.specs.Decoders.{DecodingEnd, IsTaken}
+use Rattle.qpack_encoding.specs.Encoders.{EncodingEnd, IsSound, begun, is_alone, waiting, WritesSection, WritesAlone}
+use Rattle.qpack_encoding.specs.Encoders.{ReceivesBytes, SetsIt}
+use Rattle.qpack_encoding.specs.Encoders as encoders
+use Rattle.qpack_encoding.specs.Hearing as hearing
 use Rattle.qpack_connection.specs.RefinedConnections.{received_of, RefinesSession}
 use Rattle.qpack_connection.specs.RefinedStreams.{IsOpen}
 use Rattle.qpack_connection.specs.TwoEndsHeadline.{Answers, Fits}
 use Rattle.qpack_connection.specs.Waiting.{BlockedAreNext}
-use Rattle.qpack_ends.proofs.Encoders.{received_sound}
+use Rattle.qpack_encoding.proofs.Encoders.{received_sound}
 use Rattle.qpack_connection.proofs.KeptConnections.{sound_sent, sound_begun, sound_section, sound_set, sound_waiting}
 use Rattle.qpack_connection.proofs.KeptConnections.{begun_failure, waiting_same}
 use Rattle.qpack_connection.proofs.KeptConnections.{next_more, live_more, KeepsNext}

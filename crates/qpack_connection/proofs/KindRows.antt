@@ -1,9 +1,9 @@
 -- The headline of two ends on outcomes that an event has never: of another kind, without room, skipped for a reason that
 -- there is not, and errors of other calls.
 use Rattle.std.proofs.Common.{ℕ, ◌⊎◌, ◌++◌, false, List, [], ◌∷◌, Ok, Err, arith}
-use Rattle.qpack_ends.specs.declared.decoder.DecodingError.TheVariants as decoding
-use Rattle.qpack_ends.specs.declared.encoder.EncodingError.TheVariants as encoding
-use Rattle.qpack_ends.specs.declared.section.SectionError.TheVariants.{TooLong, CountAtZero, Memory}
+use Rattle.qpack_decoding.specs.declared.decoder.DecodingError.TheVariants as decoding
+use Rattle.qpack_encoding.specs.declared.encoder.EncodingError.TheVariants as encoding
+use Rattle.qpack_decoding.specs.declared.section.SectionError.TheVariants.{TooLong, CountAtZero, Memory}
 use Rattle.qpack_connection.specs.declared.connection.Event.{Event}
 use Rattle.qpack_connection.specs.declared.connection.Event.TheVariants as event
 use Rattle.qpack_connection.specs.declared.connection.Outcome.{Outcome}

@@ -7,16 +7,16 @@ use Rattle.qpack_spec.specs.Field.{FieldLine}
 use Rattle.qpack_spec.specs.Instruction.{DecoderInstruction}
 use Rattle.qpack_spec.specs.Table.{Table, empty_table, with_capacity}
 use Rattle.qpack_spec.specs.Window.{DoesNotFit}
-use Rattle.qpack_ends.specs.declared.encoder.EncoderSettings.{EncoderSettings}
-use Rattle.qpack_ends.specs.declared.encoder.EncodingError.{EncodingError}
-use Rattle.qpack_ends.specs.declared.encoder.EncodingError.TheVariants.{DecoderStream, CapacityTooLarge}
-use Rattle.qpack_ends.specs.declared.encoder.EncodingError.TheVariants.{EntriesHeld, NoStream, Memory}
-use Rattle.qpack_ends.specs.declared.encoder.EncodingError.TheVariants.{MaximumChanged, LimitLowered, MaximumTooLarge}
-use Rattle.qpack_ends.specs.Encoders.{EncodingEnd, IsUnused, begun, begun_with, first_capacity, with_section, Encodes}
-use Rattle.qpack_ends.specs.Encoders.{SetsCapacity, Shrinks, ReceivesBytes, StopsForMemory, of_peer, peer_refusal}
-use Rattle.qpack_ends.specs.Encoders.{WritesSection, GivesUpSection}
-use Rattle.qpack_ends.proofs.Encoders.{takes_capacity, held_within}
-use Rattle.qpack_ends.proofs.BareEnds.{bare, encoded_bare, given_up_bare, sized_bare, heard_bare}
+use Rattle.qpack_encoding.specs.declared.encoder.EncoderSettings.{EncoderSettings}
+use Rattle.qpack_encoding.specs.declared.encoder.EncodingError.{EncodingError}
+use Rattle.qpack_encoding.specs.declared.encoder.EncodingError.TheVariants.{DecoderStream, CapacityTooLarge}
+use Rattle.qpack_encoding.specs.declared.encoder.EncodingError.TheVariants.{EntriesHeld, NoStream, Memory}
+use Rattle.qpack_encoding.specs.declared.encoder.EncodingError.TheVariants.{MaximumChanged, LimitLowered, MaximumTooLarge}
+use Rattle.qpack_encoding.specs.Encoders.{EncodingEnd, IsUnused, begun, begun_with, first_capacity, with_section, Encodes}
+use Rattle.qpack_encoding.specs.Encoders.{SetsCapacity, Shrinks, ReceivesBytes, StopsForMemory, of_peer, peer_refusal}
+use Rattle.qpack_encoding.specs.Encoders.{WritesSection, GivesUpSection}
+use Rattle.qpack_encoding.proofs.Encoders.{takes_capacity, held_within}
+use Rattle.qpack_encoding.proofs.BareEnds.{bare, encoded_bare, given_up_bare, sized_bare, heard_bare}
 use Rattle.qpack_connection.specs.LawfulDecoders.{Call, Encode, SetCapacity, Shrink, Receive, Sent, Step, Run}
 use Rattle.qpack_connection.specs.LateSettings.{EndsWithoutATableStayUnused, LateSettingsAreAsEarly}
 

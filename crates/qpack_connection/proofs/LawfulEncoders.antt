@@ -21,25 +21,25 @@ use Rattle.qpack_rules.proofs.PutTables.{count_put, window_put}
 use Rattle.qpack_spec.proofs.Windows.{Sound, sound_start, leads_sound}
 use Rattle.qpack_safety.specs.HandedSections.{IsOverLimit}
 use Rattle.qpack_safety.proofs.Limits.{IsAnswer, Limited, reading_limited}
-use Rattle.qpack_ends.specs.declared.decoder.DecodingError.{DecodingError}
-use Rattle.qpack_ends.specs.declared.decoder.DecodingError.TheVariants.{EncoderStream, Section, TooManyBlocked}
-use Rattle.qpack_ends.specs.declared.decoder.DecodingError.TheVariants.{NoStream, Memory}
-use Rattle.qpack_ends.specs.declared.section.Reading.{Reading}
-use Rattle.qpack_ends.specs.declared.section.Reading.TheVariants as reading
-use Rattle.qpack_ends.specs.declared.section.SectionError.{SectionError}
+use Rattle.qpack_decoding.specs.declared.decoder.DecodingError.{DecodingError}
+use Rattle.qpack_decoding.specs.declared.decoder.DecodingError.TheVariants.{EncoderStream, Section, TooManyBlocked}
+use Rattle.qpack_decoding.specs.declared.decoder.DecodingError.TheVariants.{NoStream, Memory}
+use Rattle.qpack_decoding.specs.declared.section.Reading.{Reading}
+use Rattle.qpack_decoding.specs.declared.section.Reading.TheVariants as reading
+use Rattle.qpack_decoding.specs.declared.section.SectionError.{SectionError}
 use Rattle.qpack_connection.specs.Connections.{SentSection}
-use Rattle.qpack_ends.specs.Decoders.{DecodingEnd, acknowledged, Checks}
-use Rattle.qpack_ends.specs.Decoders.{IsNotAnswered, StopsDecoding, Decodes}
+use Rattle.qpack_decoding.specs.Decoders.{DecodingEnd, acknowledged, Checks}
+use Rattle.qpack_decoding.specs.Decoders.{IsNotAnswered, StopsDecoding, Decodes}
 use Rattle.qpack_connection.specs.LawfulEncoders.{Encoder, IsLawful}
-use Rattle.qpack_ends.specs.Receiving.{Receives}
+use Rattle.qpack_decoding.specs.Receiving.{Receives}
 use Rattle.qpack_connection.specs.RefinedDecodes.{AnswersSection, MayWait}
-use Rattle.qpack_ends.specs.declared.encoder_stream.Place.{Place}
-use Rattle.qpack_ends.specs.Receiving.{HasReceived}
+use Rattle.qpack_shared.specs.declared.place.Place.{Place}
+use Rattle.qpack_decoding.specs.Receiving.{HasReceived}
 use Rattle.qpack_spec.specs.Form.{Truncates}
 use Rattle.qpack_rules.specs.LawfulEncoders.{IsLawfulEncoder}
 use Rattle.qpack_spec.proofs.Windows.{leads_unique}
 use Rattle.std.proofs.lemmas.List.{append-nil}
-use Rattle.qpack_ends.specs.Sections.{TellsReading}
+use Rattle.qpack_decoding.specs.Sections.{TellsReading}
 use Rattle.qpack_connection.proofs.RefinedDecodes.{over_code, refusal_is, read_fields, read_count, blocked_count}
 use Rattle.qpack_connection.proofs.RefinedDecodes.{stops_for_memory}
 

@@ -17,11 +17,11 @@ use Rattle.qpack_spec.proofs.Cuttings.{wire, refusal_apart, nil_append, reads_fr
 use Rattle.qpack_rules.proofs.LawfulStreams.{never_refused}
 use Rattle.qpack_spec.proofs.Results.{bind_ok, ok_is}
 use Rattle.qpack_codec.specs.declared.error.DecoderError.{DecoderError}
-use Rattle.qpack_ends.specs.declared.decoder_stream.HearingError.{HearingError}
-use Rattle.qpack_ends.specs.Hearing as hearing
-use Rattle.qpack_ends.specs.Hearing.{TellsRefusal}
+use Rattle.qpack_encoding.specs.declared.decoder_stream.HearingError.{HearingError}
+use Rattle.qpack_encoding.specs.Hearing as hearing
+use Rattle.qpack_encoding.specs.Hearing.{TellsRefusal}
 use Rattle.qpack_connection.specs.LawfulPieces.{EncoderStreamsAreNeverRefused, DecoderStreamsAreNeverRefused}
-use Rattle.qpack_ends.specs.Receiving.{Refuses, bad_bytes, bad_instruction, no_capacity, too_large}
+use Rattle.qpack_decoding.specs.Receiving.{Refuses, bad_bytes, bad_instruction, no_capacity, too_large}
 
 -- ---- the encoder stream
 

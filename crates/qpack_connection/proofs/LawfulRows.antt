@@ -28,10 +28,10 @@ use Rattle.qpack_spec.specs.Table.{has_number}
 use Rattle.qpack_spec.specs.Window.{Inserts, Resizes}
 use Rattle.qpack_spec.proofs.Computing.{computed}
 use Rattle.qpack_spec.proofs.FormLaws.{form_takes, reads_form_truncation}
-use Rattle.qpack_ends.specs.declared.blocked.BlockedStream.{BlockedStream}
-use Rattle.qpack_ends.specs.Decoders.{DecodingEnd}
-use Rattle.qpack_ends.specs.Hearing.{Receives}
-use Rattle.qpack_ends.specs.Places.{behind}
+use Rattle.qpack_shared.specs.declared.streams.BlockedStream.{BlockedStream}
+use Rattle.qpack_decoding.specs.Decoders.{DecodingEnd}
+use Rattle.qpack_encoding.specs.Hearing.{Receives}
+use Rattle.qpack_shared.specs.Places.{behind}
 use Rattle.qpack_connection.specs.LawfulDecoders as decoders
 use Rattle.qpack_connection.specs.LawfulEncoders.{UnderWay, Encoder, IsLawful, IsUnderWay, IsAtRisk, Differ}
 use Rattle.qpack_connection.specs.LawfulEncoders.{KeepsToLimit}

@@ -24,18 +24,18 @@ use Rattle.qpack_spec.specs.Text.{WhereShorter}
 use Rattle.qpack_spec.proofs.Drafts.{IsLive}
 use Rattle.qpack_spec.proofs.Lists.{get_append_end}
 use Rattle.qpack_codec.specs.declared.encoder.choices.Wish.{Wish}
-use Rattle.qpack_ends.specs.declared.encoder.EncoderSettings.{EncoderSettings}
-use Rattle.qpack_ends.specs.declared.encoder.EncodingError.{EncodingError}
-use Rattle.qpack_ends.specs.declared.encoder.EncodingError.TheVariants.{DecoderStream, CapacityTooLarge}
-use Rattle.qpack_ends.specs.declared.encoder.EncodingError.TheVariants.{EntriesHeld, NoStream, Memory}
-use Rattle.qpack_ends.specs.declared.encoder.EncodingError.TheVariants.{MaximumChanged, LimitLowered, MaximumTooLarge}
-use Rattle.qpack_ends.specs.Encoders.{EncodingEnd, IsUnused, begun, begun_with, told_if, waiting, Encodes, WritesAlone}
-use Rattle.qpack_ends.specs.Encoders.{StopsForMemory, GivesUpSection, SetsCapacity, Shrinks, ReceivesBytes}
-use Rattle.qpack_ends.specs.Encoders as encoders
+use Rattle.qpack_encoding.specs.declared.encoder.EncoderSettings.{EncoderSettings}
+use Rattle.qpack_encoding.specs.declared.encoder.EncodingError.{EncodingError}
+use Rattle.qpack_encoding.specs.declared.encoder.EncodingError.TheVariants.{DecoderStream, CapacityTooLarge}
+use Rattle.qpack_encoding.specs.declared.encoder.EncodingError.TheVariants.{EntriesHeld, NoStream, Memory}
+use Rattle.qpack_encoding.specs.declared.encoder.EncodingError.TheVariants.{MaximumChanged, LimitLowered, MaximumTooLarge}
+use Rattle.qpack_encoding.specs.Encoders.{EncodingEnd, IsUnused, begun, begun_with, told_if, waiting, Encodes, WritesAlone}
+use Rattle.qpack_encoding.specs.Encoders.{StopsForMemory, GivesUpSection, SetsCapacity, Shrinks, ReceivesBytes}
+use Rattle.qpack_encoding.specs.Encoders as encoders
 use Rattle.qpack_safety.specs.Refines.{Agrees}
-use Rattle.qpack_ends.specs.Risk.{requires_above, is_at_risk, AreDistinct}
-use Rattle.qpack_ends.proofs.LimitedChoices.{committed_open}
-use Rattle.qpack_ends.proofs.Risk.{at_risk_within}
+use Rattle.qpack_encoding.specs.Risk.{requires_above, is_at_risk, AreDistinct}
+use Rattle.qpack_encoding.proofs.LimitedChoices.{committed_open}
+use Rattle.qpack_encoding.proofs.Risk.{at_risk_within}
 use Rattle.qpack_connection.specs.LawfulDecoders.{Call, Encode, Receive, Sent, Step, Run}
 use Rattle.qpack_connection.specs.LawfulDecoders as calls
 use Rattle.qpack_connection.specs.LawfulEncoders.{UnderWay, IsUnderWay, IsAtRisk, Differ}

@@ -10,14 +10,14 @@ use Rattle.qpack_spec.specs.Table.{Table, with_capacity, can_evict, fields_in}
 use Rattle.qpack_spec.specs.Window.{TableRefusal, eviction_count, greatest_capacity}
 use Rattle.qpack_spec.proofs.Results.{ok_is}
 use Rattle.qpack_codec.specs.declared.encoder.choices.Wish.{Wish}
-use Rattle.qpack_ends.specs.declared.encoder.EncoderSettings.{EncoderSettings}
-use Rattle.qpack_ends.specs.declared.encoder.EncodingError.{EncodingError}
-use Rattle.qpack_ends.specs.Encoders.{EncodingEnd, IsToBeTold, begun, begun_with, told, told_if, is_alone}
-use Rattle.qpack_ends.specs.declared.encoder.EncodingError.TheVariants.{DecoderStream, CapacityTooLarge}
-use Rattle.qpack_ends.specs.declared.encoder.EncodingError.TheVariants.{EntriesHeld, NoStream, Memory}
-use Rattle.qpack_ends.specs.declared.encoder.EncodingError.TheVariants.{MaximumChanged, LimitLowered, MaximumTooLarge}
-use Rattle.qpack_ends.specs.Encoders.{Encodes, StopsForMemory, WritesSection, WritesAlone, ReceivesBytes}
-use Rattle.qpack_ends.proofs.LimitedSections.{none_waits}
+use Rattle.qpack_encoding.specs.declared.encoder.EncoderSettings.{EncoderSettings}
+use Rattle.qpack_encoding.specs.declared.encoder.EncodingError.{EncodingError}
+use Rattle.qpack_encoding.specs.Encoders.{EncodingEnd, IsToBeTold, begun, begun_with, told, told_if, is_alone}
+use Rattle.qpack_encoding.specs.declared.encoder.EncodingError.TheVariants.{DecoderStream, CapacityTooLarge}
+use Rattle.qpack_encoding.specs.declared.encoder.EncodingError.TheVariants.{EntriesHeld, NoStream, Memory}
+use Rattle.qpack_encoding.specs.declared.encoder.EncodingError.TheVariants.{MaximumChanged, LimitLowered, MaximumTooLarge}
+use Rattle.qpack_encoding.specs.Encoders.{Encodes, StopsForMemory, WritesSection, WritesAlone, ReceivesBytes}
+use Rattle.qpack_encoding.proofs.LimitedSections.{none_waits}
 use Rattle.qpack_connection.specs.LawfulDecoders.{Call, Encode, SetCapacity, Shrink, Receive, Sent, Step, Run}
 use Rattle.qpack_connection.specs.LowerCapacities.{IsSettled, WaitsOn, IsAnnounced, Comes, MustCome, SetsNone, AllWait}
 use Rattle.qpack_connection.specs.LowerCapacities.{LowerCapacitiesCome}

@@ -7,8 +7,8 @@ use Rattle.qpack_spec.specs.StaticTable.{field}
 use Rattle.qpack_spec.specs.Table.{Table, empty_table, sent_entry, with_capacity}
 use Rattle.qpack_spec.proofs.Computing.{computed}
 use Rattle.qpack_codec.specs.declared.encoder.choices.Wish.{Wish}
-use Rattle.qpack_ends.specs.Encoders.{EncodingEnd, waiting}
-use Rattle.qpack_ends.specs.declared.encoder.EncodingError.TheVariants.{Memory}
+use Rattle.qpack_encoding.specs.Encoders.{EncodingEnd, waiting}
+use Rattle.qpack_encoding.specs.declared.encoder.EncodingError.TheVariants.{Memory}
 use Rattle.qpack_connection.specs.LawfulDecoders.{Encode, Shrink, Sent, Step, Run}
 use Rattle.qpack_connection.specs.LowerCapacities.{IsSettled, AllWait}
 

@@ -1,7 +1,7 @@
 -- The pieces of a section of RFC 9204, appendix B, are what a lawful encoder writes.
 use Rattle.std.proofs.Common.{◌≡◌, ◌<◌, ◌≤◌, ◌++◌, ◌^◌, ℕ, Bool, true, false, List, [], ◌∷◌, length, refl, lit≤}
 use Rattle.std.specs.Prelude.{take}
-use Rattle.qpack_ends.specs.Decoders.{DecodingEnd}
+use Rattle.qpack_decoding.specs.Decoders.{DecodingEnd}
 use Rattle.qpack_connection.specs.LawfulEncoders.{Coming, Encoder, IsLawful, KeepsToLimit, IsLawfulPiece}
 use Rattle.qpack_connection.specs.LawfulRows.{encoder_begun, encoder_first, bytes_first, decoder_after, waits_on_4}
 use Rattle.qpack_connection.specs.LawfulRows.{sent_post_base}

@@ -8,17 +8,17 @@ use Rattle.qpack_rules.specs.LawfulDecoders.{KeepsNeeded, IsQuiet, IsToBeInserte
 use Rattle.qpack_spec.specs.Table.{insert_count}
 use Rattle.qpack_codec.specs.declared.encoder.choices.Wish.{Wish}
 use Rattle.qpack_codec.specs.declared.encoder.choices.Wish.TheVariants.{Insert}
-use Rattle.qpack_ends.specs.Encoders.{EncodingEnd, begun, is_full}
-use Rattle.qpack_ends.specs.Risk.{streams_at_risk}
-use Rattle.qpack_ends.specs.declared.decoder.DecodingError.{DecodingError}
-use Rattle.qpack_ends.specs.declared.decoder.DecodingError.TheVariants as decoding
-use Rattle.qpack_ends.specs.declared.encoder.EncoderSettings.{EncoderSettings}
-use Rattle.qpack_ends.specs.declared.encoder.EncodingError.{EncodingError}
-use Rattle.qpack_ends.specs.declared.encoder.EncodingError.TheVariants as encoding
-use Rattle.qpack_ends.specs.Decoders.{DecodingEnd}
-use Rattle.qpack_ends.specs.declared.section.Reading.TheVariants.{Fields, Blocked}
-use Rattle.qpack_ends.specs.declared.section.SectionError.{SectionError}
-use Rattle.qpack_ends.specs.declared.section.reader.Progress.TheVariants.{Waits, Prefix, Field, Ends}
+use Rattle.qpack_encoding.specs.Encoders.{EncodingEnd, begun, is_full}
+use Rattle.qpack_encoding.specs.Risk.{streams_at_risk}
+use Rattle.qpack_decoding.specs.declared.decoder.DecodingError.{DecodingError}
+use Rattle.qpack_decoding.specs.declared.decoder.DecodingError.TheVariants as decoding
+use Rattle.qpack_encoding.specs.declared.encoder.EncoderSettings.{EncoderSettings}
+use Rattle.qpack_encoding.specs.declared.encoder.EncodingError.{EncodingError}
+use Rattle.qpack_encoding.specs.declared.encoder.EncodingError.TheVariants as encoding
+use Rattle.qpack_decoding.specs.Decoders.{DecodingEnd}
+use Rattle.qpack_decoding.specs.declared.section.Reading.TheVariants.{Fields, Blocked}
+use Rattle.qpack_decoding.specs.declared.section.SectionError.{SectionError}
+use Rattle.qpack_decoding.specs.declared.section.reader.Progress.TheVariants.{Waits, Prefix, Field, Ends}
 use Rattle.qpack_connection.specs.Connections.{SentSection}
 use Rattle.qpack_connection.specs.LawfulDecoders as decoders
 use Rattle.qpack_connection.specs.LawfulEncoders as encoders

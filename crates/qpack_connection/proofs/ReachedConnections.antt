@@ -5,13 +5,13 @@ use Rattle.std.specs.Prelude.{nat_eq, nat_lt}
 use Rattle.qpack_rules.specs.Session.{RequestStream, stream_at, with_stream, oldest_undecoded}
 use Rattle.qpack_safety.specs.TwoEnds.{EndStep}
 use Rattle.qpack_codec.specs.RequestStreams.{KeepsStreams}
-use Rattle.qpack_ends.specs.declared.section.Reading.TheVariants as reading
+use Rattle.qpack_decoding.specs.declared.section.Reading.TheVariants as reading
 use Rattle.qpack_connection.specs.ConnectionEvents.{Shows, IsReached}
 use Rattle.qpack_connection.specs.Connections.{Wire, SentSection, Connection, Call, Encode, SetCapacity, Shrink, Hear}
 use Rattle.qpack_connection.specs.Connections.{Receive, Decode, Cancel, Step, Run, with_encoder, with_decoder}
 use Rattle.qpack_connection.specs.Connections.{with_section, with_reading, with_cancelled, behind_received, next_of}
-use Rattle.qpack_ends.specs.Decoders.{DecodingEnd}
-use Rattle.qpack_ends.specs.Encoders.{EncodingEnd}
+use Rattle.qpack_decoding.specs.Decoders.{DecodingEnd}
+use Rattle.qpack_encoding.specs.Encoders.{EncodingEnd}
 use Rattle.qpack_connection.specs.RefinedConnections.{RefinesSession, RefinesStream}
 use Rattle.qpack_connection.specs.TwoEndsHeadline.{Fits, AllFit}
 use Rattle.qpack_connection.proofs.KeptConnections.{waiting_same}

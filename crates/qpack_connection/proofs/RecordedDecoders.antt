@@ -8,8 +8,8 @@ use Rattle.qpack_rules.specs.LawfulDecoders.{MayWrite, HasDecoded}
 use Rattle.qpack_spec.specs.Stream.{SpellsAll}
 use Rattle.qpack_rules.specs.StrictInstructions.{oldest_required}
 use Rattle.qpack_spec.specs.Table.{UnacknowledgedBlock, insert_count, without_oldest}
-use Rattle.qpack_ends.specs.Encoders.{EncodingEnd}
-use Rattle.qpack_ends.specs.Hearing.{Receives}
+use Rattle.qpack_encoding.specs.Encoders.{EncodingEnd}
+use Rattle.qpack_encoding.specs.Hearing.{Receives}
 use Rattle.qpack_connection.specs.RecordedDecoders.{MayCome, server_first, server_second, server_later, on_0, on_4}
 use Rattle.qpack_connection.specs.RecordedDecoders.{on_8, on_12, on_16, on_20, chromium_date, firefox_date}
 use Rattle.qpack_connection.specs.RecordedDecoders.{OtherDecodersAreLawful}

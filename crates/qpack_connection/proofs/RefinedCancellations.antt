@@ -15,9 +15,9 @@ use Rattle.qpack_safety.specs.AbstractSession.{AbstractStream, AbstractSession, 
 use Rattle.qpack_safety.specs.TwoEnds.{EndStep, Cancel, Forget, after_end_steps}
 use Rattle.qpack_safety.proofs.Shown.{decoder_instructions_joined}
 use Rattle.qpack_connection.specs.Connections.{SentSection, Connection, with_decoder, with_cancelled}
-use Rattle.qpack_ends.specs.Decoders.{DecodingEnd}
-use Rattle.qpack_ends.specs.Hearing as hearing
-use Rattle.qpack_ends.specs.Receiving as receiving
+use Rattle.qpack_decoding.specs.Decoders.{DecodingEnd}
+use Rattle.qpack_encoding.specs.Hearing as hearing
+use Rattle.qpack_decoding.specs.Receiving as receiving
 use Rattle.qpack_connection.specs.RefinedConnections.{received_of, RefinesStream, RefinesSession}
 use Rattle.qpack_connection.specs.RefinedConnections.{CancellationsAreRefined}
 use Rattle.qpack_safety.proofs.TwoEnds.{Holds, holds_started, holds_behind}

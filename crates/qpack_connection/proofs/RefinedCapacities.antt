@@ -12,9 +12,9 @@ use Rattle.qpack_spec.proofs.Cuttings.{wire, nil_append}
 use Rattle.qpack_safety.specs.AbstractSession.{AbstractSession, abstract_start}
 use Rattle.qpack_safety.specs.TwoEnds.{EndStep, Resize, after_end_steps}
 use Rattle.qpack_connection.specs.Connections.{Wire, Connection}
-use Rattle.qpack_ends.specs.Encoders.{EncodingEnd}
-use Rattle.qpack_ends.specs.Hearing as hearing
-use Rattle.qpack_ends.specs.Receiving as receiving
+use Rattle.qpack_encoding.specs.Encoders.{EncodingEnd}
+use Rattle.qpack_encoding.specs.Hearing as hearing
+use Rattle.qpack_decoding.specs.Receiving as receiving
 use Rattle.qpack_connection.specs.RefinedConnections.{received_of, RefinesSession, NewConnectionsAreRefined}
 use Rattle.qpack_connection.specs.RefinedConnections.{CapacitiesAreRefined, ShrinksAreRefined}
 use Rattle.qpack_connection.proofs.RefinedConnections.{capacity_refined, same_refined, kept_refined, after_more}

@@ -35,10 +35,10 @@ use Rattle.qpack_safety.proofs.Shown.{agrees_push, instructions_joined}
 use Rattle.qpack_safety.proofs.TwoEnds.{holds_started, holds_behind}
 use Rattle.qpack_safety.proofs.WritingEvents.{few_insertions}
 use Rattle.qpack_connection.specs.Connections.{SentSection, Connection, with_encoder, with_section}
-use Rattle.qpack_ends.specs.Encoders.{EncodingEnd, TellsCapacity, told, told_if, begun, begun_with, WritesSection}
-use Rattle.qpack_ends.specs.Encoders.{WritesAlone}
-use Rattle.qpack_ends.specs.Hearing as hearing
-use Rattle.qpack_ends.specs.Receiving as receiving
+use Rattle.qpack_encoding.specs.Encoders.{EncodingEnd, TellsCapacity, told, told_if, begun, begun_with, WritesSection}
+use Rattle.qpack_encoding.specs.Encoders.{WritesAlone}
+use Rattle.qpack_encoding.specs.Hearing as hearing
+use Rattle.qpack_decoding.specs.Receiving as receiving
 use Rattle.qpack_connection.specs.RefinedConnections.{received_of, RefinesSection, RefinesStream, RefinesSession}
 use Rattle.qpack_connection.specs.RefinedConnections.{EncodesAreRefined}
 use Rattle.qpack_connection.proofs.ThinnedStreams.{KeepsSections, keeps_same, keeps_more, thins_kept}

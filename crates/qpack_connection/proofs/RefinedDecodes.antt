@@ -28,22 +28,22 @@ use Rattle.qpack_safety.proofs.HandedSections.{block_read}
 use Rattle.qpack_safety.proofs.Limits.{IsAnswer, Limited, reading_limited}
 use Rattle.qpack_safety.proofs.Shown.{agrees_get, increments_writable}
 use Rattle.qpack_safety.proofs.TwoEnds.{Holds, holds_started, holds_behind, next_read, decoded_plain, decoded_dynamic}
-use Rattle.qpack_ends.specs.declared.decoder.DecodingError.{DecodingError}
-use Rattle.qpack_ends.specs.declared.decoder.DecodingError.TheVariants.{EncoderStream, Section, TooManyBlocked}
-use Rattle.qpack_ends.specs.declared.decoder.DecodingError.TheVariants.{NoStream, Memory}
-use Rattle.qpack_ends.specs.declared.section.LineError.TheVariants as line
-use Rattle.qpack_ends.specs.declared.section.Reading.{Reading}
-use Rattle.qpack_ends.specs.declared.section.Reading.TheVariants as reading
-use Rattle.qpack_ends.specs.declared.section.SectionError.{SectionError}
-use Rattle.qpack_ends.specs.declared.section.SectionError.TheVariants as section
+use Rattle.qpack_decoding.specs.declared.decoder.DecodingError.{DecodingError}
+use Rattle.qpack_decoding.specs.declared.decoder.DecodingError.TheVariants.{EncoderStream, Section, TooManyBlocked}
+use Rattle.qpack_decoding.specs.declared.decoder.DecodingError.TheVariants.{NoStream, Memory}
+use Rattle.qpack_decoding.specs.declared.section.LineError.TheVariants as line
+use Rattle.qpack_decoding.specs.declared.section.Reading.{Reading}
+use Rattle.qpack_decoding.specs.declared.section.Reading.TheVariants as reading
+use Rattle.qpack_decoding.specs.declared.section.SectionError.{SectionError}
+use Rattle.qpack_decoding.specs.declared.section.SectionError.TheVariants as section
 use Rattle.qpack_connection.specs.Connections.{SentSection, Connection, with_decoder, with_reading}
-use Rattle.qpack_ends.specs.Blocked.{without}
-use Rattle.qpack_ends.specs.Decoders.{DecodingEnd, acknowledged, report_before, with_report, unreported, section_refused}
-use Rattle.qpack_ends.specs.Decoders.{Checks, IsNotAnswered, StopsForMemory, StopsDecoding, Decodes}
+use Rattle.qpack_shared.specs.Streams.{without}
+use Rattle.qpack_decoding.specs.Decoders.{DecodingEnd, acknowledged, report_before, with_report, unreported, section_refused}
+use Rattle.qpack_decoding.specs.Decoders.{Checks, IsNotAnswered, StopsForMemory, StopsDecoding, Decodes}
 use Rattle.qpack_connection.specs.RefinedConnections.{RefinesSection, RefinesStream, RefinesSession}
 use Rattle.qpack_connection.specs.RefinedDecodes.{AnswersSection, DecodesAreRefined}
 use Rattle.qpack_connection.specs.RefinedStreams.{IsOpen}
-use Rattle.qpack_ends.specs.Sections.{TellsReading, code_of}
+use Rattle.qpack_decoding.specs.Sections.{TellsReading, code_of}
 use Rattle.qpack_connection.proofs.RefinedCancellations.{written_back, nothing_back}
 use Rattle.qpack_connection.proofs.RefinedConnections.{after_more}
 use Rattle.qpack_connection.proofs.RefinedReports.{all_reported}

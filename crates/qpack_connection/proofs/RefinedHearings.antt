@@ -14,12 +14,12 @@ use Rattle.qpack_safety.specs.TwoEnds.{EndStep, after_end_steps}
 use Rattle.qpack_safety.proofs.LawfulFlights.{flights_lawful}
 use Rattle.qpack_safety.proofs.ManySteps.{heard_many}
 use Rattle.qpack_safety.proofs.TwoEnds.{Holds, holds_started, holds_behind}
-use Rattle.qpack_ends.specs.declared.encoder.EncodingError.{EncodingError}
-use Rattle.qpack_ends.specs.declared.encoder.EncodingError.TheVariants.{DecoderStream}
+use Rattle.qpack_encoding.specs.declared.encoder.EncodingError.{EncodingError}
+use Rattle.qpack_encoding.specs.declared.encoder.EncodingError.TheVariants.{DecoderStream}
 use Rattle.qpack_connection.specs.Connections.{Wire, Connection, HearsOn, next_of, behind_received, with_encoder}
 use Rattle.qpack_connection.specs.Connections.{with_decoder}
-use Rattle.qpack_ends.specs.Encoders.{EncodingEnd, ReceivesBytes, received}
-use Rattle.qpack_ends.specs.Hearing as hearing
+use Rattle.qpack_encoding.specs.Encoders.{EncodingEnd, ReceivesBytes, received}
+use Rattle.qpack_encoding.specs.Hearing as hearing
 use Rattle.qpack_connection.specs.RefinedConnections.{received_of, RefinesSession}
 use Rattle.qpack_connection.specs.RefinedStreams.{IsOpen, HearingsAreRefined}
 use Rattle.qpack_connection.proofs.LawfulPieces.{decoder_streams_heard}

@@ -26,15 +26,15 @@ use Rattle.qpack_safety.proofs.LawfulFlights.{flights_lawful}
 use Rattle.qpack_safety.proofs.ManySteps.{after_taken, taken_many, told_and_not}
 use Rattle.qpack_safety.proofs.Shown.{increments_writable}
 use Rattle.qpack_safety.proofs.TwoEnds.{Holds, holds_started, holds_behind, reporting_is}
-use Rattle.qpack_ends.specs.declared.decoder.DecodingError.{DecodingError}
-use Rattle.qpack_ends.specs.declared.decoder.DecodingError.TheVariants as decoding
-use Rattle.qpack_ends.specs.declared.encoder_stream.EncoderStreamError.{EncoderStreamError}
-use Rattle.qpack_ends.specs.declared.encoder_stream.EncoderStreamError.TheVariants.{Refused, Memory}
+use Rattle.qpack_decoding.specs.declared.decoder.DecodingError.{DecodingError}
+use Rattle.qpack_decoding.specs.declared.decoder.DecodingError.TheVariants as decoding
+use Rattle.qpack_decoding.specs.declared.encoder_stream.EncoderStreamError.{EncoderStreamError}
+use Rattle.qpack_decoding.specs.declared.encoder_stream.EncoderStreamError.TheVariants.{Refused, Memory}
 use Rattle.qpack_connection.specs.Connections.{Connection, next_of, behind_received, with_decoder}
-use Rattle.qpack_ends.specs.Decoders.{DecodingEnd, received, with_report, unreported, EndsReceiving}
-use Rattle.qpack_ends.specs.Decoders.{ReceivesBytes}
-use Rattle.qpack_ends.specs.Receiving as receiving
-use Rattle.qpack_ends.specs.Receiving.{StreamView, ReceivesMore}
+use Rattle.qpack_decoding.specs.Decoders.{DecodingEnd, received, with_report, unreported, EndsReceiving}
+use Rattle.qpack_decoding.specs.Decoders.{ReceivesBytes}
+use Rattle.qpack_decoding.specs.Receiving as receiving
+use Rattle.qpack_decoding.specs.Receiving.{StreamView, ReceivesMore}
 use Rattle.qpack_connection.specs.RefinedConnections.{received_of, RefinesSession}
 use Rattle.qpack_connection.specs.RefinedStreams.{IsOpen, AnswersTotal, ReceptionsAreRefined}
 use Rattle.qpack_connection.proofs.LawfulPieces.{encoder_streams_taken}

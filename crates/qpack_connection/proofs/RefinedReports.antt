@@ -10,7 +10,7 @@ use Rattle.qpack_safety.specs.TwoEnds.{EndStep, Report, after_end_step, after_en
 use Rattle.qpack_safety.proofs.Shown.{increments_writable}
 use Rattle.qpack_safety.proofs.TwoEnds.{Holds, holds_started, holds_behind, reporting_is}
 use Rattle.qpack_connection.specs.Connections.{Connection, with_decoder}
-use Rattle.qpack_ends.specs.Decoders.{DecodingEnd, with_report, unreported, IsTaken}
+use Rattle.qpack_decoding.specs.Decoders.{DecodingEnd, with_report, unreported, IsTaken}
 use Rattle.qpack_connection.specs.RefinedConnections.{RefinesSession}
 use Rattle.qpack_connection.specs.RefinedStreams.{IsOpen}
 use Rattle.qpack_connection.proofs.RefinedCancellations.{written_back, nothing_back}

@@ -11,10 +11,10 @@ use Rattle.qpack_spec.specs.Field.{FieldLine}
 use Rattle.qpack_rules.specs.Session.{RequestStream, stream_at}
 use Rattle.qpack_codec.proofs.Streams.{stream_found, stream_put}
 use Rattle.qpack_codec.specs.RequestStreams.{KeepsStreams, ChangesStream}
-use Rattle.qpack_ends.specs.declared.encoder.EncodingError.{EncodingError}
+use Rattle.qpack_encoding.specs.declared.encoder.EncodingError.{EncodingError}
 use Rattle.qpack_connection.specs.ConnectionEvents.{Sends, SendsAmong}
 use Rattle.qpack_connection.specs.Connections.{SentSection}
-use Rattle.qpack_ends.specs.Encoders.{EncodingEnd}
+use Rattle.qpack_encoding.specs.Encoders.{EncodingEnd}
 
 module _ (before opened : List (ℕ × RequestStream SentSection)) (m n : BTreeMap ℕ (RequestStream SentSection))
     (number : ℕ) (seen k : RequestStream SentSection) where

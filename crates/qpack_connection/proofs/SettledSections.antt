@@ -13,13 +13,14 @@ use Rattle.qpack_spec.specs.StrictReading.{LinesUnder, lines_behind, strict_behi
 use Rattle.qpack_spec.specs.StrictReading.{strict_lines_at, strict_reading}
 use Rattle.qpack_spec.specs.Table.{insert_count, window}
 use Rattle.qpack_spec.specs.Window.{Window, maximum_capacity, window_insert_count}
-use Rattle.qpack_ends.specs.Blocked.{required_of, ready, in_order, comes_before, with_blocked, without}
-use Rattle.qpack_ends.specs.Decoders.{DecodingEnd}
-use Rattle.qpack_ends.specs.declared.blocked.BlockedStream.{BlockedStream}
-use Rattle.qpack_ends.specs.declared.decoder.DecodingError.TheVariants as decoding
-use Rattle.qpack_ends.specs.declared.section.Reading.TheVariants as reading
-use Rattle.qpack_ends.proofs.BlockedStreams.{gone}
-use Rattle.qpack_ends.proofs.SectionParts.{count_is}
+use Rattle.qpack_shared.specs.Streams.{without}
+use Rattle.qpack_decoding.specs.Blocked.{required_of, ready, in_order, comes_before, with_blocked}
+use Rattle.qpack_decoding.specs.Decoders.{DecodingEnd}
+use Rattle.qpack_shared.specs.declared.streams.BlockedStream.{BlockedStream}
+use Rattle.qpack_decoding.specs.declared.decoder.DecodingError.TheVariants as decoding
+use Rattle.qpack_decoding.specs.declared.section.Reading.TheVariants as reading
+use Rattle.qpack_decoding.proofs.BlockedStreams.{gone}
+use Rattle.qpack_decoding.proofs.SectionParts.{count_is}
 use Rattle.qpack_connection.specs.SettledSections.{SectionsSettle}
 
 -- the entry is a stream's

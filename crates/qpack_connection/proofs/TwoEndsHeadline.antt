@@ -12,10 +12,10 @@ use Rattle.qpack_rules.proofs.PutTables.{count_put}
 use Rattle.qpack_safety.specs.AbstractSession.{abstract_start}
 use Rattle.qpack_safety.specs.TwoEnds.{EndStep, after_end_steps}
 use Rattle.qpack_safety.proofs.TwoEnds.{strict_ends_safe}
-use Rattle.qpack_ends.specs.declared.blocked.BlockedStream.{BlockedStream}
+use Rattle.qpack_shared.specs.declared.streams.BlockedStream.{BlockedStream}
 use Rattle.qpack_connection.specs.Connections.{Connection, IsNew, Call, Encode, SetCapacity, Shrink, Hear, Receive}
 use Rattle.qpack_connection.specs.Connections.{Decode, Cancel, Step, Run}
-use Rattle.qpack_ends.specs.Encoders.{IsSound}
+use Rattle.qpack_encoding.specs.Encoders.{IsSound}
 use Rattle.qpack_connection.specs.TwoEndsHeadline.{Fits, IsWithin, AllFit, AllAnswer}
 use Rattle.qpack_connection.specs.TwoEndsHeadline.{TwoEndsAnswerWhatWasHanded}
 use Rattle.qpack_connection.specs.Waiting.{AreOfOneEach, IsNextOf}
@@ -23,8 +23,8 @@ use Rattle.qpack_connection.proofs.RefinedCapacities.{new_refined}
 use Rattle.qpack_connection.proofs.FirstEnds.{sound_first, unused_first}
 use Rattle.qpack_connection.proofs.CarefulEnds.{stays_first}
 use Rattle.qpack_connection.proofs.WaitingStreams.{apart_from_none, none_waits_twice, all_at_risk}
-use Rattle.qpack_ends.specs.Risk.{streams_at_risk}
-use Rattle.qpack_ends.proofs.Risk.{at_risk_within}
+use Rattle.qpack_encoding.specs.Risk.{streams_at_risk}
+use Rattle.qpack_encoding.proofs.Risk.{at_risk_within}
 use Rattle.qpack_connection.proofs.KeptEncoderCalls.{IsKept, Behind, section_kept, refused_section_kept, capacity_kept}
 use Rattle.qpack_connection.proofs.KeptEncoderCalls.{refused_capacity_kept, shrink_kept, refused_shrink_kept, hearing_kept}
 use Rattle.qpack_connection.proofs.KeptDecoderCalls.{reception_kept, cancellation_kept, refused_cancellation_kept}

@@ -5,11 +5,11 @@ use Rattle.std.proofs.lemmas.Option.{none-some}
 use Rattle.qpack_spec.specs.StrictReading.{StrictReading, Read, Blocked, strict_reading}
 use Rattle.qpack_spec.specs.Table.{empty_table, insert_count, window}
 use Rattle.qpack_spec.specs.Field.{fields_of_lines, total_size}
-use Rattle.qpack_ends.specs.declared.decoder.DecoderSettings.{DecoderSettings}
-use Rattle.qpack_ends.specs.Decoders.{DecodingEnd, Begins}
-use Rattle.qpack_ends.specs.PieceDecoders.{ReadsPiece}
-use Rattle.qpack_ends.specs.PieceLaws.{ReadsOrWaits}
-use Rattle.qpack_ends.specs.Receiving.{Receives}
+use Rattle.qpack_decoding.specs.declared.decoder.DecoderSettings.{DecoderSettings}
+use Rattle.qpack_decoding.specs.Decoders.{DecodingEnd, Begins}
+use Rattle.qpack_decoding.specs.PieceDecoders.{ReadsPiece}
+use Rattle.qpack_decoding.specs.PieceLaws.{ReadsOrWaits}
+use Rattle.qpack_decoding.specs.Receiving.{Receives}
 use Rattle.qpack_safety.specs.HandedSections.{IsOverLimit}
 use Rattle.std.proofs.lemmas.Bool.{cases_lt}
 use Rattle.qpack_connection.specs.Connections.{SentSection}

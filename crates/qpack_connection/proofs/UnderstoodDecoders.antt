@@ -19,15 +19,15 @@ use Rattle.qpack_safety.proofs.Encoding.{same_committed}
 use Rattle.qpack_connection.specs.LawfulDecoders.{CountsSection, Counts}
 use Rattle.qpack_rules.proofs.ChosenGoesOn.{go_on_chosen}
 use Rattle.qpack_rules.proofs.LawfulDecoders.{instructions_heard, has_room_quiet}
-use Rattle.qpack_ends.specs.declared.encoder.EncoderSettings.{EncoderSettings}
-use Rattle.qpack_ends.specs.declared.encoder.EncodingError.{EncodingError}
-use Rattle.qpack_ends.specs.declared.encoder.EncodingError.TheVariants.{DecoderStream, CapacityTooLarge}
-use Rattle.qpack_ends.specs.declared.encoder.EncodingError.TheVariants.{EntriesHeld, NoStream, Memory}
-use Rattle.qpack_ends.specs.declared.encoder.EncodingError.TheVariants.{MaximumChanged, LimitLowered, MaximumTooLarge}
-use Rattle.qpack_ends.specs.Encoders.{EncodingEnd, IsToBeTold, begun, begun_with, told_if, is_alone, is_full}
-use Rattle.qpack_ends.specs.Encoders.{StopsForMemory, SetsCapacity, Shrinks}
-use Rattle.qpack_ends.specs.Encoders.{WritesSection, WritesAlone, Encodes, ReceivesBytes}
-use Rattle.qpack_ends.specs.Wishes.{SuitsUnless, SuitAlong, EncodesAsWished}
+use Rattle.qpack_encoding.specs.declared.encoder.EncoderSettings.{EncoderSettings}
+use Rattle.qpack_encoding.specs.declared.encoder.EncodingError.{EncodingError}
+use Rattle.qpack_encoding.specs.declared.encoder.EncodingError.TheVariants.{DecoderStream, CapacityTooLarge}
+use Rattle.qpack_encoding.specs.declared.encoder.EncodingError.TheVariants.{EntriesHeld, NoStream, Memory}
+use Rattle.qpack_encoding.specs.declared.encoder.EncodingError.TheVariants.{MaximumChanged, LimitLowered, MaximumTooLarge}
+use Rattle.qpack_encoding.specs.Encoders.{EncodingEnd, IsToBeTold, begun, begun_with, told_if, is_alone, is_full}
+use Rattle.qpack_encoding.specs.Encoders.{StopsForMemory, SetsCapacity, Shrinks}
+use Rattle.qpack_encoding.specs.Encoders.{WritesSection, WritesAlone, Encodes, ReceivesBytes}
+use Rattle.qpack_encoding.specs.Wishes.{SuitsUnless, SuitAlong, EncodesAsWished}
 use Rattle.qpack_codec.specs.declared.encoder.choices.Wish.{Wish}
 use Rattle.qpack_codec.specs.declared.encoder.choices.Wish.TheVariants.{Unmarked, Reuse, Insert, Never}
 use Rattle.qpack_connection.specs.LawfulDecoders.{Call, Encode, SetCapacity, Shrink, Receive, Sent, Step, Run}
@@ -42,9 +42,9 @@ use Rattle.qpack_connection.proofs.CarefulEnds.{stays_shrunk, stays_heard, stays
 use Rattle.qpack_connection.proofs.UnnamedTables.{settled_takes}
 use Rattle.qpack_spec.proofs.Positions.{eviction_count_live}
 use Rattle.std.proofs.Common.{Bool}
-use Rattle.qpack_ends.specs.Encoders.{may_block}
-use Rattle.qpack_ends.specs.Wishes.{limited, KeepsWishes}
-use Rattle.qpack_ends.proofs.Risk.{none_yet}
+use Rattle.qpack_encoding.specs.Encoders.{may_block}
+use Rattle.qpack_encoding.specs.Wishes.{limited, KeepsWishes}
+use Rattle.qpack_encoding.proofs.Risk.{none_yet}
 
 pub step_stays : (settings : EncoderSettings) (call : Call) (old new : EncodingEnd) → Stays settings.max_blocked old
     → Step call old new → Stays settings.max_blocked new

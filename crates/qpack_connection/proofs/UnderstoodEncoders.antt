@@ -14,25 +14,25 @@ use Rattle.qpack_spec.specs.Table.{Table, empty_table, insert_count, window}
 use Rattle.qpack_rules.specs.Taking.{apply_in_turn}
 use Rattle.qpack_spec.proofs.Cuttings.{wire, reads_front}
 use Rattle.qpack_spec.proofs.Lists.{front_of}
-use Rattle.qpack_ends.specs.declared.decoder.DecodingError.{DecodingError}
-use Rattle.qpack_ends.specs.declared.decoder.DecodingError.TheVariants.{EncoderStream, Section, TooManyBlocked}
-use Rattle.qpack_ends.specs.declared.decoder.DecodingError.TheVariants.{NoStream, Memory}
-use Rattle.qpack_ends.specs.declared.section.Reading.{Reading}
-use Rattle.qpack_ends.specs.declared.section.Reading.TheVariants as reading
+use Rattle.qpack_decoding.specs.declared.decoder.DecodingError.{DecodingError}
+use Rattle.qpack_decoding.specs.declared.decoder.DecodingError.TheVariants.{EncoderStream, Section, TooManyBlocked}
+use Rattle.qpack_decoding.specs.declared.decoder.DecodingError.TheVariants.{NoStream, Memory}
+use Rattle.qpack_decoding.specs.declared.section.Reading.{Reading}
+use Rattle.qpack_decoding.specs.declared.section.Reading.TheVariants as reading
 use Rattle.qpack_connection.specs.Connections.{SentSection}
-use Rattle.qpack_ends.specs.declared.decoder.DecoderSettings.{DecoderSettings}
-use Rattle.qpack_ends.specs.Decoders.{DecodingEnd, Begins, acknowledged, with_report, Checks, blocked_behind}
-use Rattle.qpack_ends.specs.Decoders.{IsNotAnswered, StopsDecoding, Decodes, cancelled, Cancels}
-use Rattle.qpack_ends.specs.declared.encoder_stream.EncoderStreamError.{EncoderStreamError}
-use Rattle.qpack_ends.specs.declared.encoder_stream.EncoderStreamError.TheVariants as stream
-use Rattle.qpack_ends.specs.Decoders.{received, IsTaken, EndsReceiving, ReceivesBytes}
-use Rattle.qpack_ends.specs.Receiving.{ReceivesMore}
+use Rattle.qpack_decoding.specs.declared.decoder.DecoderSettings.{DecoderSettings}
+use Rattle.qpack_decoding.specs.Decoders.{DecodingEnd, Begins, acknowledged, with_report, Checks, blocked_behind}
+use Rattle.qpack_decoding.specs.Decoders.{IsNotAnswered, StopsDecoding, Decodes, cancelled, Cancels}
+use Rattle.qpack_decoding.specs.declared.encoder_stream.EncoderStreamError.{EncoderStreamError}
+use Rattle.qpack_decoding.specs.declared.encoder_stream.EncoderStreamError.TheVariants as stream
+use Rattle.qpack_decoding.specs.Decoders.{received, IsTaken, EndsReceiving, ReceivesBytes}
+use Rattle.qpack_decoding.specs.Receiving.{ReceivesMore}
 use Rattle.qpack_connection.proofs.LawfulPieces.{encoder_streams_taken}
-use Rattle.qpack_ends.specs.declared.blocked.BlockedStream.{BlockedStream}
+use Rattle.qpack_shared.specs.declared.streams.BlockedStream.{BlockedStream}
 use Rattle.qpack_connection.specs.LawfulEncoders.{IsUnderWay, IsAtRisk, Differ, KeepsToLimit}
 use Rattle.qpack_connection.specs.RefinedDecodes.{MayWait}
 use Rattle.qpack_connection.specs.Waiting.{AreOfOneEach}
-use Rattle.qpack_ends.proofs.BlockedStreams.{once_without, once_with}
+use Rattle.qpack_decoding.proofs.BlockedStreams.{once_without, once_with}
 use Rattle.qpack_connection.proofs.WaitingStreams.{none_of, Apart, apart_more, not_waiting}
 use Rattle.std.proofs.Common.{Bool, true, false, cond, map}
 use Rattle.std.proofs.lemmas.List.{length-map}
@@ -43,8 +43,8 @@ use Rattle.qpack_connection.specs.LawfulEncoders.{Encoder, IsLawful, Decoder, Ca
 use Rattle.qpack_connection.specs.LawfulEncoders.{Step, Run, IsLawfulCall, AreLawful, Answers, AllAnswer}
 use Rattle.qpack_connection.specs.LawfulEncoders.{LawfulEncodersAreUnderstood}
 use Rattle.qpack_connection.proofs.RefinedReceptions.{applied_front, no_fewer, least_whole}
-use Rattle.qpack_ends.proofs.StrictCounts.{all_count}
-use Rattle.qpack_ends.specs.Receiving.{StreamView, Receives}
+use Rattle.qpack_decoding.proofs.StrictCounts.{all_count}
+use Rattle.qpack_decoding.specs.Receiving.{StreamView, Receives}
 use Rattle.qpack_connection.specs.RefinedDecodes.{AnswersSection}
 use Rattle.qpack_connection.proofs.RefinedDecodes.{refusal_is}
 use Rattle.qpack_connection.proofs.RefinedDecodes.{stops_for_memory}

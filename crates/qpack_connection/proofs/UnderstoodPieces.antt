@@ -6,23 +6,23 @@ use Rattle.qpack_spec.specs.Field.{FieldLine, fields_of_lines, total_size}
 use Rattle.qpack_spec.specs.StrictReading.{strict_reading}
 use Rattle.qpack_spec.specs.Table.{insert_count, window}
 use Rattle.qpack_spec.specs.Window.{Window}
-use Rattle.qpack_ends.specs.declared.blocked.BlockedStream.{BlockedStream}
-use Rattle.qpack_ends.specs.declared.decoder.DecoderSettings.{DecoderSettings}
-use Rattle.qpack_ends.specs.declared.decoder.DecodingError.{DecodingError}
-use Rattle.qpack_ends.specs.declared.decoder.DecodingError.TheVariants.{EncoderStream, Section, TooManyBlocked}
-use Rattle.qpack_ends.specs.declared.decoder.DecodingError.TheVariants.{NoStream, Memory}
-use Rattle.qpack_ends.specs.declared.section.SectionError.{SectionError}
-use Rattle.qpack_ends.specs.declared.section.SectionError.TheVariants as section
-use Rattle.qpack_ends.specs.declared.section.reader.Progress.{Progress}
-use Rattle.qpack_ends.specs.declared.section.reader.Progress.TheVariants as progress
-use Rattle.qpack_ends.specs.Decoders.{DecodingEnd, blocked_behind, Checks, IsNotAnswered, IsOneTooMany, StopsBlocking}
-use Rattle.qpack_ends.specs.Decoders.{StopsBehindReport}
-use Rattle.qpack_ends.specs.PieceDecoders.{ReadsPiece, ReadsAs, Follows, StopsPiece, Unfollowed, begun_after}
-use Rattle.qpack_ends.specs.PieceLaws.{LeavesReading}
-use Rattle.qpack_ends.specs.Pieces.{ReaderView, Next, ReadsOn, next_of}
-use Rattle.qpack_ends.specs.Pieces as pieces
-use Rattle.qpack_ends.proofs.BlockedStreams.{once_with}
-use Rattle.qpack_ends.proofs.SectionParts.{count_is}
+use Rattle.qpack_shared.specs.declared.streams.BlockedStream.{BlockedStream}
+use Rattle.qpack_decoding.specs.declared.decoder.DecoderSettings.{DecoderSettings}
+use Rattle.qpack_decoding.specs.declared.decoder.DecodingError.{DecodingError}
+use Rattle.qpack_decoding.specs.declared.decoder.DecodingError.TheVariants.{EncoderStream, Section, TooManyBlocked}
+use Rattle.qpack_decoding.specs.declared.decoder.DecodingError.TheVariants.{NoStream, Memory}
+use Rattle.qpack_decoding.specs.declared.section.SectionError.{SectionError}
+use Rattle.qpack_decoding.specs.declared.section.SectionError.TheVariants as section
+use Rattle.qpack_decoding.specs.declared.section.reader.Progress.{Progress}
+use Rattle.qpack_decoding.specs.declared.section.reader.Progress.TheVariants as progress
+use Rattle.qpack_decoding.specs.Decoders.{DecodingEnd, blocked_behind, Checks, IsNotAnswered, IsOneTooMany, StopsBlocking}
+use Rattle.qpack_decoding.specs.Decoders.{StopsBehindReport}
+use Rattle.qpack_decoding.specs.PieceDecoders.{ReadsPiece, ReadsAs, Follows, StopsPiece, Unfollowed, begun_after}
+use Rattle.qpack_decoding.specs.PieceLaws.{LeavesReading}
+use Rattle.qpack_decoding.specs.Pieces.{ReaderView, Next, ReadsOn, next_of}
+use Rattle.qpack_decoding.specs.Pieces as pieces
+use Rattle.qpack_decoding.proofs.BlockedStreams.{once_with}
+use Rattle.qpack_decoding.proofs.SectionParts.{count_is}
 use Rattle.qpack_connection.specs.Connections.{SentSection}
 use Rattle.qpack_connection.specs.LawfulEncoders.{Decoder, Coming, after_piece, AnswersPiece}
 use Rattle.qpack_connection.specs.RefinedDecodes.{MayWait}

@@ -4,10 +4,10 @@ use Rattle.std.proofs.Common.{◌≡◌, ◌+◌, ◌<◌, ◌≤◌, ◌^◌, �
 use Rattle.qpack_spec.specs.Field.{FieldLine}
 use Rattle.qpack_spec.specs.Table.{insert_count}
 use Rattle.qpack_codec.specs.declared.error.DecoderError.{DecoderError}
-use Rattle.qpack_ends.specs.declared.decoder.DecodingError.TheVariants as decoding
-use Rattle.qpack_ends.specs.declared.encoder_stream.Place.{Place}
-use Rattle.qpack_ends.specs.declared.section.Reading.TheVariants.{Fields, Blocked}
-use Rattle.qpack_ends.specs.declared.section.SectionError.TheVariants.{TooLong, CountAtZero}
+use Rattle.qpack_decoding.specs.declared.decoder.DecodingError.TheVariants as decoding
+use Rattle.qpack_shared.specs.declared.place.Place.{Place}
+use Rattle.qpack_decoding.specs.declared.section.Reading.TheVariants.{Fields, Blocked}
+use Rattle.qpack_decoding.specs.declared.section.SectionError.TheVariants.{TooLong, CountAtZero}
 use Rattle.qpack_connection.specs.Connections.{SentSection}
 use Rattle.qpack_connection.specs.LawfulEncoders.{Decoder, Call, Receive, Decode, Cancel, Run, AreLawful, AllAnswer}
 use Rattle.qpack_connection.proofs.PromiseRows.{Breaks}

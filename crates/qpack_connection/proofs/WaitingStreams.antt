@@ -13,10 +13,10 @@ use Rattle.qpack_safety.specs.AbstractSession.{AbstractSession, abstract_start}
 use Rattle.qpack_safety.specs.TwoEnds.{EndStep, after_end_steps}
 use Rattle.qpack_safety.proofs.WaitingStreams.{waiting_unacknowledged}
 use Rattle.qpack_safety.proofs.TwoEnds.{strict_ends_safe}
-use Rattle.qpack_ends.specs.declared.blocked.BlockedStream.{BlockedStream}
-use Rattle.qpack_ends.specs.Risk.{is_at_risk, streams_at_risk, AreDistinct}
-use Rattle.qpack_ends.proofs.Risk.{at_risk_within}
-use Rattle.qpack_ends.specs.Blocked.{is_listed, required_of, exceeds}
+use Rattle.qpack_shared.specs.declared.streams.BlockedStream.{BlockedStream}
+use Rattle.qpack_encoding.specs.Risk.{is_at_risk, streams_at_risk, AreDistinct}
+use Rattle.qpack_encoding.proofs.Risk.{at_risk_within}
+use Rattle.qpack_decoding.specs.Blocked.{is_listed, required_of, exceeds}
 use Rattle.qpack_connection.specs.Connections.{SentSection, Connection}
 use Rattle.qpack_connection.specs.RefinedConnections.{RefinesSession}
 use Rattle.qpack_connection.specs.RefinedDecodes.{MayWait}

@@ -20,19 +20,19 @@ use Rattle.qpack_rules.proofs.Pieces.{pieces_add_up, pieces_small}
 use Rattle.qpack_spec.proofs.WrittenForms.{decoder_instructions_spelled}
 use Rattle.qpack_safety.proofs.Shown.{decoder_instructions_joined, increments_writable, one_joined}
 use Rattle.qpack_codec.specs.Receiving.{written_report}
-use Rattle.qpack_ends.specs.declared.decoder.DecoderSettings.{DecoderSettings}
-use Rattle.qpack_ends.specs.declared.decoder.DecodingError.{DecodingError}
-use Rattle.qpack_ends.specs.declared.decoder.DecodingError.TheVariants.{EncoderStream, Section, TooManyBlocked}
-use Rattle.qpack_ends.specs.declared.decoder.DecodingError.TheVariants.{NoStream, Memory}
-use Rattle.qpack_ends.specs.declared.encoder_stream.EncoderStreamError.{EncoderStreamError}
-use Rattle.qpack_ends.specs.declared.section.Reading.{Reading}
-use Rattle.qpack_ends.specs.declared.section.Reading.TheVariants as reading
-use Rattle.qpack_ends.specs.declared.section.reader.Progress.{Progress}
-use Rattle.qpack_ends.specs.declared.section.reader.Progress.TheVariants as progress
-use Rattle.qpack_ends.specs.Decoders.{DecodingEnd, acknowledged, blocked_behind, with_report, received, cancelled, Checks}
-use Rattle.qpack_ends.specs.Decoders.{report_before, IsTaken, Decodes, Cancels, EndsReceiving, IsNotAnswered, StopsDecoding}
-use Rattle.qpack_ends.specs.PieceDecoders.{ReadsPiece, StopsPiece, Follows, unblocked}
-use Rattle.qpack_ends.specs.Pieces.{ReaderView}
+use Rattle.qpack_decoding.specs.declared.decoder.DecoderSettings.{DecoderSettings}
+use Rattle.qpack_decoding.specs.declared.decoder.DecodingError.{DecodingError}
+use Rattle.qpack_decoding.specs.declared.decoder.DecodingError.TheVariants.{EncoderStream, Section, TooManyBlocked}
+use Rattle.qpack_decoding.specs.declared.decoder.DecodingError.TheVariants.{NoStream, Memory}
+use Rattle.qpack_decoding.specs.declared.encoder_stream.EncoderStreamError.{EncoderStreamError}
+use Rattle.qpack_decoding.specs.declared.section.Reading.{Reading}
+use Rattle.qpack_decoding.specs.declared.section.Reading.TheVariants as reading
+use Rattle.qpack_decoding.specs.declared.section.reader.Progress.{Progress}
+use Rattle.qpack_decoding.specs.declared.section.reader.Progress.TheVariants as progress
+use Rattle.qpack_decoding.specs.Decoders.{DecodingEnd, acknowledged, blocked_behind, with_report, received, cancelled, Checks}
+use Rattle.qpack_decoding.specs.Decoders.{report_before, IsTaken, Decodes, Cancels, EndsReceiving, IsNotAnswered, StopsDecoding}
+use Rattle.qpack_decoding.specs.PieceDecoders.{ReadsPiece, StopsPiece, Follows, unblocked}
+use Rattle.qpack_decoding.specs.Pieces.{ReaderView}
 use Rattle.qpack_connection.specs.Connections.{SentSection}
 use Rattle.qpack_connection.specs.LawfulEncoders.{Decoder, Coming, Call, Receive, Decode, Begin, Read as ReadPiece}
 use Rattle.qpack_connection.specs.LawfulEncoders.{Cancel, Take, Sent, Step, Run, AnswersPiece}

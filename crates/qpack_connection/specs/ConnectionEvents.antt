@@ -15,12 +15,12 @@ use Rattle.qpack_connection.specs.declared.connection.Outcome.{Outcome}
 use Rattle.qpack_connection.specs.declared.connection.Outcome.TheVariants as outcome
 use Rattle.qpack_connection.specs.declared.connection.Skip.{Skip}
 use Rattle.qpack_connection.specs.declared.connection.Skip.TheVariants.{NothingToDecode, StreamCancelled}
-use Rattle.qpack_ends.specs.declared.encoder.EncoderSettings.{EncoderSettings}
-use Rattle.qpack_ends.specs.declared.encoder.EncodingError.{EncodingError}
+use Rattle.qpack_encoding.specs.declared.encoder.EncoderSettings.{EncoderSettings}
+use Rattle.qpack_encoding.specs.declared.encoder.EncodingError.{EncodingError}
 use Rattle.qpack_connection.specs.Connections.{SentSection, Connection, IsNew, Call, Encode, SetCapacity, Shrink}
 use Rattle.qpack_connection.specs.Connections.{Hear, Receive, Decode, Cancel, Step, Run}
-use Rattle.qpack_ends.specs.Decoders.{DecodingEnd}
-use Rattle.qpack_ends.specs.Encoders.{EncodingEnd, Encodes}
+use Rattle.qpack_decoding.specs.Decoders.{DecodingEnd}
+use Rattle.qpack_encoding.specs.Encoders.{EncodingEnd, Encodes}
 use Rattle.qpack_connection.specs.OwnedLines.{lines_of}
 use Rattle.qpack_connection.specs.TwoEndsHeadline.{Fits, AllFit}
 

@@ -8,7 +8,7 @@ use Rattle.qpack_connection.specs.Connections.{Connection, Call, Run}
 use Rattle.qpack_connection.specs.declared.connection.RunError.{RunError}
 use Rattle.qpack_connection.specs.declared.connection.RunError.TheVariants.{Settings, Memory}
 use Rattle.qpack_connection.specs.ConnectionEvents.{Shows, BeginsWith, call_of, Makes, GoesAll}
-use Rattle.qpack_ends.specs.Decoders.{FailsSettings}
+use Rattle.qpack_decoding.specs.Decoders.{FailsSettings}
 use Rattle.qpack_connection.specs.TwoEndsHeadline.{Answers, AllFit, AllAnswer}
 
 -- a call is made, and returns what the theorem says

@@ -9,19 +9,19 @@ use Rattle.qpack_spec.specs.Instruction.{DecoderInstruction}
 use Rattle.qpack_rules.specs.Session.{RequestStream, stream_at, with_stream, oldest_undecoded}
 use Rattle.qpack_spec.specs.StrictReading.{strict_reading}
 use Rattle.qpack_spec.specs.Table.{Table, window}
-use Rattle.qpack_ends.specs.declared.decoder.DecoderSettings.{DecoderSettings}
-use Rattle.qpack_ends.specs.declared.decoder.DecodingError.{DecodingError}
-use Rattle.qpack_ends.specs.declared.decoder.DecodingError.TheVariants as decoding
-use Rattle.qpack_ends.specs.declared.encoder.EncoderSettings.{EncoderSettings}
-use Rattle.qpack_ends.specs.declared.encoder.EncodingError.{EncodingError}
-use Rattle.qpack_ends.specs.declared.section.Reading.{Reading}
-use Rattle.qpack_ends.specs.declared.section.Reading.TheVariants as reading
-use Rattle.qpack_ends.specs.Decoders.{DecodingEnd, Begins, IsTaken, Decodes, AsksToDecode, Cancels}
-use Rattle.qpack_ends.specs.Decoders as decoders
-use Rattle.qpack_ends.specs.Encoders.{EncodingEnd, Starts, SetsCapacity, Shrinks, Encodes}
-use Rattle.qpack_ends.specs.Encoders as encoders
-use Rattle.qpack_ends.specs.Hearing as hearing
-use Rattle.qpack_ends.specs.Receiving as receiving
+use Rattle.qpack_decoding.specs.declared.decoder.DecoderSettings.{DecoderSettings}
+use Rattle.qpack_decoding.specs.declared.decoder.DecodingError.{DecodingError}
+use Rattle.qpack_decoding.specs.declared.decoder.DecodingError.TheVariants as decoding
+use Rattle.qpack_encoding.specs.declared.encoder.EncoderSettings.{EncoderSettings}
+use Rattle.qpack_encoding.specs.declared.encoder.EncodingError.{EncodingError}
+use Rattle.qpack_decoding.specs.declared.section.Reading.{Reading}
+use Rattle.qpack_decoding.specs.declared.section.Reading.TheVariants as reading
+use Rattle.qpack_decoding.specs.Decoders.{DecodingEnd, Begins, IsTaken, Decodes, AsksToDecode, Cancels}
+use Rattle.qpack_decoding.specs.Decoders as decoders
+use Rattle.qpack_encoding.specs.Encoders.{EncodingEnd, Starts, SetsCapacity, Shrinks, Encodes}
+use Rattle.qpack_encoding.specs.Encoders as encoders
+use Rattle.qpack_encoding.specs.Hearing as hearing
+use Rattle.qpack_decoding.specs.Receiving as receiving
 
 -- ---- what there is
 

@@ -17,16 +17,16 @@ use Rattle.std.specs.Prelude.{Err}
 use Rattle.std.specs.Option.{IfSome}
 use Rattle.qpack_spec.specs.Field.{FieldLine, fields_of_lines, total_size}
 use Rattle.qpack_spec.specs.Stateless.{saturated_size}
-use Rattle.qpack_ends.specs.declared.blocked.BlockedStream.{BlockedStream}
-use Rattle.qpack_ends.specs.declared.decoder.DecodingError.{DecodingError}
-use Rattle.qpack_ends.specs.declared.decoder.DecodingError.TheVariants as decoding
-use Rattle.qpack_ends.specs.declared.encoder.EncodingError.{EncodingError}
-use Rattle.qpack_ends.specs.declared.encoder.EncodingError.TheVariants as encoding
-use Rattle.qpack_ends.specs.declared.section.LineError.TheVariants as line
-use Rattle.qpack_ends.specs.declared.section.Reading.{Reading}
-use Rattle.qpack_ends.specs.declared.section.Reading.TheVariants as reading
-use Rattle.qpack_ends.specs.declared.section.SectionError.{SectionError}
-use Rattle.qpack_ends.specs.declared.section.SectionError.TheVariants as section
+use Rattle.qpack_shared.specs.declared.streams.BlockedStream.{BlockedStream}
+use Rattle.qpack_decoding.specs.declared.decoder.DecodingError.{DecodingError}
+use Rattle.qpack_decoding.specs.declared.decoder.DecodingError.TheVariants as decoding
+use Rattle.qpack_encoding.specs.declared.encoder.EncodingError.{EncodingError}
+use Rattle.qpack_encoding.specs.declared.encoder.EncodingError.TheVariants as encoding
+use Rattle.qpack_decoding.specs.declared.section.LineError.TheVariants as line
+use Rattle.qpack_decoding.specs.declared.section.Reading.{Reading}
+use Rattle.qpack_decoding.specs.declared.section.Reading.TheVariants as reading
+use Rattle.qpack_decoding.specs.declared.section.SectionError.{SectionError}
+use Rattle.qpack_decoding.specs.declared.section.SectionError.TheVariants as section
 use Rattle.qpack_connection.specs.declared.connection.ConnectionSettings.{ConnectionSettings}
 use Rattle.qpack_connection.specs.declared.connection.Event.{Event}
 use Rattle.qpack_connection.specs.declared.connection.Event.TheVariants as event

@@ -1,7 +1,7 @@
 -- An encoding end that is made before the settings of its peer come (RFC 9204, section 3.2.3).
 use Rattle.std.specs.Prelude.{◌≡◌, ℕ, List, None, Ok}
-use Rattle.qpack_ends.specs.declared.encoder.EncoderSettings.{EncoderSettings}
-use Rattle.qpack_ends.specs.Encoders.{EncodingEnd, Starts, IsUnused, of_peer, TakesPeer}
+use Rattle.qpack_encoding.specs.declared.encoder.EncoderSettings.{EncoderSettings}
+use Rattle.qpack_encoding.specs.Encoders.{EncodingEnd, Starts, IsUnused, of_peer, TakesPeer}
 use Rattle.qpack_connection.specs.LawfulDecoders.{Call, Run}
 
 -- a new end is unused

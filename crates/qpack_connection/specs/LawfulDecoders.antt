@@ -11,13 +11,13 @@ use Rattle.qpack_spec.specs.Reading.{Block, references_of}
 use Rattle.qpack_spec.specs.Stream.{SpellsAll}
 use Rattle.qpack_spec.specs.Table.{insert_count, with_numbers, with_unacknowledged}
 use Rattle.qpack_spec.specs.Text.{WhereShorter}
-use Rattle.qpack_ends.specs.declared.encoder.EncoderSettings.{EncoderSettings}
-use Rattle.qpack_ends.specs.declared.encoder.EncodingError.{EncodingError}
-use Rattle.qpack_ends.specs.Encoders.{EncodingEnd, IsUnused, begun, is_full, Encodes, SetsCapacity, StopsTelling}
-use Rattle.qpack_ends.specs.Encoders.{Shrinks, StopsShrinking, ReceivesBytes}
-use Rattle.qpack_ends.specs.Hearing.{Receives}
-use Rattle.qpack_ends.specs.Risk.{streams_at_risk}
-use Rattle.qpack_ends.specs.Wishes.{EncodesAsWished}
+use Rattle.qpack_encoding.specs.declared.encoder.EncoderSettings.{EncoderSettings}
+use Rattle.qpack_encoding.specs.declared.encoder.EncodingError.{EncodingError}
+use Rattle.qpack_encoding.specs.Encoders.{EncodingEnd, IsUnused, begun, is_full, Encodes, SetsCapacity, StopsTelling}
+use Rattle.qpack_encoding.specs.Encoders.{Shrinks, StopsShrinking, ReceivesBytes}
+use Rattle.qpack_encoding.specs.Hearing.{Receives}
+use Rattle.qpack_encoding.specs.Risk.{streams_at_risk}
+use Rattle.qpack_encoding.specs.Wishes.{EncodesAsWished}
 use Rattle.qpack_codec.specs.declared.encoder.choices.Wish.{Wish}
 use Rattle.qpack_codec.specs.declared.encoder.choices.Wish.TheVariants.{Insert}
 use Rattle.qpack_connection.specs.RefinedRefusals.{StopsEncoding}

@@ -11,17 +11,17 @@ use Rattle.qpack_rules.specs.LawfulEncoders.{IsLawfulEncoder, IsLawfulSection}
 use Rattle.qpack_spec.specs.Stream.{SpellsAll}
 use Rattle.qpack_spec.specs.StrictReading.{strict_reading}
 use Rattle.qpack_spec.specs.Table.{Table, insert_count, window, has_number}
-use Rattle.qpack_ends.specs.declared.decoder.DecoderSettings.{DecoderSettings}
-use Rattle.qpack_ends.specs.declared.decoder.DecodingError.{DecodingError}
-use Rattle.qpack_ends.specs.declared.decoder.DecodingError.TheVariants.{NoStream, Memory}
-use Rattle.qpack_ends.specs.declared.section.Reading.{Reading}
-use Rattle.qpack_ends.specs.declared.section.reader.Progress.{Progress}
-use Rattle.qpack_ends.specs.declared.section.reader.Progress.TheVariants as progress
+use Rattle.qpack_decoding.specs.declared.decoder.DecoderSettings.{DecoderSettings}
+use Rattle.qpack_decoding.specs.declared.decoder.DecodingError.{DecodingError}
+use Rattle.qpack_decoding.specs.declared.decoder.DecodingError.TheVariants.{NoStream, Memory}
+use Rattle.qpack_decoding.specs.declared.section.Reading.{Reading}
+use Rattle.qpack_decoding.specs.declared.section.reader.Progress.{Progress}
+use Rattle.qpack_decoding.specs.declared.section.reader.Progress.TheVariants as progress
 use Rattle.qpack_connection.specs.Connections.{SentSection}
-use Rattle.qpack_ends.specs.Decoders.{DecodingEnd, Begins, IsTaken, Decodes, Cancels, ReceivesBytes}
-use Rattle.qpack_ends.specs.PieceDecoders.{ReadsPiece}
-use Rattle.qpack_ends.specs.Pieces.{ReaderView, fresh}
-use Rattle.qpack_ends.specs.Receiving.{Receives}
+use Rattle.qpack_decoding.specs.Decoders.{DecodingEnd, Begins, IsTaken, Decodes, Cancels, ReceivesBytes}
+use Rattle.qpack_decoding.specs.PieceDecoders.{ReadsPiece}
+use Rattle.qpack_decoding.specs.Pieces.{ReaderView, fresh}
+use Rattle.qpack_decoding.specs.Receiving.{Receives}
 use Rattle.qpack_connection.specs.RefinedDecodes.{AnswersSection}
 use Rattle.qpack_connection.specs.RefinedRefusals.{StopsCancelling}
 

@@ -15,12 +15,12 @@ use Rattle.qpack_spec.specs.Stream.{SpellsAll}
 use Rattle.qpack_spec.specs.Table.{Table, UnacknowledgedBlock, insert_count, without_oldest, without_stream}
 use Rattle.qpack_spec.specs.WrittenLaws.{IsByteField}
 use Rattle.qpack_safety.specs.Refines.{Agrees}
-use Rattle.qpack_ends.specs.declared.encoder.EncoderSettings.{EncoderSettings}
-use Rattle.qpack_ends.specs.declared.decoder.DecoderSettings.{DecoderSettings}
-use Rattle.qpack_ends.specs.declared.section.Reading.TheVariants as reading
-use Rattle.qpack_ends.specs.declared.section.reader.Progress.TheVariants as progress
-use Rattle.qpack_ends.specs.Decoders.{DecodingEnd, Begins}
-use Rattle.qpack_ends.specs.Encoders.{EncodingEnd, IsUnused}
+use Rattle.qpack_encoding.specs.declared.encoder.EncoderSettings.{EncoderSettings}
+use Rattle.qpack_decoding.specs.declared.decoder.DecoderSettings.{DecoderSettings}
+use Rattle.qpack_decoding.specs.declared.section.Reading.TheVariants as reading
+use Rattle.qpack_decoding.specs.declared.section.reader.Progress.TheVariants as progress
+use Rattle.qpack_decoding.specs.Decoders.{DecodingEnd, Begins}
+use Rattle.qpack_encoding.specs.Encoders.{EncodingEnd, IsUnused}
 use Rattle.qpack_connection.specs.LawfulDecoders.{Call, Encode, Receive, Sent, Step, Run}
 use Rattle.qpack_connection.specs.LawfulEncoders.{UnderWay, Encoder, IsLawful, IsUnderWay, KeepsToLimit, Decoder}
 use Rattle.qpack_connection.specs.LawfulEncoders as decoding

@@ -6,12 +6,12 @@ use Rattle.qpack_rules.specs.LawfulStreams.{IsLawfulStream}
 use Rattle.qpack_spec.specs.Stream.{SpellsAll}
 use Rattle.qpack_spec.specs.Table.{Table}
 use Rattle.qpack_codec.specs.declared.error.DecoderError.{DecoderError}
-use Rattle.qpack_ends.specs.declared.decoder_stream.DecoderStreamError.{DecoderStreamError}
-use Rattle.qpack_ends.specs.declared.encoder_stream.Place.{Place}
-use Rattle.qpack_ends.specs.declared.encoder_stream.EncoderStreamError.TheVariants.{Refused}
-use Rattle.qpack_ends.specs.Hearing as hearing
-use Rattle.qpack_ends.specs.Hearing.{hear_in_turn}
-use Rattle.qpack_ends.specs.Receiving as receiving
+use Rattle.qpack_encoding.specs.declared.decoder_stream.DecoderStreamError.{DecoderStreamError}
+use Rattle.qpack_shared.specs.declared.place.Place.{Place}
+use Rattle.qpack_decoding.specs.declared.encoder_stream.EncoderStreamError.TheVariants.{Refused}
+use Rattle.qpack_encoding.specs.Hearing as hearing
+use Rattle.qpack_encoding.specs.Hearing.{hear_in_turn}
+use Rattle.qpack_decoding.specs.Receiving as receiving
 
 -- if the bytes that were passed and those that are to come are a lawful encoder stream, the call does not return that
 -- it is refused

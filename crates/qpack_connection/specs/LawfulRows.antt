@@ -10,11 +10,11 @@ use Rattle.qpack_spec.specs.Instruction.{Increment}
 use Rattle.qpack_rules.specs.LawfulEncoders.{IsLawfulSection}
 use Rattle.qpack_spec.specs.StaticTable.{field}
 use Rattle.qpack_spec.specs.Table.{Table, UnacknowledgedBlock, sent_entry, table_of}
-use Rattle.qpack_ends.specs.declared.blocked.BlockedStream.{BlockedStream}
-use Rattle.qpack_ends.specs.Decoders.{DecodingEnd}
-use Rattle.qpack_ends.specs.Encoders.{EncodingEnd}
-use Rattle.qpack_ends.specs.Places.{behind}
-use Rattle.qpack_ends.specs.declared.section.Reading.TheVariants as reading
+use Rattle.qpack_shared.specs.declared.streams.BlockedStream.{BlockedStream}
+use Rattle.qpack_decoding.specs.Decoders.{DecodingEnd}
+use Rattle.qpack_encoding.specs.Encoders.{EncodingEnd}
+use Rattle.qpack_shared.specs.Places.{behind}
+use Rattle.qpack_decoding.specs.declared.section.Reading.TheVariants as reading
 use Rattle.qpack_connection.specs.Connections.{SentSection}
 use Rattle.qpack_connection.specs.LawfulDecoders as decoders
 use Rattle.qpack_connection.specs.LawfulEncoders.{Encoder, IsLawful, KeepsToLimit, Call, Receive, Decode, Cancel}

@@ -6,8 +6,8 @@ use Rattle.qpack_spec.specs.Instruction.{DecoderInstruction}
 use Rattle.qpack_spec.specs.Table.{fields_in}
 use Rattle.qpack_spec.specs.Window.{eviction_count}
 use Rattle.qpack_rules.specs.StrictInstructions.{hear_in_turn}
-use Rattle.qpack_ends.specs.declared.encoder.EncoderSettings.{EncoderSettings}
-use Rattle.qpack_ends.specs.Encoders.{EncodingEnd, IsUnused, begun, told, written_alone}
+use Rattle.qpack_encoding.specs.declared.encoder.EncoderSettings.{EncoderSettings}
+use Rattle.qpack_encoding.specs.Encoders.{EncodingEnd, IsUnused, begun, told, written_alone}
 use Rattle.qpack_connection.specs.LawfulDecoders.{Call, Encode, SetCapacity, Shrink, Receive, Step, Run}
 
 -- no section is unacknowledged, and the peer is known to have received the newest entry that the capacity evicts

@@ -2,8 +2,8 @@
 -- peer.
 use Rattle.std.specs.Prelude.{ℕ, true, false, List, [], ◌∷◌, take, Some}
 use Rattle.qpack_spec.specs.Field.{unmarked}
-use Rattle.qpack_ends.specs.Decoders.{DecodingEnd}
-use Rattle.qpack_ends.specs.Pieces.{ReaderView, fresh, opened, behind_line}
+use Rattle.qpack_decoding.specs.Decoders.{DecodingEnd}
+use Rattle.qpack_decoding.specs.Pieces.{ReaderView, fresh, opened, behind_line}
 use Rattle.qpack_connection.specs.LawfulEncoders.{Coming, begins, Decoder, IsLawfulPiece}
 use Rattle.qpack_connection.specs.LawfulRows.{authority, sample_path, encoder_begun, encoder_first, bytes_first}
 use Rattle.qpack_connection.specs.LawfulRows.{decoder_after, waits_on_4, sent_post_base}

@@ -6,8 +6,8 @@ use Rattle.qpack_spec.specs.Instruction.{DecoderInstruction, Acknowledgment}
 use Rattle.qpack_spec.specs.StaticTable.{field}
 use Rattle.qpack_spec.specs.Table.{UnacknowledgedBlock, sent_entry}
 use Rattle.qpack_rules.specs.StrictInstructions.{required_by}
-use Rattle.qpack_ends.specs.Encoders.{EncodingEnd}
-use Rattle.qpack_ends.specs.Places.{behind}
+use Rattle.qpack_encoding.specs.Encoders.{EncodingEnd}
+use Rattle.qpack_shared.specs.Places.{behind}
 use Rattle.qpack_connection.specs.LawfulDecoders.{IsLawful}
 
 -- ---- the server

@@ -16,9 +16,9 @@ use Rattle.qpack_safety.specs.TwoEnds.{EndStep, after_end_steps}
 use Rattle.qpack_connection.specs.Connections.{Wire, SentSection, Connection, IsNew, EncodesOn, SetsCapacityOn}
 use Rattle.qpack_connection.specs.Connections.{ShrinksOn, CancelsOn}
 use Rattle.qpack_connection.specs.Thinned.{Thins}
-use Rattle.qpack_ends.specs.Encoders.{IsSound}
-use Rattle.qpack_ends.specs.Hearing as hearing
-use Rattle.qpack_ends.specs.Receiving as receiving
+use Rattle.qpack_encoding.specs.Encoders.{IsSound}
+use Rattle.qpack_encoding.specs.Hearing as hearing
+use Rattle.qpack_decoding.specs.Receiving as receiving
 
 -- what came of a stream
 abbrev pub received_of : Wire → List ℕ

@@ -6,15 +6,15 @@ use Rattle.qpack_spec.specs.Field.{FieldLine, fields_of_lines, total_size}
 use Rattle.qpack_spec.specs.Table.{insert_count}
 use Rattle.qpack_safety.specs.AbstractSession.{abstract_start}
 use Rattle.qpack_safety.specs.TwoEnds.{EndStep, after_end_steps}
-use Rattle.qpack_ends.specs.declared.decoder.DecodingError.{DecodingError}
-use Rattle.qpack_ends.specs.declared.decoder.DecodingError.TheVariants.{Section, NoStream, Memory}
-use Rattle.qpack_ends.specs.declared.section.Reading.{Reading}
-use Rattle.qpack_ends.specs.declared.section.Reading.TheVariants as reading
+use Rattle.qpack_decoding.specs.declared.decoder.DecodingError.{DecodingError}
+use Rattle.qpack_decoding.specs.declared.decoder.DecodingError.TheVariants.{Section, NoStream, Memory}
+use Rattle.qpack_decoding.specs.declared.section.Reading.{Reading}
+use Rattle.qpack_decoding.specs.declared.section.Reading.TheVariants as reading
 use Rattle.qpack_connection.specs.Connections.{SentSection, Connection, DecodesOn}
-use Rattle.qpack_ends.specs.Decoders.{DecodingEnd, IsOneTooMany}
+use Rattle.qpack_decoding.specs.Decoders.{DecodingEnd, IsOneTooMany}
 use Rattle.qpack_connection.specs.RefinedConnections.{RefinesSession}
 use Rattle.qpack_connection.specs.RefinedStreams.{IsOpen}
-use Rattle.qpack_ends.specs.Sections.{code_of}
+use Rattle.qpack_decoding.specs.Sections.{code_of}
 
 -- what the next section of a stream returns: exactly its fields, once the insertions were received that it requires;
 -- until then how many these are; or memory is refused, or the stream number is invalid; or the sizes of the fields are

@@ -4,9 +4,9 @@ use Rattle.std.specs.Prelude.{◌≡◌, ℕ, ⊤, List, ◌++◌, None, Result,
 use Rattle.qpack_spec.specs.Table.{insert_count}
 use Rattle.qpack_safety.specs.AbstractSession.{abstract_start}
 use Rattle.qpack_safety.specs.TwoEnds.{EndStep, after_end_steps}
-use Rattle.qpack_ends.specs.declared.decoder.DecodingError.{DecodingError}
-use Rattle.qpack_ends.specs.declared.decoder.DecodingError.TheVariants.{Memory}
-use Rattle.qpack_ends.specs.declared.encoder.EncodingError.{EncodingError}
+use Rattle.qpack_decoding.specs.declared.decoder.DecodingError.{DecodingError}
+use Rattle.qpack_decoding.specs.declared.decoder.DecodingError.TheVariants.{Memory}
+use Rattle.qpack_encoding.specs.declared.encoder.EncodingError.{EncodingError}
 use Rattle.qpack_connection.specs.Connections.{Connection, TakesAndHears, ReceivesOn}
 use Rattle.qpack_connection.specs.RefinedConnections.{RefinesSession}
 

@@ -3,11 +3,11 @@ use Rattle.std.specs.Prelude.{◌≡◌, ℕ, List, None, Some, Result, Ok, Err}
 use Rattle.qpack_spec.specs.Field.{FieldLine}
 use Rattle.qpack_spec.specs.StrictReading.{strict_reading}
 use Rattle.qpack_spec.specs.Table.{insert_count, window}
-use Rattle.qpack_ends.specs.Blocked.{ready}
-use Rattle.qpack_ends.specs.Decoders.{DecodingEnd, Decodes}
-use Rattle.qpack_ends.specs.declared.decoder.DecodingError.{DecodingError}
-use Rattle.qpack_ends.specs.declared.decoder.DecodingError.TheVariants.{Section}
-use Rattle.qpack_ends.specs.declared.section.Reading.{Reading}
+use Rattle.qpack_decoding.specs.Blocked.{ready}
+use Rattle.qpack_decoding.specs.Decoders.{DecodingEnd, Decodes}
+use Rattle.qpack_decoding.specs.declared.decoder.DecodingError.{DecodingError}
+use Rattle.qpack_decoding.specs.declared.decoder.DecodingError.TheVariants.{Section}
+use Rattle.qpack_decoding.specs.declared.section.Reading.{Reading}
 
 -- the section was decoded, waits for more insertions, or is refused
 abbrev pub IsSettled : Result Reading DecodingError → Type 0

@@ -6,14 +6,14 @@ use Rattle.std.specs.List.{AllByRecursion}
 use Rattle.qpack_spec.specs.Field.{fields_of_lines}
 use Rattle.qpack_spec.specs.Table.{insert_count}
 use Rattle.qpack_spec.specs.WrittenLaws.{IsByteField}
-use Rattle.qpack_ends.specs.declared.decoder.DecodingError.{DecodingError}
-use Rattle.qpack_ends.specs.declared.section.Reading.{Reading}
-use Rattle.qpack_ends.specs.declared.section.Reading.TheVariants as reading
+use Rattle.qpack_decoding.specs.declared.decoder.DecodingError.{DecodingError}
+use Rattle.qpack_decoding.specs.declared.section.Reading.{Reading}
+use Rattle.qpack_decoding.specs.declared.section.Reading.TheVariants as reading
 use Rattle.qpack_connection.specs.Connections.{Connection, IsNew, Call, Encode, SetCapacity, Shrink, Hear, Receive}
 use Rattle.qpack_connection.specs.Connections.{Decode, Cancel, Step, Run}
-use Rattle.qpack_ends.specs.Decoders.{blocked_streams}
-use Rattle.qpack_ends.specs.Encoders.{StopsTelling, StopsShrinking}
-use Rattle.qpack_ends.specs.Risk.{streams_at_risk}
+use Rattle.qpack_decoding.specs.Decoders.{blocked_streams}
+use Rattle.qpack_encoding.specs.Encoders.{StopsTelling, StopsShrinking}
+use Rattle.qpack_encoding.specs.Risk.{streams_at_risk}
 use Rattle.qpack_connection.specs.RefinedDecodes.{AnswersSection}
 use Rattle.qpack_connection.specs.RefinedRefusals.{StopsEncoding, StopsCancelling}
 use Rattle.qpack_connection.specs.RefinedStreams.{IsOpen, AnswersTotal}

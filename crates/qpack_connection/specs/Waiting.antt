@@ -3,8 +3,8 @@
 use Rattle.std.specs.Prelude.{◌≡◌, false, Some}
 use Rattle.std.specs.List.{AllByRecursion}
 use Rattle.qpack_rules.specs.Session.{stream_at, oldest_undecoded}
-use Rattle.qpack_ends.specs.declared.blocked.BlockedStream.{BlockedStream}
-pub use Rattle.qpack_ends.specs.Blocked.{AreOfOneEach}
+use Rattle.qpack_shared.specs.declared.streams.BlockedStream.{BlockedStream}
+pub use Rattle.qpack_decoding.specs.Blocked.{AreOfOneEach}
 use Rattle.qpack_connection.specs.Connections.{SentSection, Connection}
 
 -- the stream is not cancelled, and its next section requires this many insertions

@@ -7,7 +7,7 @@ ghost use Rattle.qpack_connection.specs.ConnectionRuns.{AnswersEvent, StepsAll, 
 ghost use Rattle.qpack_connection.specs.ConnectionRuns.{AnswerWhatWasHanded};
 ghost use Rattle.qpack_connection.specs.Headline.{EventsAnswerWhatWasHanded};
 ghost use Rattle.qpack_connection.specs.declared.connection.RunError.TheVariants.{Settings, Memory};
-ghost use Rattle.qpack_ends.specs.Decoders.{end_of, FailsSettings};
+ghost use Rattle.qpack_decoding.specs.Decoders.{end_of, FailsSettings};
 ghost use Rattle.qpack_connection.specs.TwoEndsHeadline.{IsWithin};
 
 use crate::connection::ends::Ends;

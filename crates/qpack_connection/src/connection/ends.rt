@@ -3,7 +3,7 @@
 ghost use Rattle.std.specs.Prelude.{◌≡◌, IfOk, IfErr};
 ghost use Rattle.qpack_connection.specs.OwnedLines.{lines_of};
 ghost use Rattle.qpack_connection.specs.ConnectionEvents.{BeginsWith, Goes, IsReached};
-ghost use Rattle.qpack_ends.specs.Decoders.{end_of, FailsSettings};
+ghost use Rattle.qpack_decoding.specs.Decoders.{end_of, FailsSettings};
 ghost use Rattle.qpack_connection.specs.declared.connection.Event.TheVariants.{Encode, SetCapacity, Shrink};
 ghost use Rattle.qpack_connection.specs.declared.connection.Event.TheVariants.{ToDecoder, ToEncoder, Decode, Cancel};
 
@@ -33,7 +33,7 @@ pub(super) struct Ends {
 impl Model for Ends {
     ghost use Rattle.qpack_connection.specs.Connections.{Connection};
     ghost use Rattle.qpack_connection.specs.ConnectionEvents.{connection_of};
-    ghost use Rattle.qpack_ends.specs.Decoders.{end_of};
+    ghost use Rattle.qpack_decoding.specs.Decoders.{end_of};
 
     ghost Value = { Connection };
 

@@ -1,8 +1,8 @@
 use Rattle.std.proofs.Common.{◌≡◌, ◌∙◌, ℕ, List, [], ◌∷◌, inl, map, refl, ap, sym, eqb-true}
 use Rattle.qpack_spec.specs.Integer.{written_integer}
 use Rattle.qpack_spec.specs.Prefix.{prefix_for, written_prefix}
-use Rattle.qpack_ends.specs.Encoders.{written_alone}
-use Rattle.qpack_ends.proofs.NoFields.{no_field, nothing_written}
+use Rattle.qpack_encoding.specs.Encoders.{written_alone}
+use Rattle.qpack_encoding.proofs.NoFields.{no_field, nothing_written}
 use Rattle.h3_qpack_c.specs.declared.fields.Field.{Field}
 use Rattle.h3_qpack_c.specs.Crossing.{line_of_lent, copied, told_of_copy}
 use Rattle.h3_qpack_c.proofs.stateless.h3q_encode_stateless.Goals as goal

@@ -1,5 +1,5 @@
 use Rattle.std.proofs.Common.{Ok, Err, sym, ◌∙◌}
-use Rattle.qpack_ends.specs.Decoders.{end_of}
+use Rattle.qpack_decoding.specs.Decoders.{end_of}
 use Rattle.qpack_connection.proofs.ConnectionCalls.{cancel_goes, gives_through}
 use Rattle.qpack_connection.proofs.connection.ends.Ends.cancel.Goals as goal
 

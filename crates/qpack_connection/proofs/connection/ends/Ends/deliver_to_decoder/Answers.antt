@@ -1,5 +1,5 @@
 use Rattle.std.proofs.Common.{ℕ, List, length, sym, ap, ◌∙◌}
-use Rattle.qpack_ends.specs.Decoders.{end_of}
+use Rattle.qpack_decoding.specs.Decoders.{end_of}
 use Rattle.qpack_connection.proofs.ConnectionCalls.{receive_goes, offered_is}
 use Rattle.qpack_connection.proofs.connection.ends.Ends.deliver_to_decoder.Goals as goal
 

@@ -1,6 +1,6 @@
 use Rattle.std.proofs.Common.{ℕ, List, length, sym, ap, ◌∙◌}
-use Rattle.qpack_ends.specs.Decoders.{end_of}
-use Rattle.qpack_ends.proofs.Decoders.{is_taken}
+use Rattle.qpack_decoding.specs.Decoders.{end_of}
+use Rattle.qpack_decoding.proofs.Decoders.{is_taken}
 use Rattle.qpack_connection.proofs.ConnectionCalls.{hear_goes, offered_is}
 use Rattle.qpack_connection.proofs.connection.ends.Ends.deliver_to_encoder.Goals as goal
 

@@ -1,5 +1,5 @@
 use Rattle.std.proofs.Common.{refl}
-use Rattle.qpack_ends.specs.Decoders.{end_of}
+use Rattle.qpack_decoding.specs.Decoders.{end_of}
 use Rattle.qpack_connection.proofs.ConnectionCalls.{encode_goes, shown_still}
 use Rattle.qpack_connection.proofs.connection.ends.Ends.encode.Goals as goal
 

@@ -1,4 +1,4 @@
-use Rattle.qpack_ends.specs.Decoders.{end_of}
+use Rattle.qpack_decoding.specs.Decoders.{end_of}
 use Rattle.qpack_connection.proofs.ConnectionStarts.{begins_with}
 use Rattle.qpack_connection.proofs.connection.ends.Ends.new.Goals as goal
 

@@ -1,4 +1,4 @@
-use Rattle.qpack_ends.specs.Decoders.{end_of}
+use Rattle.qpack_decoding.specs.Decoders.{end_of}
 use Rattle.qpack_connection.proofs.ConnectionCalls.{shrink_goes}
 use Rattle.qpack_connection.proofs.connection.ends.Ends.shrink.Goals as goal
 

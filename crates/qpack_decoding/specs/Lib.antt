@@ -1,0 +1,11 @@
+pub mod FieldSections
+pub mod Lines
+pub mod Sections
+pub mod SectionPrefixes
+pub mod Missing
+pub mod Pieces
+pub mod Receiving
+pub mod Blocked
+pub mod Decoders
+pub mod PieceDecoders
+pub mod PieceLaws

@@ -1,0 +1,13 @@
+pub mod Risk
+pub mod LimitedChoices
+pub mod RiskRows
+pub mod WishRows
+pub mod LimitedSections
+pub mod Encoders
+pub mod BareEnds
+pub mod StrictHearing
+pub mod HeardBytes
+pub mod HeardStreams
+pub mod Wishes
+pub mod NoFields
+pub mod SentSections

@@ -1,0 +1,4 @@
+pub mod Risk
+pub mod Hearing
+pub mod Encoders
+pub mod Wishes

@@ -1,5 +1,0 @@
-use Rattle.qpack_ends.proofs.ReceivedStreams.{nothing_received}
-use Rattle.qpack_ends.proofs.encoder_stream.EncoderStream.new.Goals as goal
-
-pub returns : goal.returns
-returns c table = nothing_received table c.first.result c.new.result.items c.first.ensures c.new.ensures.items

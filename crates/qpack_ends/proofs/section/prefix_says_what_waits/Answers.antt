@@ -1,5 +1,0 @@
-use Rattle.qpack_ends.proofs.SectionParts.{says_what_waits}
-use Rattle.qpack_ends.proofs.section.prefix_says_what_waits.Goals as goal
-
-pub returns : goal.returns
-returns c = says_what_waits

@@ -1,5 +1,0 @@
-use Rattle.qpack_ends.proofs.PieceSteps.{pieces_keep}
-use Rattle.qpack_ends.proofs.section.reader.pieces_keep_the_reading.Goals as goal
-
-pub returns : goal.returns
-returns c = pieces_keep

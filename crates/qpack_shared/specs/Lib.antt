@@ -1,0 +1,3 @@
+pub mod Places
+pub mod Unsent
+pub mod Streams
