@@ -40,7 +40,7 @@ if [ "${PROVE:-}" = 1 ]; then
     for crate in qpack_spec qpack_rules qpack_base qpack_wire qpack_table qpack_codec qpack_shared; do (cd crates/$crate && rt check); done
     cd crates/qpack_decoding
     rt check --only decoder::ConnectionDecoder::is_blocked >said
-    grep -q 'proved=3' said
+    grep -q 'proved=4' said
     rt plant --only is_blocked
     cp src/blocked.rt kept && sed -i 's/=> required > inserted,/=> required <= inserted,/' src/blocked.rt
     fails rt check --only decoder::ConnectionDecoder::is_blocked
