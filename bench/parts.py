@@ -26,13 +26,15 @@ PARTS = {
     "all parts": {},
     "far entries are inserted again": {"FAR": NEVER},
     "what drains is inserted again": {"PART_THAT_DRAINS": NEVER},
-    "likely values are inserted at first sight": {"LIKELY": NEVER},
+    "likely values are inserted at first sight": {"LIKELY": NEVER, "LIKELY_AT_THE_LIMIT": NEVER, "LIKELY_IF_TIGHT": NEVER},
+    "dates are expected to come again": {"DATED": "128"},
     "unlikely values are not, even where there is room": {"UNLIKELY": "-1"},
     "long values have scores of their own": {"LONG": NEVER},
     "fields are inserted for their names": {"MOST_FOR_NAMES": "0"},
     "insertions name what they evict": {"NAMES_EVICTED": "0"},
     "small tables keep what was referenced lately": {"LARGE": "1"},
-    "insertions are paid at the limit": {"FIFTHS_OWED": NEVER},
+    "insertions are paid at the limit": {"FIFTHS_OWED": NEVER, "SIXTEENTHS_OWED": NEVER},
+    "what earned much takes its own room": {"TIMES_EARNED": NEVER},
 }
 
 

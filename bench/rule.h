@@ -21,27 +21,32 @@
 /* The part of the capacity that drains, and that of the oldest entries. In a table of less than LARGE bytes what was
  * referenced lately stays, no entry is let go, and room alone is no reason to insert. */
 #define PART_THAT_DRAINS 4
-#define PART_OF_THE_OLDEST 16
+#define PART_OF_THE_OLDEST 8
 #define LARGE 2048
 
 /* The history: the tags of a set, the bytes of capacity for each of the first FEW_SETS sets and for each of more, and the
  * greatest number of sets. */
 #define WAYS 4
 #define BYTES_A_FIRST_SET 128
-#define BYTES_A_SET 512
+#define BYTES_A_SET 256
 #define FEW_SETS 4
 #define MOST_SETS 32
 
 /* The scores of names: how many there are, what each is at first, what a value that comes again adds, and the part that a new
- * value takes. Values of LONG bytes and more have another score than shorter ones. From LIKELY on a field is inserted at first
- * sight; below UNLIKELY it is not, even where there is room, and at the limit not even if it comes again, but for one of
- * TURNS. */
+ * value takes. Values of LONG bytes and more have another score than shorter ones. The name at DATE is that of dates, which
+ * come again within a second: its score is DATED at first. From LIKELY on a field is inserted at first sight, at the limit from
+ * LIKELY_AT_THE_LIMIT on, and below it in a tight table from LIKELY_IF_TIGHT on; below UNLIKELY it is not, even where there is
+ * room, and at the limit not even if it comes again, but for one of TURNS, and none whose score is 0. */
 #define SCORES 256
 #define MIDDLE 128
+#define DATE 135
+#define DATED 164
 #define SCORE_GAIN 48
 #define SCORE_LOSS 8
 #define LONG 128
-#define LIKELY 144
+#define LIKELY 140
+#define LIKELY_AT_THE_LIMIT 144
+#define LIKELY_IF_TIGHT 192
 #define UNLIKELY 64
 #define TURNS 8
 
@@ -52,15 +57,20 @@
 #define LISTS 253
 #define LATELY 2
 
-/* The most fields that may be inserted for their names, and how many more the first reference to one allows. */
+/* The most fields that may be inserted for their names, how many more the first reference to one allows, and the part of the
+ * capacity that such a field may take. */
 #define MOST_FOR_NAMES 2
 #define GAIN 1
+#define PART_OF_A_NAME 2
 
 /* The most bytes that may be earned and not spent; among how many lists the bytes of all literals are shared, once there are
- * that many; and how many fifths of a share may be owed. */
+ * that many; how many fifths of a share may be owed, and how many sixteenths of the first one. In a small table an entry takes
+ * its own room if its bytes are earned TIMES_EARNED times. */
 #define MOST_EARNED 16384
-#define SHARES 12
+#define SHARES 11
 #define FIFTHS_OWED 4
+#define SIXTEENTHS_OWED 11
+#define TIMES_EARNED 8
 
 /* When an entry was referenced last; if never, why it was inserted. */
 typedef enum { NONE, NONE_FOR_NAME, NONE_SINCE, RECENT, EARLIER } last_use;
@@ -103,12 +113,16 @@ static inline size_t count_sets(size_t capacity) {
 static inline void begin_rule(rule *r, size_t capacity) {
   *r = (rule){.lists_since = SIZE_MAX / 2, .names_left = MOST_FOR_NAMES};
   memset(r->scores, MIDDLE, sizeof r->scores);
+  r->scores[DATE] = DATED;
   r->sets = count_sets(capacity);
 }
 
 static inline int drains(const rule *r, size_t absolute) { return absolute <= r->draining; }
 
 static inline int is_tight(const rule *r) { return r->lists_since <= LISTS_WITHOUT_ROOM; }
+
+/* Whether an insertion found no room in this list or a few before it. */
+static inline int lacked_room_lately(const rule *r) { return r->lists_since <= LATELY; }
 
 /* Returns the sizes of the entries after those that drain. */
 static inline size_t size_of_rest(const rule *r, const encoder *e) {
@@ -238,14 +252,18 @@ static inline void earn(rule *r, const field *f) {
   r->earned = least_of(r->earned + length(f) - back, MOST_EARNED);
 }
 
-/* Returns whether a field may be inserted that is not referenced, and takes its bytes. At most four fifths of what an average
- * list has in literals may be owed. */
+/* Returns how many bytes may be owed: four fifths of what an average list has in literals, and a little less of the first. */
+static inline size_t credit(const rule *r) {
+  return r->lists == 1 ? r->literals * SIXTEENTHS_OWED / 16 : r->literals * FIFTHS_OWED / (r->lists * 5);
+}
+
+/* Returns whether a field may be inserted that is not referenced, and takes its bytes. */
 static inline int pay(rule *r, const field *f) {
   if (length(f) <= r->earned) {
     r->earned -= length(f);
     return 1;
   }
-  if (r->owed + length(f) > r->literals * FIFTHS_OWED / (r->lists * 5)) return 0;
+  if (r->owed + length(f) > credit(r)) return 0;
   r->owed += length(f);
   return 1;
 }
@@ -303,6 +321,13 @@ static inline int can_insert(const rule *r, const encoder *e, const field *f, si
   return 1;
 }
 
+/* Whether a used entry of a small table is inserted again in its own room, and pays for it: at the limit, if references have
+ * earned its bytes many times. */
+static inline int takes_its_room(rule *r, const encoder *e, const field *f, size_t entry, last_use last) {
+  return e->capacity < LARGE && last == RECENT && entry <= last_evicted(e, f->size) && can_insert(r, e, f, entry) &&
+         r->earned >= TIMES_EARNED * length(f) && pay(r, f);
+}
+
 /* Chooses for a field that an entry equals which may be referenced. One that drains or is far is inserted again. */
 static inline choice choose_equal(rule *r, const encoder *e, const field *f, size_t entry) {
   choice refer = {EQUAL, entry, 0};
@@ -313,10 +338,13 @@ static inline choice choose_equal(rule *r, const encoder *e, const field *f, siz
     if (can_insert(r, e, f, 0) && !has_too_many_copies(r, e)) {
       note_copy(r, e, entry);
       refer.inserts = 1;
+    } else if (takes_its_room(r, e, f, entry, last)) {
+      mark_used(r, e->inserted + 1);
+      return (choice){ALONE, 0, 1};
     }
     return refer;
   }
-  if (can_insert(r, e, f, last == RECENT ? 0 : entry)) {
+  if (can_insert(r, e, f, last == RECENT && !lacked_room_lately(r) ? 0 : entry)) {
     mark_used(r, e->inserted + 1);
     return (choice){.form = INSERTED};
   }
@@ -330,18 +358,25 @@ static inline int leaves_room(const encoder *e, const field *f) {
 
 /* Whether a field is inserted for its name alone, which no table has, or only an entry that drains. */
 static inline int takes_name(const rule *r, const encoder *e, const field *f) {
-  return f->static_name < 0 && r->names_left && has_room(e, f) && drains(r, newest_named(e, f));
+  return f->static_name < 0 && r->names_left && f->size <= e->capacity / PART_OF_A_NAME && has_room(e, f) &&
+         drains(r, newest_named(e, f));
 }
 
 /* Whether a field that came again is inserted, by the score of its name. */
 static inline int is_worth_an_entry(rule *r, const encoder *e, int score) {
-  return e->may_block || score >= UNLIKELY || ++r->turns % TURNS == 0;
+  if (e->may_block || score >= UNLIKELY) return 1;
+  return score > 0 && ++r->turns % TURNS == 0;
+}
+
+/* Returns the score from which on a field is inserted when it comes for the first time. */
+static inline int least_likely(const rule *r, const encoder *e) {
+  if (!e->may_block) return LIKELY_AT_THE_LIMIT;
+  return is_tight(r) ? LIKELY_IF_TIGHT : LIKELY;
 }
 
 /* Whether a field is inserted when it comes for the first time, by the score of its name. */
 static inline int is_likely(const rule *r, const encoder *e, const field *f, int score) {
-  if (score >= LIKELY && !(e->may_block && is_tight(r))) return 1;
-  return score >= UNLIKELY && leaves_room(e, f);
+  return score >= least_likely(r, e) || (score >= UNLIKELY && leaves_room(e, f));
 }
 
 /* Returns why a field that no entry equals is to be inserted, if it is. */

@@ -11,19 +11,23 @@
 //!    field is a literal.
 //! 2. An entry that drains is inserted again if there is room, and the line references the new entry. So is one that is
 //!    far, small and was referenced lately, if only entries that drain are evicted for it.
-//! 3. At the limit the line references the old entry, and the new one is a copy.
+//! 3. At the limit the line references the old entry, and the new one is a copy. In a small table an entry that was
+//!    referenced lately may be inserted again in its own room, if its bytes are earned eight times: the line is a literal.
 //! 4. Without room, in a large table that is tight, a draining entry of the oldest is let go: the field is a literal.
 //!
 //! **A field that no entry equals** is inserted
 //!
-//! 1. if the history has it, and at the limit the score of its name is not low; one in eight where it is low;
-//! 2. or if the score is high, and below the limit the table is not tight;
+//! 1. if the history has it, and at the limit the score of its name is not low; one in eight where it is low, none where it
+//!    is 0;
+//! 2. or if the score is high;
 //! 3. or if the score is not low, the limit is not reached, and at most half of a large table is used with it;
-//! 4. or for its name, within the credit, if no static field has it and no entry that stays.
+//! 4. or for its name, within the credit, if it takes at most half of the capacity, and no static field has the name and no
+//!    entry that stays.
 //!
 //! In a small table no insertion evicts what was referenced lately. Below the limit an entry that was not, before this line,
-//! may be inserted again in its own room. Where there is no room below the limit, the table is *tight* from then on, for
-//! this section and 32 more. At the limit the new entry is not referenced, and the insertion is paid from the allowance.
+//! may be inserted again in its own room. So may any that drains, where an insertion found no room in this section or one of
+//! the two before it. Where there is no room below the limit, the table is *tight* from then on, for this section and 32
+//! more. At the limit the new entry is not referenced, and the insertion is paid from the allowance.
 //!
 //! **The instruction of an insertion** may name any live entry, also one that the insertion evicts (section 3.2.2).
 //!
@@ -46,8 +50,10 @@ use crate::choosing::copies::Copies;
 use crate::choosing::credit::{Allowance, NameCredit};
 use crate::choosing::draining::{Draining, is_of_the_oldest};
 use crate::choosing::history::History;
-use crate::choosing::marks::{LastUse, Marks};
-use crate::choosing::scores::{LIKELY, Scores, UNLIKELY, Values};
+use crate::choosing::marks::{LATELY, LastUse, Marks};
+use crate::choosing::scores::{
+    LIKELY, LIKELY_AT_THE_LIMIT, LIKELY_IF_TIGHT, Scores, UNLIKELY, Values,
+};
 use qpack_base::field::FieldLine;
 use qpack_base::stored_field::PackedField;
 use qpack_codec::encoder::{Choice, Chooses, Wish};
@@ -72,8 +78,14 @@ const PART_OF_A_FAR_COPY: usize = 64;
 /// From this capacity on a table is large: room alone is a reason to insert, and what was referenced lately may be evicted.
 const LARGE: usize = 2048;
 
+/// The part of the capacity that a field may take which is inserted for its name.
+const PART_OF_A_NAME: usize = 2;
+
 /// At the limit, one field in this many is inserted again although values of its name seldom come again.
 const TURNS: u8 = 8;
+
+/// At the limit, an entry of a small table is inserted again in its own room if its bytes are earned this many times.
+const TIMES_EARNED: usize = 8;
 
 /// Why a field that no entry equals is inserted.
 #[derive(Debug, Clone, Copy, PartialEq, Drop)]
@@ -123,6 +135,11 @@ impl Chooser {
     /// Returns whether an insertion found no room lately.
     fn is_tight(&self) -> bool {
         self.sections_since <= SECTIONS_WITHOUT_ROOM
+    }
+
+    /// Returns whether an insertion found no room in this section or one of the two before it.
+    fn lacked_room_lately(&self) -> bool {
+        self.sections_since <= LATELY
     }
 
     /// Returns whether an entry is let go: no line references it, so that it can be evicted.
@@ -216,11 +233,15 @@ impl Chooser {
         if !block.is_below_limit() {
             return if self.can_insert(block, field, None) && !self.copies.is_full(block) {
                 self.copy(block, entry)
+            } else if self.takes_its_room(block, field, sought, entry, last) {
+                self.marks
+                    .note_use(block.total_inserted().saturating_add(1));
+                Choice::Alone { inserts: true }
             } else {
                 reference
             };
         }
-        let replaced = (last != LastUse::Lately).then_some(entry);
+        let replaced = (last != LastUse::Lately || self.lacked_room_lately()).then_some(entry);
         if self.can_insert(block, field, replaced) {
             self.marks
                 .note_use(block.total_inserted().saturating_add(1));
@@ -246,6 +267,25 @@ impl Chooser {
             && last == LastUse::Lately
             && size <= block.max_size() / PART_OF_A_FAR_COPY
             && self.draining.has_room_for(block, size)
+    }
+
+    /// Returns whether an entry is inserted again at the limit in its own room, and pays for it: in a small table, where it was
+    /// referenced lately, and much was earned.
+    fn takes_its_room(
+        &mut self,
+        block: &DynamicTableEncoder<'_, Index, PackedField>,
+        field: &FieldLine<'_>,
+        sought: &SoughtField,
+        entry: usize,
+        last: LastUse,
+    ) -> bool {
+        let bytes = length(field, sought);
+        block.max_size() < LARGE
+            && last == LastUse::Lately
+            && evicts(block, field, entry)
+            && self.can_insert(block, field, Some(entry))
+            && self.allowance.has_earned(TIMES_EARNED, bytes)
+            && self.allowance.pay(bytes)
     }
 
     /// Chooses a reference to an entry, and after it a copy that nothing references yet.
@@ -338,8 +378,22 @@ impl Chooser {
         if block.is_below_limit() || score >= UNLIKELY {
             return true;
         }
+        if score == 0 {
+            return false;
+        }
         self.turns = self.turns.wrapping_add(1);
         self.turns % TURNS == 0
+    }
+
+    /// Returns the score from which on a field is inserted when it comes for the first time.
+    fn least_likely(&self, block: &DynamicTableEncoder<'_, Index, PackedField>) -> u8 {
+        if !block.is_below_limit() {
+            LIKELY_AT_THE_LIMIT
+        } else if self.is_tight() {
+            LIKELY_IF_TIGHT
+        } else {
+            LIKELY
+        }
     }
 
     /// Returns whether a field is inserted when it comes for the first time, by the score of its name.
@@ -349,10 +403,7 @@ impl Chooser {
         field: &FieldLine<'_>,
         score: u8,
     ) -> bool {
-        if score >= LIKELY && !(block.is_below_limit() && self.is_tight()) {
-            return true;
-        }
-        score >= UNLIKELY && leaves_room(block, field)
+        score >= self.least_likely(block) || score >= UNLIKELY && leaves_room(block, field)
     }
 
     /// Returns whether a field is to be inserted for its name alone, which no table has.
@@ -364,7 +415,11 @@ impl Chooser {
     ) -> bool
         requires { AreHashesIn (line_of field.now).field sought.now }
     {
-        if sought.static_name().is_some() || !self.names.is_left() || !block.has_room(field) {
+        if sought.static_name().is_some()
+            || !self.names.is_left()
+            || field.mem_size() > block.max_size() / PART_OF_A_NAME
+            || !block.has_room(field)
+        {
             return false;
         }
         match block.newest_name(field, sought) {
@@ -540,6 +595,19 @@ fn length(field: &FieldLine<'_>, sought: &SoughtField) -> usize {
         field.name.len()
     };
     field.value.len().saturating_add(name)
+}
+
+/// Returns whether a field that is inserted evicts an entry.
+fn evicts(
+    block: &DynamicTableEncoder<'_, Index, PackedField>,
+    field: &FieldLine<'_>,
+    entry: usize,
+) -> bool {
+    let mut used = block.used().saturating_add(field.mem_size());
+    for older in block.total_dropped().saturating_add(1)..entry {
+        used = used.saturating_sub(block.entry_size(older).unwrap_or(0));
+    }
+    used > block.max_size()
 }
 
 /// Returns whether, with the field, at most half of a large table is used and one more section may be blocked.

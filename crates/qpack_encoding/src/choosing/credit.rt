@@ -3,8 +3,9 @@
 //! Two fields may be inserted for their names before one of them is referenced. The first reference to one allows one more.
 //! At the limit an insertion is paid by its bytes: its value, and its name unless a static field has it. There each reference
 //! to an equal field gives its bytes: first for what is owed, then up to 16,384 are kept. An insertion that these don't pay is
-//! owed. At most four fifths of what all literals at the limit had, shared among the sections at the limit, or twelve if there
-//! are more, may be owed. So a short connection, and one whose acknowledgments are late, loses little.
+//! owed. At most four fifths of what all literals at the limit had, shared among the sections at the limit, or eleven if there
+//! are more, may be owed; in the first of these sections, eleven sixteenths. So a short connection, and one whose
+//! acknowledgments are late, loses little.
 
 /// The most fields that may be inserted for their names before one of them is referenced.
 const MOST_FOR_NAMES: u8 = 2;
@@ -46,7 +47,7 @@ impl NameCredit {
 const MOST_EARNED: usize = 16384;
 
 /// Among how many sections the bytes of all literals are shared, once there are that many.
-const SHARES: usize = 12;
+const SHARES: usize = 11;
 
 /// How many bytes of names and values may be inserted that their lines don't reference. What is inserted so costs bytes now,
 /// and saves some only if it is referenced later.
@@ -91,6 +92,11 @@ impl Allowance {
         self.earned = self.earned.saturating_add(left).min(MOST_EARNED);
     }
 
+    /// Returns whether these bytes are earned this many times.
+    pub(super) fn has_earned(&self, times: usize, bytes: usize) -> bool {
+        self.earned >= bytes.saturating_mul(times)
+    }
+
     /// Returns whether this many bytes may be inserted, and takes them away.
     pub(super) fn pay(&mut self, bytes: usize) -> bool {
         if bytes <= self.earned {
@@ -105,8 +111,13 @@ impl Allowance {
         true
     }
 
-    /// Returns how many bytes may be owed: four fifths of what an average section has in literals.
+    /// Returns how many bytes may be owed: four fifths of what an average section has in literals, and a little less of the
+    /// first.
     fn credit(&self) -> usize {
-        self.literals.saturating_mul(4) / self.sections.saturating_mul(5).max(1)
+        if self.sections == 1 {
+            self.literals.saturating_mul(11) / 16
+        } else {
+            self.literals.saturating_mul(4) / self.sections.saturating_mul(5).max(1)
+        }
     }
 }

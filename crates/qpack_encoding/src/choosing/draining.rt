@@ -2,7 +2,7 @@
 //!
 //! An entry drains if the free bytes and the entries older than it are less than a quarter of the capacity. This is
 //! reckoned when a section begins, and moves forward only, until the capacity changes. The oldest are those that have
-//! entries of less than a sixteenth of the capacity before them.
+//! entries of less than an eighth of the capacity before them.
 
 use qpack_base::stored_field::PackedField;
 use qpack_table::dynamic::{DynamicTableEncoder, Index};
@@ -11,9 +11,9 @@ use qpack_table::dynamic::{DynamicTableEncoder, Index};
 const PART_THAT_DRAINS: usize = 4;
 
 /// The part of the capacity that the oldest entries take.
-const PART_OF_THE_OLDEST: usize = 16;
+const PART_OF_THE_OLDEST: usize = 8;
 
-/// Returns whether an entry is one of the oldest: those before it take less than a sixteenth of the capacity.
+/// Returns whether an entry is one of the oldest: those before it take less than an eighth of the capacity.
 pub(super) fn is_of_the_oldest(
     block: &DynamicTableEncoder<'_, Index, PackedField>,
     entry: usize,

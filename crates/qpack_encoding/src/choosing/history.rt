@@ -1,7 +1,7 @@
 //! The history.
 //!
 //! It has tags of 16 bits of fields that no entry equalled, in sets of four by their hash, each set from the latest to the
-//! oldest. There is a set for 512 bytes of capacity, 32 at most; of the first four sets one for 128 bytes. A field that was
+//! oldest. There is a set for 256 bytes of capacity, 32 at most; of the first four sets one for 128 bytes. A field that was
 //! not seen may have the tag of one that was.
 
 /// How many tags a set holds.
@@ -14,7 +14,7 @@ const BYTES_A_FIRST_SET: usize = 128;
 const FIRST_SETS: usize = 4;
 
 /// The bytes of capacity for each set if there are more.
-const BYTES_A_SET: usize = 512;
+const BYTES_A_SET: usize = 256;
 
 /// The greatest number of sets.
 const MOST_SETS: usize = 32;

@@ -15,7 +15,7 @@ const FIRST_SECTION: u8 = 3;
 const SECTIONS: u8 = u8::MAX - FIRST_SECTION + 1;
 
 /// An entry was referenced lately if at most this many sections began since.
-const LATELY: u8 = 2;
+pub(super) const LATELY: u8 = 2;
 
 /// When an entry was referenced last, and if never, why it was inserted.
 #[derive(Debug, Clone, Copy, PartialEq, Drop)]

@@ -1,10 +1,11 @@
 //! Scores of names.
 //!
-//! Each of 256 hashes of names has a byte, 128 at first. Values of 128 bytes or more have another than shorter ones. A
-//! field that no entry equals and that the history does not have takes an eighth from its score, rounded up. A value that
-//! comes again adds 48: where the history has it and the limit is not reached, and by the first reference to an entry that
-//! was inserted when its field came for the first time, or for its name. At the limit the first reference to any entry
-//! adds them. A score is high from 144 on, and low below 64.
+//! Each of 256 hashes of names has a byte, 128 at first, and that of `date` 164. Values of 128 bytes or more have another
+//! than shorter ones. A field that no entry equals and that the history does not have takes an eighth from its score,
+//! rounded up. A value that comes again adds 48: where the history has it and the limit is not reached, and by the first
+//! reference to an entry that was inserted when its field came for the first time, or for its name. At the limit the first
+//! reference to any entry adds them. A score is high from 140 on, in a tight table from 192 on, and at the limit from 144
+//! on. It is low below 64.
 
 ghost use Rattle.std.specs.Prelude.{◌<◌};
 
@@ -16,8 +17,20 @@ const SCORES: usize = 256;
 /// The score of values of which nothing is known.
 const MIDDLE: u8 = 128;
 
+/// The place of the score of `date`, by the hash of that name.
+const DATE: usize = 135;
+
+/// The score of `date` at first: the responses of one second have the same.
+const DATED: u8 = 164;
+
 /// From this score on, a field is inserted when it comes for the first time.
-pub(super) const LIKELY: u8 = 144;
+pub(super) const LIKELY: u8 = 140;
+
+/// The same at the limit.
+pub(super) const LIKELY_AT_THE_LIMIT: u8 = 144;
+
+/// The same below the limit, where the table is tight.
+pub(super) const LIKELY_IF_TIGHT: u8 = 192;
 
 /// Below this score a field is not inserted when it comes for the first time, even where there is room, and at the limit
 /// seldom when it comes again.
@@ -67,9 +80,9 @@ pub(super) struct Scores {
 impl Scores {
     /// Returns the scores of a new connection.
     pub(super) fn new() -> Scores {
-        Scores {
-            scores: [MIDDLE; SCORES],
-        }
+        let mut scores = [MIDDLE; SCORES];
+        scores[DATE] = DATED;
+        Scores { scores }
     }
 
     /// Returns the score of values.
