@@ -186,7 +186,7 @@ fn encode_literal() {
 
 #[test]
 fn encode_literal_nameref() {
-    let (mut encoder, field) = (encoder_of(63), HeaderField::new("foo", "bar"));
+    let (mut encoder, field) = (encoder_of(76), HeaderField::new("foo", "bar"));
     assert_eq!(encode(&mut encoder, 1, slice::from_ref(&field)).0, [0x10]);
     let (lines, instructions) = encode(&mut encoder, 2, &[field.with_value("quxx")]);
     assert_eq!((lines[0], instructions), (0x40, vec![]));
@@ -194,10 +194,10 @@ fn encode_literal_nameref() {
 
 #[test]
 fn encode_literal_postbase_nameref() {
-    let (mut encoder, field) = (encoder_of(63), HeaderField::new("foo", "bar"));
+    let (mut encoder, field) = (encoder_of(76), HeaderField::new("foo", "bar"));
     let (lines, instructions) = encode(&mut encoder, 1, &[field.clone(), field.with_value("quxx")]);
     assert_eq!(lines[..2], [0x10, 0x00]);
-    assert_eq!(entries(&[&set_capacity(63), &instructions], 1), [field]);
+    assert_eq!(entries(&[&set_capacity(76), &instructions], 1), [field]);
 }
 
 #[test]
