@@ -358,14 +358,14 @@ func TestNoTable(t *testing.T) {
 }
 
 func TestSettings(t *testing.T) {
-	encoder, err := NewEncoder(EncoderSettings{MaxCapacity: 4096, MaxBlocked: 16, Capacity: 64, MostUnacknowledged: 1})
+	encoder, err := NewEncoder(EncoderSettings{MaxCapacity: 4096, MaxBlocked: 16, Capacity: 76, MostUnacknowledged: 1})
 	must(t, err)
 	defer encoder.Close()
 	encode(t, encoder, 0, []Field{{Name: "foo", Value: "bar"}})
 	if second := encode(t, encoder, 4, []Field{{Name: "foo", Value: "bar"}}); second.Required != 0 {
 		t.Fatalf("the second section requires %d", second.Required)
 	}
-	if encoder.Capacity() != 64 || encoder.Unacknowledged() != 1 {
+	if encoder.Capacity() != 76 || encoder.Unacknowledged() != 1 {
 		t.Fatalf("capacity %d, %d unacknowledged", encoder.Capacity(), encoder.Unacknowledged())
 	}
 }

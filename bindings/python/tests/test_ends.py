@@ -252,10 +252,10 @@ class EndsTest(unittest.TestCase):
         self.assertEqual(decoder.capacity, 33)
 
     def test_settings(self) -> None:
-        with Encoder(max_capacity=4096, max_blocked=16, capacity=64, most_unacknowledged=1) as encoder:
+        with Encoder(max_capacity=4096, max_blocked=16, capacity=76, most_unacknowledged=1) as encoder:
             self.assertEqual(encoder.encode(0, [(b"foo", b"bar")]).required, 1)
             self.assertEqual(encoder.encode(4, [(b"foo", b"bar")]).required, 0)
-            self.assertEqual((encoder.capacity, encoder.unacknowledged), (64, 1))
+            self.assertEqual((encoder.capacity, encoder.unacknowledged), (76, 1))
         with Encoder(max_capacity=4096, max_blocked=16, capacity=0) as encoder:
             self.assertEqual(encoder.encode(0, REQUEST).required, 0)
 
