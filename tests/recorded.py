@@ -6,6 +6,7 @@ the decoder stream, which went back to the encoder.
 import re
 from dataclasses import dataclass, field
 
+import qif
 from asked import DATA, Question, shown_bytes, shown_field, to_field
 
 # Connections that nghttp3 0.8.0 wrote: a file, the maximum capacity of its decoder, and whether that reported after each
@@ -45,15 +46,8 @@ def read_lines(name):
 
 
 def read_lists(name):
-    """Returns header lists. A field is a line, its name and its value parted by a TAB; an empty line ends a list."""
-    lists, fields = [], []
-    for line in (DATA / f"{name}.qif").read_bytes().split(b"\n")[:-1]:
-        if b"\t" in line:
-            fields.append(tuple(line.split(b"\t", 1)))
-        else:
-            lists.append(fields)
-            fields = []
-    return lists
+    """Returns the lists of a corpus."""
+    return qif.read_lists(DATA / f"{name}.qif")
 
 
 def size_of(fields):

@@ -62,6 +62,8 @@ FAULTS = {
         "    static int pieces;\n    if (++pieces != 20) send_on(c, &c->own[ENCODER], piece, len);",
     ),
 }
+# The types of an encoder's and of a decoder's stream (RFC 9204, section 4.2).
+ENCODER_STREAM, DECODER_STREAM = 2, 3
 # The run that is captured.
 CAPTURED = ("Chromium", "a table of 4,096 bytes")
 SECONDS = 60
@@ -90,7 +92,7 @@ def decode_again(events, bytes_kind, section_kind, capacity_kind):
             continue
         decoder = decoders.setdefault(number, Decoder(capacities[number]))
         found = []
-        if event["event"] == bytes_kind and event["type"] == 2:
+        if event["event"] == bytes_kind and event["type"] == ENCODER_STREAM:
             found = decoder.receive(bytes.fromhex(event["hex"]))
         elif event["event"] == section_kind:
             found = decoder.section(event["id"], bytes.fromhex(event["hex"]))
@@ -156,13 +158,12 @@ def run(browser, program, certificates, key, options, room, is_captured=False, p
     return report
 
 
-def compare(browser, report, room, is_captured=False):
+def compare(browser, report, events, room, is_captured=False):
     """Compares what a run left, and returns what was compared. Raises Failure if anything differs."""
     if report["wrong"]:
         raise Failure("the page found " + report["wrong"][0])
     if report["protocols"] != ["h3"]:
         raise Failure(f"the page was loaded by {report['protocols']}")
-    events = read_events(f"{room}/log")
     ended = [e for e in events if e["event"] == "end" and e["code"] != 0x100]
     if ended:
         raise Failure("the server ended the connection: " + ended[0]["why"])
@@ -182,7 +183,8 @@ def compare(browser, report, room, is_captured=False):
 def check(browser, program, certificates, key, options, is_captured=False):
     """Runs a setting, and returns what was compared. Raises Failure if anything differs."""
     with new_folder() as room:
-        return compare(browser, run(browser, program, certificates, key, options, room, is_captured), room, is_captured)
+        report = run(browser, program, certificates, key, options, room, is_captured)
+        return compare(browser, report, read_events(f"{room}/log"), room, is_captured)
 
 
 def make_certificate(folder):

@@ -11,15 +11,16 @@ import tempfile
 from pathlib import Path
 
 from browsers import BROWSERS
-from check import PAGES, SERVER, build, compare, make_certificate, read_events, run
+from check import DECODER_STREAM, ENCODER_STREAM, PAGES, SERVER, build, compare, make_certificate, read_events, run
 from nghttp3 import Failure
 from processes import new_folder
 
-DATA = Path(__file__).resolve().parents[2] / "crates" / "qpack_tests" / "data"
-# As tests/recorded.py has them.
-OPTIONS = ["--encoder-capacity", "16384", "--blocked", "100"]
+sys.path.insert(0, str(Path(__file__).resolve().parents[1]))
+from asked import DATA  # pylint: disable=wrong-import-position # tests/asked.py
+from recorded import ANSWERS_CAPACITY  # pylint: disable=wrong-import-position # tests/recorded.py
+
+OPTIONS = ["--encoder-capacity", str(ANSWERS_CAPACITY), "--blocked", "100"]
 ABORTED = ("ABORTED = 20", "ABORTED = 0")
-DECODER_STREAM, ENCODER_STREAM = 3, 2
 
 
 def write_page(folder):
@@ -46,8 +47,8 @@ def lines_of(events, number):
             yield f"d\t{event['hex']}"
 
 
-def lists_of(events, number):
-    """Returns the lists of fields that the sections of a connection encode, as text."""
+def texts_of(events, number):
+    """Returns the lists of fields that the sections of a connection encode, as a corpus has them."""
     for event in events:
         if event["connection"] == number and event["event"] == "section sent":
             yield "".join(f"{name}\t{value}\n" for name, value in event["fields"]) + "\n"
@@ -57,13 +58,13 @@ def record(browser, program, certificates, key, pages):
     """Runs a browser and writes its files. Returns what was compared."""
     with new_folder() as room:
         report = run(browser, program, certificates, key, OPTIONS, room, pages=pages)
-        compared = compare(browser, report, room)
         events = read_events(f"{room}/log")
+        compared = compare(browser, report, events, room)
     # The first connection is that of the page; a browser may open another for its report, or none.
     number = min(event["connection"] for event in events if event["event"] == "section sent")
     name = DATA / f"heard_{browser.name.lower()}"
     name.with_suffix(".txt").write_text("".join(f"{line}\n" for line in lines_of(events, number)), encoding="ascii")
-    name.with_suffix(".qif").write_text("".join(lists_of(events, number)), encoding="utf-8")
+    name.with_suffix(".qif").write_text("".join(texts_of(events, number)), encoding="utf-8")
     return compared
 
 

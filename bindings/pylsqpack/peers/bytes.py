@@ -16,8 +16,9 @@ from played import CAPACITIES, LIMITS, Connection, Ours, Theirs, part_lists
 
 LATE = (0, 8, 32)
 LENGTHS = (10, 30, 100)
-# From so many lists on, what is said of a ratio is another.
+# The greatest ratio that is not named, of connections of at least MANY lists, and of shorter ones.
 MANY = 100
+MOST_OF_MANY, MOST_OF_FEW = 1.02, 1.08
 
 
 def count_bytes(encoder, setting, lists):
@@ -50,7 +51,7 @@ def main():
         mean = sum(ours / theirs for *_, ours, theirs in some) / len(some)
         print(f"first {length}" if length else "all", f"lists: {len(some)} cells, {mean:.3f} of ls-qpack's bytes in the mean")
     for *of, count, ours, theirs in cells:
-        if ours / theirs > (1.02 if count >= MANY else 1.08):
+        if ours / theirs > (MOST_OF_MANY if count >= MANY else MOST_OF_FEW):
             print(f"{ours / theirs:.3f}", *of, count, ours, theirs, sep="\t")
 
 

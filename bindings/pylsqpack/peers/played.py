@@ -1,18 +1,17 @@
 """Plays corpora from an encoder of h3_qpack, or of ls-qpack, to a decoder of ls-qpack, by pylsqpack itself."""
 
 import collections
+import sys
+from pathlib import Path
 
 import h3_qpack
 import pylsqpack
 
+sys.path.insert(0, str(Path(__file__).resolve().parents[3] / "tests"))
+from qif import read_lists  # pylint: disable=wrong-import-position # tests/qif.py
+
 CAPACITIES = (220, 512, 1024, 4096, 16384, 65536)
 LIMITS = (100, 0)
-
-
-def read_lists(path):
-    """Returns the lists of a corpus: a field is a line, its name and its value parted by a TAB; an empty line ends a list."""
-    texts = path.read_bytes().split(b"\n\n")
-    return [[tuple(line.split(b"\t", 1)) for line in it.split(b"\n") if line] for it in texts if it]
 
 
 def part_lists(path):
